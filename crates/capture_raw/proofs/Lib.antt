@@ -1,0 +1,6 @@
+pub mod Filling
+pub mod Fronts
+pub mod Numbers
+pub mod Standing
+pub mod Captures
+pub mod Levels

@@ -1,0 +1,168 @@
+-- What a raw reader stands for, as it goes on.
+use Rattle.std.proofs.Common.{◌≡◌, ℕ, ◌+◌, ◌-◌, ◌*◌, ◌/◌, ◌%◌, ◌^◌, ◌≤◌, ◌<◌, List, [], ◌++◌, take, drop, length, refl, sym, ◌∙◌, ap, arith, length-append, length-take-le, length-drop, take-append-drop, Option, Bool, true, false, if◌then◌else◌, ◌==◌, Ok, subst}
+use Rattle.std.proofs.lemmas.List.{take-take, drop-append-le, take-append-le, drop-drop, take_all, nil_from_length, length-replicate}
+use Rattle.std.proofs.Math.Seq.{take-add}
+use Rattle.std.proofs.Math.Nat.{mod-add-div'}
+use Rattle.std.proofs.lemmas.Nat.{mod-mul-add}
+use Rattle.std.specs.Io.KnownBytes.{IsAtEnd}
+use Rattle.la_base.specs.Samples.{samples}
+use Rattle.la_base.specs.declared.samples.Rate.{Rate}
+use Rattle.la_base.specs.declared.samples.Run.{Run}
+use Rattle.la_io.specs.declared.fault.CaptureFault.TheVariants.{ShortUnit as ShortUnitFault, Bytes as BytesFault}
+use Rattle.la_io.specs.Capture.{Stop, AtEnd, Cut, Ending, Clean, Faulty, Open}
+use Rattle.capture_raw.specs.declared.step.RawStep.{RawStep}
+use Rattle.capture_raw.specs.declared.step.RawStep.TheVariants.{End, ShortUnit}
+use Rattle.capture_raw.specs.Held.{Front, Takes}
+use Rattle.capture_raw.specs.Raw.{unit_len, raw_samples, raw_rest, raw_capture}
+use Rattle.capture_raw.specs.Reader.{StandsAt, Ends, MeansAt, ToldEnd, stays_open}
+use Rattle.capture_raw.proofs.Captures.{samples_after, samples_at_end, no_samples, settled_is, ending_is, ending_full, ending_rest}
+
+module _ (unit : ℕ) (some : 0 < unit) (pins : List ℕ) where
+  -- nothing was read
+  pub stands_new : (front : Front) → front ≡ record { bytes = []; taken = 0 } → StandsAt unit pins front [] []
+  stands_new front is =
+      let none : 0 * unit ≡ 0 = omega arith in
+      record {
+        taken = ap (λ (f : Front). f.taken) is;
+        within = omega arith;
+        held = ap (λ (f : Front). f.bytes) is ∙ ap (λ (n : ℕ). drop n []) (sym none);
+        gave = no_samples unit some pins ∙ ap (λ (n : ℕ). raw_samples unit pins (take n [])) (sym none);
+      }
+
+  -- other pins, where nothing was read
+  pub stands_again : (old_unit : ℕ) (old_pins : List ℕ) (front : Front) → StandsAt old_unit old_pins front [] [] → StandsAt unit pins front [] []
+  stands_again old_unit old_pins front st =
+      stands_new front (λ i. record {
+        bytes = (st.held ∙ nil_from_length (drop (0 * old_unit) []) (omega (arith, length-drop {A = ℕ} (0 * old_unit) []))) i;
+        taken = st.taken i;
+      })
+
+  -- bytes were taken
+  pub stands_more : (old new : Front) (left_old left_new : Option (List ℕ)) (bytes before given : List ℕ) → Takes old new left_old left_new bytes → StandsAt unit pins old before given → StandsAt unit pins new (before ++ bytes) given
+  stands_more old new left_old left_new bytes before given takes st =
+      let n = length given * unit in
+      record {
+        taken = omega (arith, length-append before bytes, st.taken, takes.taken);
+        within = omega (arith, length-append before bytes, st.within);
+        held = takes.held ∙ ap (λ (l : List ℕ). l ++ bytes) st.held ∙ sym (drop-append-le n before bytes st.within);
+        gave = st.gave ∙ ap (λ (l : List ℕ). raw_samples unit pins l) (sym (take-append-le n before bytes st.within));
+      }
+
+  -- units were let go, and their samples given
+  pub stands_run : (old new : Front) (count : ℕ) (bytes given more : List ℕ) → count * unit ≤ length old.bytes → new.bytes ≡ drop (count * unit) old.bytes → new.taken ≡ old.taken
+      → length more ≡ count → more ≡ raw_samples unit pins (take (count * unit) old.bytes) → StandsAt unit pins old bytes given → StandsAt unit pins new bytes (given ++ more)
+  stands_run old new count bytes given more within held same is_count is st =
+      let n = length given * unit in
+      let m = count * unit in
+      let total : length (given ++ more) * unit ≡ n + m = ap (λ (k : ℕ). k * unit) (length-append given more ∙ ap (λ (k : ℕ). length given + k) is_count) ∙ split_sum (length given) count in
+      let held_len : length old.bytes ≡ length bytes - n = ap length st.held ∙ length-drop n bytes in
+      let front_len : length (take n bytes) ≡ n = length-take-le n bytes st.within in
+      let next = ap (λ (l : List ℕ). take m l) st.held in
+      record {
+        taken = same ∙ st.taken;
+        within = omega (arith, total, held_len, within, st.within);
+        held = held ∙ ap (λ (l : List ℕ). drop m l) st.held ∙ drop-drop m n bytes ∙ ap (λ (k : ℕ). drop k bytes) (sym total);
+        gave = (λ i. st.gave i ++ is i) ∙ ap (λ (l : List ℕ). raw_samples unit pins (take n bytes) ++ raw_samples unit pins l) next
+            ∙ sym (samples_after unit some pins (take n bytes) (length given) front_len (take m (drop n bytes)))
+            ∙ ap (λ (l : List ℕ). raw_samples unit pins l) (sym (take-add n m bytes) ∙ ap (λ (k : ℕ). take k bytes) (sym total));
+      }
+    where
+      split_sum : (a b : ℕ) → (a + b) * unit ≡ a * unit + b * unit
+      split_sum a b = grind arith
+
+  -- less than a unit is held: all is given
+  all_given : (front : Front) (bytes given : List ℕ) → length front.bytes < unit → StandsAt unit pins front bytes given → raw_samples unit pins bytes ≡ given
+  all_given front bytes given short st =
+      let n = length given * unit in
+      ap (λ (l : List ℕ). raw_samples unit pins l) (sym (take-append-drop n bytes))
+      ∙ samples_at_end unit some pins (take n bytes) (length given) (length-take-le n bytes st.within) (drop n bytes) (omega (arith, ap length st.held, short))
+      ∙ sym st.gave
+
+  -- and it is the rest
+  rest_len : (front : Front) (bytes given : List ℕ) → length front.bytes < unit → StandsAt unit pins front bytes given → (length bytes % unit ≡ length front.bytes) × (length bytes / unit * unit + length front.bytes ≡ length bytes)
+  rest_len front bytes given short st =
+      let total : length bytes ≡ length given * unit + length front.bytes = omega (arith, ap length st.held, length-drop (length given * unit) bytes, st.within) in
+      let rest : length bytes % unit ≡ length front.bytes = ap (λ (n : ℕ). n % unit) total ∙ mod-mul-add (length given) unit (length front.bytes) short in
+      (rest, omega (arith, rest, mod-add-div' (length bytes) unit))
+
+-- the same channels and pins
+pub stands_same : (channels same_channels : ℕ) (pins same_pins : List ℕ) (front : Front) (bytes given : List ℕ) → same_channels ≡ channels → same_pins ≡ pins
+    → StandsAt (unit_len channels) pins front bytes given → StandsAt (unit_len same_channels) same_pins front bytes given
+stands_same channels same_channels pins same_pins front bytes given is_channels is_pins st =
+    let by_channels : ℕ → Type 0 = λ k. StandsAt (unit_len k) pins front bytes given in
+    let by_pins : List ℕ → Type 0 = λ l. StandsAt (unit_len same_channels) l front bytes given in
+    subst by_pins (sym is_pins) (subst by_channels (sym is_channels) st)
+
+pub samples_len : (run : Run) → length (samples run) ≡ run.len
+unfolding samples
+samples_len run = length-replicate run.len run.value
+
+-- what was given is a front of what the bytes settle
+pub given_front : (channels : ℕ) → 0 < unit_len channels → (rate : Rate) (pins : List ℕ) (front : Front) (bytes given : List ℕ) (stop : Stop)
+    → StandsAt (unit_len channels) pins front bytes given → front.taken - length front.bytes ≤ 2 ^ 60
+    → (rest : List ℕ) × ((raw_capture channels rate pins bytes stop).settled ≡ given ++ rest)
+given_front channels some rate pins front bytes given stop st few =
+    let unit = unit_len channels in
+    let n = length given * unit in
+    let most = take (2 ^ 60) bytes in
+    let below : n ≤ 2 ^ 60 = omega (arith, few, st.taken, st.within, ap length st.held, length-drop n bytes) in
+    let whole = length-take-le n bytes st.within in (
+      raw_samples unit pins (drop n most),
+      settled_is channels rate pins bytes stop
+          ∙ ap (λ (l : List ℕ). raw_samples unit pins l) (sym (take-append-drop n most) ∙ ap (λ (l : List ℕ). l ++ drop n most) (take-take n (2 ^ 60) bytes below))
+          ∙ samples_after unit some pins (take n bytes) (length given) whole (drop n most)
+          ∙ ap (λ (l : List ℕ). l ++ raw_samples unit pins (drop n most)) (sym st.gave),
+    )
+
+-- nothing is left to give: what an answer means then
+module _ (channels : ℕ) (some : 0 < unit_len channels) (rate : Rate) (pins : List ℕ) (front : Front) (bytes given : List ℕ)
+    (short : length front.bytes < unit_len channels) (few : front.taken ≤ 2 ^ 60) (st : StandsAt (unit_len channels) pins front bytes given) where
+  all_settled : (stop : Stop) → (raw_capture channels rate pins bytes stop).settled ≡ given
+  all_settled stop =
+      let count : length bytes ≤ 2 ^ 60 = omega (arith, st.taken) in
+      settled_is channels rate pins bytes stop ∙ ap (λ (l : List ℕ). raw_samples (unit_len channels) pins l) (take_all (2 ^ 60) bytes count) ∙ all_given (unit_len channels) some pins front bytes given short st
+
+  -- 2^60 bytes were taken
+  pub ends_full : 2 ^ 60 ≤ front.taken → (stop : Stop) → Ends (raw_capture channels rate pins bytes stop) given (Faulty BytesFault)
+  ends_full full stop = record {
+    settled = all_settled stop;
+    ending = ending_is channels rate pins bytes stop ∙ ending_full (unit_len channels) (length bytes) stop (omega (arith, st.taken));
+  }
+
+  module _ (below : front.taken < 2 ^ 60) where
+    ends_so : (stop : Stop) (how : Ending) → raw_rest (unit_len channels) (length bytes) stop ≡ how → Ends (raw_capture channels rate pins bytes stop) given how
+    ends_so stop how is = record {
+      settled = all_settled stop;
+      ending = ending_is channels rate pins bytes stop ∙ ending_rest (unit_len channels) (length bytes) stop (omega (arith, st.taken)) ∙ is;
+    }
+
+    -- the source failed
+    pub ends_open : Ends (raw_capture channels rate pins bytes Cut) given Open
+    ends_open = ends_so Cut Open refl
+
+    abbrev Good : RawStep → Type 0
+    Good step = MeansAt channels rate pins front bytes given (Ok step)
+
+    rest_so : (b : Bool) → (length bytes % unit_len channels == 0) ≡ b → raw_rest (unit_len channels) (length bytes) AtEnd ≡ (if b then Clean else Faulty (ShortUnitFault (length bytes / unit_len channels * unit_len channels)))
+    rest_so b is = ap (λ (t : Bool). if t then Clean else Faulty (ShortUnitFault (length bytes / unit_len channels * unit_len channels))) is
+
+    -- the source told its end
+    pub ended : (step : RawStep) → step ≡ (if length front.bytes == 0 then End else ShortUnit (front.taken - length front.bytes)) → Good step
+    ended step is = subst Good (sym is) (by_test (length front.bytes == 0) refl)
+      where
+        rest : (length bytes % unit_len channels ≡ length front.bytes) × (length bytes / unit_len channels * unit_len channels + length front.bytes ≡ length bytes)
+        rest = rest_len (unit_len channels) some pins front bytes given short st
+
+        by_test : (b : Bool) → (length front.bytes == 0) ≡ b → Good (if b then End else ShortUnit (front.taken - length front.bytes))
+        by_test true e = ends_so AtEnd Clean (rest_so true (ap (λ (n : ℕ). n == 0) rest.0 ∙ e))
+        by_test false e =
+            let at : length bytes / unit_len channels * unit_len channels ≡ front.taken - length front.bytes = omega (arith, rest.1, st.taken) in
+            ends_so AtEnd (Faulty (ShortUnitFault (front.taken - length front.bytes))) (rest_so false (ap (λ (n : ℕ). n == 0) rest.0 ∙ e) ∙ ap (λ (n : ℕ). Faulty (ShortUnitFault n)) at)
+
+-- either answer tells the end, and closes the reader
+pub ended_told : (left : Option (List ℕ)) (at : ℕ) (b : Bool) (step : RawStep) → IsAtEnd left → step ≡ (if b then End else ShortUnit at) → ToldEnd left (Ok step) × (false ≡ stays_open (Ok step))
+ended_told left at b step told is = subst (λ (q : RawStep). ToldEnd left (Ok q) × (false ≡ stays_open (Ok q))) (sym is) (by_test b)
+  where
+    by_test : (t : Bool) → ToldEnd left (Ok (if t then End else ShortUnit at)) × (false ≡ stays_open (Ok (if t then End else ShortUnit at)))
+    by_test true = (told, refl)
+    by_test false = (told, refl)

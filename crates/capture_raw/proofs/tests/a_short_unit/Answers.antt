@@ -1,0 +1,8 @@
+use Rattle.std.proofs.Common.{refl}
+use Rattle.la_base.specs.Groups.{groups}
+use Rattle.capture_raw.specs.Raw.{raw_samples, raw_capture}
+use Rattle.capture_raw.proofs.tests.a_short_unit.Goals as goal
+
+pub returns : goal.returns
+unfolding raw_capture raw_samples groups
+returns c = λ rate. record { settled = refl; ending = refl }

@@ -1,0 +1,22 @@
+-- Bytes taken from a source and not yet used.
+use Rattle.std.specs.Prelude.{ℕ, ◌≡◌, ◌+◌, List, ◌++◌, length, Option, Result, IfOk, OnErr}
+use Rattle.std.specs.Io.KnownBytes.{Consumes, IsAtEnd}
+
+-- the bytes, and how many were taken so far
+pub record Front : Type 0 where
+  pub bytes : List ℕ
+  pub taken : ℕ
+
+-- these bytes were taken, and no other
+pub record Takes (old new : Front) (left_old left_new : Option (List ℕ)) (bytes : List ℕ) : Type 0 where
+  pub consumed : Consumes left_old left_new bytes
+  pub held : new.bytes ≡ old.bytes ++ bytes
+  pub taken : new.taken ≡ old.taken + length bytes
+
+-- what a read gave, 0 at the end
+pub record Reads {E : Type 0} (old new : Front) (left_old left_new : Option (List ℕ)) (result : Result ℕ E) : Type 0 where
+  pub bytes : List ℕ
+  pub takes : Takes old new left_old left_new bytes
+  pub count : IfOk result (λ count. length bytes ≡ count)
+  pub at_end : IfOk result (λ count. count ≡ 0 → IsAtEnd left_new)
+  pub none : OnErr result (length bytes ≡ 0)

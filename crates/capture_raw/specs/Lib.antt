@@ -1,0 +1,4 @@
+pub mod Raw
+pub mod Held
+pub mod Reader
+pub mod Laws

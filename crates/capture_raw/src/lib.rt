@@ -1,0 +1,15 @@
+//! Raw captures: a unit of bytes for each sample, the lowest byte first. Channel i is bit i of the
+//! unit.
+#![tactic(auto)]
+
+mod held;
+mod laws;
+mod reader;
+mod step;
+#[cfg(test)]
+mod tests;
+mod units;
+
+pub use laws::{fault_stays, given_is_front, longer_extends, samples_are_levels, stands_fixes};
+pub use reader::RawReader;
+pub use step::RawStep;

@@ -1,0 +1,143 @@
+// The reader of raw captures.
+ghost use Rattle.std.specs.Prelude.{◌≡◌, ◌<◌, ◌≤◌, ℕ, length, slice_index};
+ghost use Rattle.la_base.specs.declared.samples.TheConstants.{MOST_PINS};
+
+use crate::RawStep;
+use crate::held::{Held, MOST_BYTES};
+use crate::units::{MOST_UNIT, equal_units, number, picked};
+use la_base::{MOST_PINS, Pins, Rate, Run};
+use la_io::{Failed, Source};
+
+/// Reads units of bytes, `channels` bits rounded up to whole bytes each, and gives runs of their
+/// samples. It takes at most 2^60 bytes.
+#[derive(Drop)]
+pub struct RawReader {
+    channels: u32,
+    rate: Rate,
+    pins: Pins,
+    held: Held,
+    open: bool,
+    ghost channels_fit: { (1 ≤ channels) × (channels ≤ MOST_PINS) },
+    ghost few_pins: { length pins.items ≤ MOST_PINS },
+    ghost pins_fit: { (k : ℕ) → k < length pins.items → slice_index pins.items k < channels },
+}
+
+impl RawReader {
+    ghost use Rattle.std.specs.Prelude.{◌≡◌, ◌+◌, ◌-◌, ◌==◌, ◌^◌, if◌then◌else◌, [], true};
+    ghost use Rattle.la_io.specs.Causes.{HasCause};
+    ghost use Rattle.capture_raw.specs.Reader.{Stands, Next, Gives, SameForm, IfRun, stays_open, raw_channels, raw_rate, raw_pins, raw_open, raw_unit, raw_held, raw_given};
+
+    /// A reader of captures of so many channels, that has read nothing. Until `select` is called
+    /// there are no pins, and each word is 0.
+    pub fn open(channels: u32, rate: Rate) -> RawReader
+        requires some { 1 ≤ channels }
+        requires few { channels ≤ MOST_PINS }
+        ensures new { Stands result [] [] }
+        ensures is_open { raw_open result ≡ true }
+        ensures channels { raw_channels result ≡ channels }
+        ensures rate { raw_rate result ≡ rate }
+        ensures pins { raw_pins result ≡ [] }
+    {
+        RawReader {
+            channels,
+            rate,
+            pins: Pins::new(),
+            held: Held::new(),
+            open: true,
+        }
+    }
+
+    /// Bit j of each sample is channel `pins[j]` from now on. Nothing was read yet.
+    pub fn select(&mut self, pins: Pins)
+        requires within { (k : ℕ) → k < length pins.items → slice_index pins.items k < raw_channels self.old }
+        requires fresh { Stands self.old [] [] }
+        ensures new { Stands self.new [] [] }
+        ensures pins { raw_pins self.new ≡ pins.items }
+        ensures channels { raw_channels self.new ≡ raw_channels self.old }
+        ensures rate { raw_rate self.new ≡ raw_rate self.old }
+        ensures is_open { raw_open self.new ≡ raw_open self.old }
+    {
+        self.pins = pins;
+    }
+
+    /// Whether there may be more to come.
+    pub fn is_open(&self) -> bool
+        ensures { result ≡ raw_open self.now }
+    {
+        self.open
+    }
+
+    // How many bytes a unit has.
+    fn unit(&self) -> usize
+        ensures unit { result ≡ raw_unit self.now }
+        ensures some { 1 ≤ result }
+        ensures few { result ≤ MOST_UNIT }
+    {
+        self.channels.div_ceil(8) as usize
+    }
+
+    // The next run of what is held.
+    fn run(&mut self) -> Run
+        requires { raw_unit self.old ≤ length (raw_held self.old) }
+        ensures gives { Gives (raw_unit self.old) (raw_pins self.old) self.old.held self.new.held result }
+        ensures form { SameForm self.old self.new }
+        ensures is_open { raw_open self.new ≡ raw_open self.old }
+    {
+        let unit = self.unit();
+        let bytes = self.held.bytes();
+        let count = equal_units(bytes, unit);
+        let value = picked(&self.pins, number(&bytes[..unit]));
+        self.held.advance(count * unit);
+        Run {
+            value,
+            len: count as u64,
+        }
+    }
+
+    /// The next run, or the end and how it came. It reads only where less than a unit is held, and
+    /// joins equal neighbouring units as far as they are held. After every answer but a run it is
+    /// closed. `Failed` comes where the source failed, after all samples that came before.
+    pub fn next<S: Source>(&mut self, source: &mut S) -> Result<RawStep, Failed>
+        requires { raw_open self.old ≡ true }
+        ensures next { Next self.old self.new (S.left source.old) (S.left source.new) result }
+        ensures is_open { raw_open self.new ≡ stays_open result }
+        ensures form { SameForm self.old self.new }
+        ensures progress { IfRun result (λ run. raw_given self.old + run.len ≤ raw_given self.new) }
+        ensures few { raw_given self.new ≤ 2 ^ 60 }
+        ensures prompt { raw_unit self.old ≤ length (raw_held self.old) → source.new ≡ source.old }
+        ensures cause { HasCause (S.faults source.old) (S.faults source.new) result }
+    {
+        let unit = self.unit();
+        while self.held.bytes().len() < unit {
+            if self.held.taken() >= MOST_BYTES {
+                self.open = false;
+                return Ok(RawStep::Bytes);
+            }
+            match self.held.more(source) {
+                Ok(0) => {
+                    self.open = false;
+                    return Ok(self.at_end());
+                }
+                Ok(_) => {}
+                Err(_) => {
+                    self.open = false;
+                    return Err(Failed);
+                }
+            }
+        }
+        Ok(RawStep::Run(self.run()))
+    }
+
+    // How the bytes end, where less than a unit is held.
+    fn at_end(&self) -> RawStep
+        ensures { result ≡ (if length (raw_held self.now) == 0 then RawStep.End else RawStep.ShortUnit (raw_given self.now)) }
+    {
+        let rest = self.held.bytes().len() as u64;
+        if rest == 0 {
+            return RawStep::End;
+        }
+        RawStep::ShortUnit {
+            at: self.held.taken() - rest,
+        }
+    }
+}

@@ -1,0 +1,209 @@
+// Raw captures through the public calls.
+ghost use Rattle.std.specs.Prelude.{◌≡◌, ◌≤◌, [], ◌∷◌, codes, take};
+ghost use Rattle.la_base.specs.declared.samples.Rate.{Rate as ItsRate};
+ghost use Rattle.la_io.specs.declared.fault.CaptureFault.TheVariants.{ShortUnit};
+ghost use Rattle.la_io.specs.Capture.{AtEnd, Faulty};
+ghost use Rattle.capture_raw.specs.Raw.{raw_names, raw_capture};
+ghost use Rattle.capture_raw.specs.Reader.{Ends};
+
+use crate::{
+    RawReader, RawStep, fault_stays, given_is_front, longer_extends, samples_are_levels,
+    stands_fixes,
+};
+use la_base::{MOST_PINS, Pins, Rate, Word};
+use la_io::{Failed, MemSource, Source, SureSource};
+use std::alloc::Global;
+use std::process::Abort;
+use std::test::Fail;
+
+// More than the answers of any test.
+const MANY: u32 = 2000;
+
+// A reader whose samples have these channels as bits.
+fn opened(channels: u32, pins: &[u32]) -> RawReader
+    requires some { 1 ≤ channels }
+    requires few { channels ≤ MOST_PINS }
+{
+    let rate = Rate { num: 1, den: 1 };
+    let mut reader = RawReader::open(channels, rate);
+    let mut chosen = Pins::new();
+    for pin in pins {
+        if *pin < channels && !chosen.is_full() {
+            chosen.push(*pin);
+        }
+    }
+    reader.select(chosen);
+    reader
+}
+
+// What a reader gave: the value and length of each run, and the answer behind them.
+#[derive(Drop)]
+struct Given {
+    runs: Vec<(Word, u64)>,
+    last: Option<Result<RawStep, Failed>>,
+}
+
+impl Given {
+    // Each sample by itself.
+    fn samples(&self, alloc: Global) -> Result<Vec<Word>, Fail> {
+        let mut samples = Vec::new(alloc);
+        for (value, len) in &self.runs {
+            for _ in 0..*len {
+                samples.push(*value)?;
+            }
+        }
+        Ok(samples)
+    }
+}
+
+// Reads to the end, and sees that the reader is open behind runs alone.
+fn read_all<S: Source>(
+    rt: &impl Abort,
+    alloc: Global,
+    mut reader: RawReader,
+    source: &mut S,
+) -> Result<Given, Fail> {
+    let mut runs = Vec::new(alloc);
+    let mut last = None;
+    for _ in 0..MANY {
+        if !reader.is_open() {
+            break;
+        }
+        let step = reader.next(source);
+        match step {
+            Ok(RawStep::Run(run)) => {
+                assert!(rt; reader.is_open());
+                runs.push((run.value, run.len))?;
+            }
+            _ => {
+                assert!(rt; !reader.is_open());
+                last = Some(step);
+            }
+        }
+    }
+    Ok(Given { runs, last })
+}
+
+// These bytes in pieces of `size`, and the calls that fail.
+fn in_pieces(alloc: Global, bytes: &[u8], size: usize, fails: &[u64]) -> Result<MemSource, Fail>
+    requires { 1 ≤ size }
+{
+    let mut pieces = Vec::new(alloc);
+    for piece in bytes.chunks(size) {
+        pieces.push(piece.to_vec(alloc)?)?;
+    }
+    Ok(MemSource::new(pieces, fails.to_vec(alloc)?))
+}
+
+#[test]
+fn samples_of_units(rt: HostRuntime) -> Result<(), Fail> {
+    let cases: [(u32, &[u32], &[u8], &[Word], RawStep); 8] = [
+        // channel 8 is the lowest bit of the second byte
+        (
+            9,
+            &[8],
+            &[0, 0, 1, 1, 2],
+            &[0, 1],
+            RawStep::ShortUnit { at: 4 },
+        ),
+        // the pins' order is that of the bits; channel 9 isn't declared
+        (9, &[8, 0], &[0, 1, 1, 0, 1, 3], &[1, 2, 3], RawStep::End),
+        // bits above the channels are ignored
+        (3, &[0, 1, 2], &[0xf8, 0xff, 0x05], &[0, 7, 5], RawStep::End),
+        (8, &[7, 0, 3], &[0x88, 0x01, 0x80], &[5, 2, 1], RawStep::End),
+        (
+            64,
+            &[63, 0, 40],
+            &[1, 0, 0, 0, 0, 1, 0, 0x80],
+            &[7],
+            RawStep::End,
+        ),
+        // no pins
+        (8, &[], &[0xaa, 0x55, 0x55], &[0, 0, 0], RawStep::End),
+        (8, &[0], &[], &[], RawStep::End),
+        (16, &[0], &[1], &[], RawStep::ShortUnit { at: 0 }),
+    ];
+    for (channels, pins, bytes, samples, last) in cases {
+        let mut source = SureSource::new(bytes.to_vec(rt.alloc())?);
+        assert!(rt; 1 <= channels && channels <= MOST_PINS);
+        let given = read_all(&rt, rt.alloc(), opened(channels, pins), &mut source)?;
+        assert_eq!(rt; given.samples(rt.alloc())?.as_slice(), samples);
+        assert_eq!(rt; given.last, Some(Ok(last)));
+    }
+    Ok(())
+}
+
+#[test]
+fn the_same_in_pieces_of_any_length(rt: HostRuntime) -> Result<(), Fail> {
+    // units of three bytes: unit k has k in its lowest byte and k modulo 2 in its highest
+    let bytes = [
+        0, 0, 0, 1, 0, 1, 2, 0, 0, 3, 0, 1, 4, 0, 0, 5, 0, 1, 6, 0, 0, 9, 0,
+    ];
+    for size in 1..10 {
+        let mut source = in_pieces(rt.alloc(), &bytes, size, &[])?;
+        let given = read_all(&rt, rt.alloc(), opened(17, &[16, 1, 0]), &mut source)?;
+        assert_eq!(rt;
+            given.samples(rt.alloc())?.as_slice(),
+            [0, 5, 2, 7, 0, 5, 2].as_slice()
+        );
+        assert_eq!(rt;
+            given.last,
+            Some(Ok(RawStep::ShortUnit { at: 21 })),
+            "pieces of {size}"
+        );
+    }
+    Ok(())
+}
+
+#[test]
+fn runs_join_within_a_read(rt: HostRuntime) -> Result<(), Fail> {
+    let mut source = in_pieces(rt.alloc(), &[0, 0, 0, 1, 1, 1, 1, 2, 2, 3], 5, &[])?;
+    let given = read_all(&rt, rt.alloc(), opened(8, &[0, 1]), &mut source)?;
+    assert_eq!(rt;
+        given.runs.as_slice(),
+        [(0, 3), (1, 2), (1, 2), (2, 2), (3, 1)].as_slice()
+    );
+    let mut bytes = [7u8; 302];
+    bytes[301] = 6;
+    let mut source = SureSource::new(bytes.to_vec(rt.alloc())?);
+    let given = read_all(&rt, rt.alloc(), opened(16, &[0]), &mut source)?;
+    assert_eq!(rt; given.runs.as_slice(), [(1, 150), (1, 1)].as_slice());
+    let mut source = SureSource::new(bytes.to_vec(rt.alloc())?);
+    let given = read_all(&rt, rt.alloc(), opened(8, &[0]), &mut source)?;
+    assert_eq!(rt; given.runs.as_slice(), [(1, 301), (0, 1)].as_slice());
+    Ok(())
+}
+
+#[test]
+fn a_failed_read_loses_nothing(rt: HostRuntime) -> Result<(), Fail> {
+    // the third read fails, in the second unit
+    let mut source = in_pieces(rt.alloc(), &[1, 0x80, 1], 2, &[2])?;
+    let given = read_all(&rt, rt.alloc(), opened(16, &[0, 15]), &mut source)?;
+    assert_eq!(rt; given.runs.as_slice(), [(3, 1)].as_slice());
+    assert_eq!(rt; given.last, Some(Err(Failed)));
+    let mut source = in_pieces(rt.alloc(), &[], 1, &[0])?;
+    let given = read_all(&rt, rt.alloc(), opened(8, &[0]), &mut source)?;
+    assert_eq!(rt; given.last, Some(Err(Failed)));
+    Ok(())
+}
+
+// The definition's names, written out.
+fn names_are_numbered()
+    ensures { raw_names 3 ≡ codes "D0" ∷ codes "D1" ∷ codes "D2" ∷ [] }
+{}
+
+// What the definition gives for units of two bytes that end inside the third.
+fn a_short_unit()
+    ensures { (rate : ItsRate) → Ends (raw_capture 9 rate (8 ∷ []) (0 ∷ 0 ∷ 1 ∷ 1 ∷ 2 ∷ []) AtEnd) (0 ∷ 1 ∷ []) (Faulty (ShortUnit 4)) }
+{}
+
+#[test]
+fn laws_are_called() {
+    names_are_numbered();
+    a_short_unit();
+    longer_extends();
+    fault_stays();
+    stands_fixes();
+    given_is_front();
+    samples_are_levels();
+}

@@ -1,0 +1,5 @@
+pub mod Samples
+pub mod Naming
+pub mod Kinds
+pub mod Groups
+pub mod GroupLaws

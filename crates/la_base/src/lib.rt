@@ -1,0 +1,16 @@
+//! Samples and their runs, packets, notes and channel names of logic captures.
+#![tactic(auto)]
+
+mod kinds;
+mod names;
+mod parts;
+mod samples;
+#[cfg(test)]
+mod tests;
+mod wires;
+
+pub use kinds::wire_of;
+pub use names::{MOST_NAMES, Names, NoMemory};
+pub use parts::{cut, pin};
+pub use samples::{MOST_PINS, Pins, Rate, Run, Word};
+pub use wires::{Feed, Mark, Note, Out, Packet, PacketKind, Piece, Wire};

@@ -1,0 +1,33 @@
+// One sample, and a run in two parts.
+ghost use Rattle.std.specs.Prelude.{◌≡◌, ◌+◌, ◌<◌, ◌++◌};
+ghost use Rattle.la_base.specs.Samples.{samples, is_high};
+
+use crate::{MOST_PINS, Run, Word};
+
+/// Whether the channel that is bound as pin `channel` is high in a sample: bit `channel` of it.
+pub fn pin(value: Word, channel: u32) -> bool
+    requires { channel < MOST_PINS }
+    ensures { result ≡ is_high value channel }
+{
+    (value >> channel) & 1 == 1
+}
+
+/// The first `n` samples of a run, and the others, of which there is at least one.
+pub fn cut(run: Run, n: u64) -> (Run, Run)
+    requires above { 0 < n }
+    requires below { n < run.len }
+    ensures front { result.0.len ≡ n }
+    ensures back { n + result.1.len ≡ run.len }
+    ensures value { (result.0.value ≡ run.value) × (result.1.value ≡ run.value) }
+    ensures same { samples result.0 ++ samples result.1 ≡ samples run }
+{
+    let front = Run {
+        value: run.value,
+        len: n,
+    };
+    let back = Run {
+        value: run.value,
+        len: run.len - n,
+    };
+    (front, back)
+}

@@ -1,0 +1,4 @@
+pub mod Buffering
+pub mod Bytes
+mod Filling
+mod Pieces

@@ -1,0 +1,27 @@
+-- What the bytes of a capture give: a head, the settled samples and an ending.
+use Rattle.std.specs.Prelude.{ℕ, List}
+use Rattle.la_base.specs.declared.samples.Rate.{Rate}
+use Rattle.la_io.specs.declared.fault.CaptureFault.{CaptureFault}
+
+-- how the bytes stop: the source told its end behind them, or it didn't
+pub data Stop : Type 0 where
+  AtEnd : Stop
+  Cut : Stop
+
+-- the channels' names and the rate; or a fault of the header; or the bytes are cut before the head is whole
+pub data Head : Type 0 where
+  Good : List (List ℕ) → Rate → Head
+  Bad : CaptureFault → Head
+  Unread : Head
+
+-- the bytes end where they may; or they have a fault; or they are cut and have none
+pub data Ending : Type 0 where
+  Clean : Ending
+  Faulty : CaptureFault → Ending
+  Open : Ending
+
+-- what the bytes of a capture give
+pub record Captured : Type 0 where
+  pub head : Head
+  pub settled : List ℕ
+  pub ending : Ending

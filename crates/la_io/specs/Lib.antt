@@ -1,0 +1,6 @@
+pub mod Buffer
+pub mod Capture
+pub mod Causes
+pub mod Grown
+pub mod Kept
+pub mod Onward

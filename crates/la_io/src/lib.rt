@@ -1,0 +1,23 @@
+//! What reaches outside: a source of bytes, a sink, their stand-ins in memory, and a buffer before a
+//! sink.
+#![tactic(auto)]
+
+mod buffered;
+mod fault;
+mod give;
+mod held;
+mod memory;
+mod outside;
+mod standard;
+mod sure;
+#[cfg(test)]
+mod tests;
+mod whole;
+
+pub use buffered::Buffered;
+pub use fault::{CaptureError, CaptureFault};
+pub use memory::{MemSink, MemSource};
+pub use outside::{Failed, Sink, Source};
+pub use standard::{StdSink, StdSource};
+pub use sure::{SureSink, SureSource};
+pub use whole::{write_buffered, write_whole};

@@ -1,0 +1,147 @@
+// A source and a sink in memory whose calls fail where they are told to.
+ghost use Rattle.std.specs.Prelude.{◌≡◌, ◌≤◌, ◌+◌, [], vec_len, vec_capacity, IfOk, Some};
+ghost use Rattle.std.specs.Bool.{MatchBool};
+ghost use Rattle.la_io.specs.Kept.{bytes_of, left_in};
+ghost use Rattle.la_io.specs.Causes.{Rose};
+
+use crate::give::give;
+use crate::{Failed, Sink, Source};
+use la_base::NoMemory;
+use std::alloc::Global;
+
+/// Pieces of bytes in memory. A read gives at most what is left of the present piece; empty pieces
+/// are passed over. The calls of `read`, counted from 0, whose numbers are in `fails` answer `Failed`.
+#[derive(Debug, Drop)]
+pub struct MemSource {
+    pieces: Vec<Vec<u8>>,
+    piece: usize,
+    at: usize,
+    fails: Vec<u64>,
+    calls: u64,
+    faults: u64,
+}
+
+impl MemSource {
+    /// A source of these pieces, one after another, that hasn't failed yet.
+    pub fn new(pieces: Vec<Vec<u8>>, fails: Vec<u64>) -> MemSource
+        ensures left { ⟦<MemSource as Source>⟧.left result ≡ Some (bytes_of pieces.items) }
+        ensures faults { ⟦<MemSource as Source>⟧.faults result ≡ 0 }
+        ensures plan { (result.fails.items ≡ fails.items) × (result.calls ≡ 0) }
+    {
+        MemSource {
+            pieces,
+            piece: 0,
+            at: 0,
+            fails,
+            calls: 0,
+            faults: 0,
+        }
+    }
+}
+
+// Whether this call fails, and one more call.
+fn fails_now(fails: &[u64], calls: &mut u64, faults: &mut u64) -> bool
+    ensures later { faults.old ≤ faults.new }
+    ensures cause { MatchBool result (Rose faults.old faults.new) (faults.new ≡ faults.old) }
+{
+    let fails_here = fails.contains(calls);
+    *calls = calls.saturating_add(1);
+    if fails_here {
+        *faults = faults.saturating_add(1);
+    }
+    fails_here
+}
+
+impl Source for MemSource {
+    ghost left = { λ s. Some (left_in s.pieces.items s.piece s.at) };
+
+    ghost faults = { λ s. s.faults };
+
+    fn read(&mut self, buf: &mut [u8]) -> Result<usize, Failed> {
+        if fails_now(&self.fails, &mut self.calls, &mut self.faults) {
+            return Err(Failed);
+        }
+        while self.piece < self.pieces.len() {
+            let present = self.pieces[self.piece].as_slice();
+            if self.at < present.len() {
+                let count = give(&present[self.at..], buf);
+                self.at += count;
+                return Ok(count);
+            }
+            self.piece += 1;
+            self.at = 0;
+        }
+        Ok(0)
+    }
+}
+
+/// Bytes in memory. A write takes at most `most` bytes and no more than there is room for; it fails
+/// where no room is left, and where its number, counted from 0, is in `fails`.
+#[derive(Debug, Drop)]
+pub struct MemSink {
+    bytes: Vec<u8>,
+    most: usize,
+    fails: Vec<u64>,
+    room: usize,
+    calls: u64,
+    faults: u64,
+    ghost some: { 1 ≤ most },
+    ghost has_room: { vec_len bytes + room ≤ vec_capacity bytes },
+}
+
+impl MemSink {
+    /// A sink with room for `room` bytes, for which it takes memory at once, that got none and hasn't
+    /// failed yet.
+    pub fn new(
+        alloc: Global,
+        most: usize,
+        fails: Vec<u64>,
+        room: usize,
+    ) -> Result<MemSink, NoMemory>
+        requires { 1 ≤ most }
+        ensures written { IfOk result (λ sink. ⟦<MemSink as Sink>⟧.written sink ≡ Some []) }
+        ensures faults { IfOk result (λ sink. ⟦<MemSink as Sink>⟧.faults sink ≡ 0) }
+        ensures plan { IfOk result (λ sink. (sink.most ≡ most) × (sink.fails.items ≡ fails.items) × (sink.room ≡ room) × (sink.calls ≡ 0)) }
+    {
+        Ok(MemSink {
+            bytes: Vec::with_capacity(alloc, room)?,
+            most,
+            fails,
+            room,
+            calls: 0,
+            faults: 0,
+        })
+    }
+
+    /// The bytes that it got.
+    pub fn written(&self) -> &[u8]
+        ensures { ⟦<MemSink as Sink>⟧.written self.now ≡ Some result.now }
+    {
+        &self.bytes
+    }
+}
+
+impl Sink for MemSink {
+    ghost written = { λ s. Some s.bytes.items };
+
+    ghost faults = { λ s. s.faults };
+
+    ghost goes_on = { λ _ _. Unit {0} };
+
+    ghost goes_on_still = { λ _. tt };
+
+    ghost goes_on_further = { λ _ _ _ _ _. tt };
+
+    fn write(&mut self, bytes: &[u8]) -> Result<usize, Failed> {
+        if fails_now(&self.fails, &mut self.calls, &mut self.faults) {
+            return Err(Failed);
+        }
+        let count = bytes.len().min(self.most).min(self.room);
+        if count == 0 || self.bytes.extend_from_slice(&bytes[..count]).is_err() {
+            self.faults = self.faults.saturating_add(1);
+            return Err(Failed);
+        }
+        self.room -= count;
+        Ok(count)
+    }
+}

@@ -1,0 +1,169 @@
+ghost use Rattle.std.specs.Prelude.{◌≡◌, ◌≤◌};
+
+use super::*;
+use la_base::NoMemory;
+use std::alloc::{AllocError, Global};
+use std::io;
+use std::io::{ErrorKind, Read, Write};
+use std::process::Abort;
+use std::test::Fail;
+
+fn sink_of(
+    rt: &impl Abort,
+    alloc: Global,
+    most: usize,
+    fails: &[u64],
+    room: usize,
+) -> Result<MemSink, NoMemory> {
+    assert!(rt; most >= 1);
+    MemSink::new(alloc, most, fails.to_vec(alloc)?, room)
+}
+
+fn numbered(alloc: Global, count: u32) -> Result<Vec<u8>, AllocError> {
+    (0..count).map(|i| (i % 251) as u8).collect(alloc)
+}
+
+#[test]
+fn a_piece_is_written_in_parts(rt: HostRuntime) -> Result<(), Fail> {
+    for (most, fails, room, want, done) in [
+        (1, [].as_slice(), 8, "abcdef", true),
+        (4, [].as_slice(), 6, "abcdef", true),
+        (9, [].as_slice(), 8, "abcdef", true),
+        (4, [1].as_slice(), 8, "abcd", false),
+        (1, [0].as_slice(), 8, "", false),
+        (2, [].as_slice(), 5, "abcde", false),
+    ] {
+        let mut plain = sink_of(&rt, rt.alloc(), most, fails, room)?;
+        let result = write_whole(&mut plain, b"abcdef");
+        assert_eq!(rt; result.is_ok(), done, "{want}");
+        assert_eq!(rt; plain.written(), want.as_bytes());
+        let mut behind = sink_of(&rt, rt.alloc(), most, fails, room)?;
+        let result = write_buffered(&mut behind, b"abcdef");
+        assert_eq!(rt; result.is_ok(), done, "{want}");
+        assert_eq!(rt; behind.written(), want.as_bytes());
+    }
+    Ok(())
+}
+
+#[test]
+fn more_than_a_buffer_holds(rt: HostRuntime) -> Result<(), Fail> {
+    let bytes = numbered(rt.alloc(), 40_000)?;
+    let mut sink = sink_of(&rt, rt.alloc(), 7000, &[], 40_000)?;
+    let mut buffered = Buffered::new(&mut sink);
+    for piece in bytes.chunks(3000) {
+        assert_eq!(rt; write_whole(&mut buffered, piece), Ok(()));
+    }
+    assert_eq!(rt; buffered.flush(), Ok(()));
+    assert_eq!(rt; sink.written(), bytes.as_slice());
+    Ok(())
+}
+
+#[test]
+fn a_failed_flush_keeps_the_rest(rt: HostRuntime) -> Result<(), Fail> {
+    let mut sink = sink_of(&rt, rt.alloc(), 3, &[1, 2], 8)?;
+    let mut buffered = Buffered::new(&mut sink);
+    assert_eq!(rt; write_whole(&mut buffered, b"abcdefgh"), Ok(()));
+    assert_eq!(rt; buffered.flush(), Err(Failed));
+    assert_eq!(rt; buffered.flush(), Err(Failed));
+    assert_eq!(rt; buffered.flush(), Ok(()));
+    assert_eq!(rt; sink.written(), b"abcdefgh".as_slice());
+    Ok(())
+}
+
+#[test]
+fn a_failed_write_into_a_full_buffer(rt: HostRuntime) -> Result<(), Fail> {
+    let bytes = numbered(rt.alloc(), 16_384)?;
+    let mut sink = sink_of(&rt, rt.alloc(), 10_000, &[1], 16_385)?;
+    let mut buffered = Buffered::new(&mut sink);
+    assert_eq!(rt; write_whole(&mut buffered, &bytes), Ok(()));
+    assert_eq!(rt; buffered.write(b"x"), Err(Failed));
+    assert_eq!(rt; buffered.flush(), Ok(()));
+    assert_eq!(rt; sink.written(), bytes.as_slice());
+    Ok(())
+}
+
+#[test]
+fn pieces_are_read_with_a_failure_between(rt: HostRuntime) -> Result<(), Fail> {
+    let alloc = rt.alloc();
+    let mut pieces = Vec::new(alloc);
+    pieces.push(b"ab".to_vec(alloc)?)?;
+    pieces.push(Vec::new(alloc))?;
+    pieces.push(b"cde".to_vec(alloc)?)?;
+    let mut source = MemSource::new(pieces, [1, 3].to_vec(alloc)?);
+    let mut buf = [0; 2];
+    assert_eq!(rt; source.read(&mut buf), Ok(2));
+    assert_eq!(rt; buf.as_slice(), b"ab".as_slice());
+    assert_eq!(rt; source.read(&mut buf), Err(Failed));
+    assert_eq!(rt; source.read(&mut buf), Ok(2));
+    assert_eq!(rt; buf.as_slice(), b"cd".as_slice());
+    assert_eq!(rt; source.read(&mut buf), Err(Failed));
+    assert_eq!(rt; source.read(&mut buf), Ok(1));
+    assert_eq!(rt; buf[0], b'e');
+    assert_eq!(rt; source.read(&mut buf), Ok(0));
+    Ok(())
+}
+
+#[test]
+fn sure_ones_never_fail(rt: HostRuntime) -> Result<(), Fail> {
+    let mut source = SureSource::new(b"abc".to_vec(rt.alloc())?);
+    let mut buf = [0; 2];
+    assert_eq!(rt; source.read(&mut buf), Ok(2));
+    assert_eq!(rt; buf.as_slice(), b"ab".as_slice());
+    assert_eq!(rt; source.read(&mut buf), Ok(1));
+    assert_eq!(rt; buf[0], b'c');
+    assert_eq!(rt; source.read(&mut buf), Ok(0));
+    let mut sink = SureSink::new();
+    assert_eq!(rt; sink.write(b"abc"), Ok(3));
+    Ok(())
+}
+
+// A reader and a writer whose every call is an error.
+#[derive(Drop)]
+struct Broken;
+
+impl Read for Broken {
+    fn read(&mut self, _buf: &mut [u8]) -> io::Result<usize> {
+        Err(io::Error::from(ErrorKind::BrokenPipe))
+    }
+}
+
+#[test]
+fn a_reader_as_a_source(rt: HostRuntime) {
+    let mut source = StdSource::new(b"abc".as_slice());
+    let mut buf = [0; 2];
+    assert_eq!(rt; source.read(&mut buf), Ok(2));
+    assert_eq!(rt; buf.as_slice(), b"ab".as_slice());
+    assert_eq!(rt; source.read(&mut buf), Ok(1));
+    assert_eq!(rt; buf[0], b'c');
+    assert_eq!(rt; source.read(&mut buf), Ok(0));
+    assert_eq!(rt; StdSource::new(Broken).read(&mut buf), Err(Failed));
+}
+
+#[test]
+fn a_writer_as_a_sink(rt: HostRuntime) -> Result<(), Fail> {
+    let mut bytes = Vec::new(rt.alloc());
+    assert_eq!(rt; write_whole(&mut StdSink::new(&mut bytes), b"abc"), Ok(()));
+    assert_eq!(rt; bytes.as_slice(), b"abc".as_slice());
+    let mut short = [0; 2];
+    assert_eq!(rt;
+        write_whole(&mut StdSink::new(short.as_mut_slice()), b"abc"),
+        Err(Failed)
+    );
+    assert_eq!(rt; short.as_slice(), b"ab".as_slice());
+    Ok(())
+}
+
+fn may_move<T: Send + Drop>(_value: T) {}
+
+#[test]
+fn all_of_them_move_to_other_threads(rt: HostRuntime) -> Result<(), Fail> {
+    let mut sink = sink_of(&rt, rt.alloc(), 1, &[], 1)?;
+    may_move(Buffered::new(&mut sink));
+    may_move(sink);
+    may_move(MemSource::new(Vec::new(rt.alloc()), Vec::new(rt.alloc())));
+    may_move(SureSource::new(Vec::new(rt.alloc())));
+    may_move(SureSink::new());
+    may_move(StdSource::new(Broken));
+    may_move(StdSink::new(Vec::new(rt.alloc())));
+    Ok(())
+}

@@ -1,0 +1,90 @@
+-- What a run's status tells its user: the exit status, and one line of text.
+use Rattle.std.specs.Prelude.{ℕ, List, [], ◌++◌, codes}
+use Rattle.std.specs.Fmt.{decimal}
+use Rattle.la_io.specs.declared.fault.CaptureFault.{CaptureFault}
+use Rattle.la_io.specs.declared.fault.CaptureFault.TheVariants as capture
+use Rattle.wait_cond.specs.declared.faults.BindWhy.{BindWhy}
+use Rattle.wait_cond.specs.declared.faults.BindWhy.TheVariants as binding
+use Rattle.words.specs.declared.kinds.WordWhy.{WordWhy}
+use Rattle.words.specs.declared.kinds.WordWhy.TheVariants as word
+use Rattle.ldecode.specs.declared.find.FindEnd.{FindEnd}
+use Rattle.ldecode.specs.declared.find.FindEnd.TheVariants as end
+use Rattle.ldecode.specs.declared.status.Status.{Status}
+use Rattle.ldecode.specs.declared.status.Status.TheVariants.{Done, Words, Bind, ReadFault, Capture, WriteFault, NoMemory}
+
+-- the status of a search that ended so
+abbrev pub status_of : FindEnd → Status
+status_of end.Done = Done
+status_of end.Read = ReadFault
+status_of end.Write = WriteFault
+status_of (end.Fault fault) = Capture fault
+
+-- the exit status
+abbrev pub code_of : Status → ℕ
+code_of Done = 0
+code_of (Words fault) = 1
+code_of (Bind fault) = 1
+code_of ReadFault = 2
+code_of (Capture fault) = 3
+code_of WriteFault = 4
+code_of NoMemory = 5
+
+-- why a word is refused
+abbrev pub word_why : WordWhy → List ℕ
+word_why word.Unknown = codes "Unknown"
+word_why word.NoValue = codes "NoValue"
+word_why word.Repeat = codes "Repeat"
+word_why word.Value = codes "Value"
+word_why word.Range = codes "Range"
+word_why word.Empty = codes "Empty"
+word_why word.Long = codes "Long"
+word_why word.Extra = codes "Extra"
+word_why word.Few = codes "Few"
+word_why word.Many = codes "Many"
+word_why word.Cond = codes "Cond"
+
+-- why a channel isn't bound
+abbrev pub bind_why : BindWhy → List ℕ
+bind_why binding.Unknown = codes "Unknown"
+bind_why binding.TooMany = codes "TooMany"
+bind_why binding.Rate = codes "Rate"
+
+-- what is wrong with a capture
+abbrev pub capture_why : CaptureFault → List ℕ
+capture_why (capture.ShortUnit at) = codes "ShortUnit"
+capture_why (capture.Token at) = codes "Token"
+capture_why (capture.TooLong at) = codes "TooLong"
+capture_why capture.NoTimescale = codes "NoTimescale"
+capture_why capture.NoDefinitions = codes "NoDefinitions"
+capture_why (capture.TooMany at) = codes "TooMany"
+capture_why (capture.TimeBack at was now) = codes "TimeBack"
+capture_why (capture.TimeLarge at) = codes "TimeLarge"
+capture_why (capture.Field line column) = codes "Field"
+capture_why (capture.Columns line want have) = codes "Columns"
+capture_why (capture.Time line) = codes "Time"
+capture_why capture.Bytes = codes "Bytes"
+
+-- the place of a capture's fault, or its line; 0 where it has neither
+abbrev pub capture_at : CaptureFault → ℕ
+capture_at (capture.ShortUnit at) = at
+capture_at (capture.Token at) = at
+capture_at (capture.TooLong at) = at
+capture_at capture.NoTimescale = 0
+capture_at capture.NoDefinitions = 0
+capture_at (capture.TooMany at) = at
+capture_at (capture.TimeBack at was now) = at
+capture_at (capture.TimeLarge at) = at
+capture_at (capture.Field line column) = line
+capture_at (capture.Columns line want have) = line
+capture_at (capture.Time line) = line
+capture_at capture.Bytes = 0
+
+-- the line that tells of a status; a run that is done tells nothing
+abbrev pub notice_of : Status → List ℕ
+notice_of Done = []
+notice_of (Words fault) = codes "ldecode: word " ++ decimal fault.word ++ codes " at " ++ decimal fault.at ++ codes ": " ++ word_why fault.why ++ codes "\n"
+notice_of (Bind fault) = codes "ldecode: entry " ++ decimal fault.entry ++ codes " item " ++ decimal fault.item ++ codes ": " ++ bind_why fault.why ++ codes "\n"
+notice_of ReadFault = codes "ldecode: read fault\n"
+notice_of (Capture fault) = codes "ldecode: capture at " ++ decimal (capture_at fault) ++ codes ": " ++ capture_why fault ++ codes "\n"
+notice_of WriteFault = codes "ldecode: write fault\n"
+notice_of NoMemory = codes "ldecode: out of memory\n"

@@ -1,0 +1,120 @@
+// The line that tells of a status.
+ghost use Rattle.std.specs.Prelude.{◌≡◌, ◌≤◌, length};
+ghost use Rattle.ldecode.specs.Notices.{word_why, bind_why, capture_why, capture_at, notice_of};
+
+use crate::status::Status;
+use crate::text::{number, text};
+use la_io::CaptureFault;
+use line_text::LineBuf;
+use wait_cond::BindWhy;
+use words::WordWhy;
+
+// Why a word is refused.
+fn word_why(why: WordWhy) -> &'static str
+    ensures text { result.now ≡ word_why why }
+    ensures short { length result.now ≤ 20 }
+{
+    match why {
+        WordWhy::Unknown => "Unknown",
+        WordWhy::NoValue => "NoValue",
+        WordWhy::Repeat => "Repeat",
+        WordWhy::Value => "Value",
+        WordWhy::Range => "Range",
+        WordWhy::Empty => "Empty",
+        WordWhy::Long => "Long",
+        WordWhy::Extra => "Extra",
+        WordWhy::Few => "Few",
+        WordWhy::Many => "Many",
+        WordWhy::Cond => "Cond",
+    }
+}
+
+// Why a channel isn't bound.
+fn bind_why(why: BindWhy) -> &'static str
+    ensures text { result.now ≡ bind_why why }
+    ensures short { length result.now ≤ 20 }
+{
+    match why {
+        BindWhy::Unknown => "Unknown",
+        BindWhy::TooMany => "TooMany",
+        BindWhy::Rate => "Rate",
+    }
+}
+
+// What is wrong with a capture.
+fn capture_why(fault: CaptureFault) -> &'static str
+    ensures text { result.now ≡ capture_why fault }
+    ensures short { length result.now ≤ 20 }
+{
+    match fault {
+        CaptureFault::ShortUnit { .. } => "ShortUnit",
+        CaptureFault::Token { .. } => "Token",
+        CaptureFault::TooLong { .. } => "TooLong",
+        CaptureFault::NoTimescale => "NoTimescale",
+        CaptureFault::NoDefinitions => "NoDefinitions",
+        CaptureFault::TooMany { .. } => "TooMany",
+        CaptureFault::TimeBack { .. } => "TimeBack",
+        CaptureFault::TimeLarge { .. } => "TimeLarge",
+        CaptureFault::Field { .. } => "Field",
+        CaptureFault::Columns { .. } => "Columns",
+        CaptureFault::Time { .. } => "Time",
+        CaptureFault::Bytes => "Bytes",
+    }
+}
+
+// The place of a capture's fault, or its line.
+fn capture_at(fault: CaptureFault) -> u64
+    ensures { result ≡ capture_at fault }
+{
+    match fault {
+        CaptureFault::ShortUnit { at }
+        | CaptureFault::Token { at }
+        | CaptureFault::TooLong { at }
+        | CaptureFault::TooMany { at }
+        | CaptureFault::TimeBack { at, .. }
+        | CaptureFault::TimeLarge { at } => at,
+        CaptureFault::Field { line, .. }
+        | CaptureFault::Columns { line, .. }
+        | CaptureFault::Time { line } => line,
+        CaptureFault::NoTimescale | CaptureFault::NoDefinitions | CaptureFault::Bytes => 0,
+    }
+}
+
+/// The line that tells of a status.
+pub fn notice(status: &Status) -> LineBuf
+    ensures { result ≡ notice_of status.now }
+{
+    let mut line = LineBuf::new();
+    match *status {
+        Status::Done => {}
+        Status::Words(fault) => {
+            text(&mut line, "ldecode: word ");
+            number(&mut line, u64::from(fault.word));
+            text(&mut line, " at ");
+            number(&mut line, u64::from(fault.at));
+            text(&mut line, ": ");
+            text(&mut line, word_why(fault.why));
+            text(&mut line, "\n");
+        }
+        Status::Bind(fault) => {
+            text(&mut line, "ldecode: entry ");
+            number(&mut line, u64::from(fault.entry));
+            text(&mut line, " item ");
+            number(&mut line, u64::from(fault.item));
+            text(&mut line, ": ");
+            text(&mut line, bind_why(fault.why));
+            text(&mut line, "\n");
+        }
+        Status::ReadFault => text(&mut line, "ldecode: read fault\n"),
+        Status::Capture(fault) => {
+            text(&mut line, "ldecode: capture at ");
+            number(&mut line, capture_at(fault));
+            text(&mut line, ": ");
+            text(&mut line, capture_why(fault));
+            text(&mut line, "\n");
+        }
+        Status::WriteFault => text(&mut line, "ldecode: write fault\n"),
+        Status::NoMemory => text(&mut line, "ldecode: out of memory\n"),
+    }
+    line
+}

@@ -1,0 +1,2 @@
+mod Hexadecimal
+pub mod Widths

@@ -1,0 +1,118 @@
+// A line of text of at most 256 bytes.
+ghost use Rattle.std.specs.Prelude.{◌≡◌, ◌+◌, ◌^◌, ◌<◌, ◌≤◌, List, ℕ, [], ◌++◌, length, take};
+ghost use Rattle.std.specs.Fmt.{decimal};
+ghost use Rattle.line_text.specs.Texts.{padded, hex, fixed};
+
+use crate::hex::{PLACES, write_hex};
+use itoa::Buffer;
+use std::marker::Model;
+
+/// The most bytes that a line holds.
+pub const ROOM: usize = 256;
+
+const ZEROS: [u8; PLACES] = [b'0'; PLACES];
+
+/// A line of text, at most `ROOM` bytes. Contracts see it as the list of its bytes.
+#[derive(Drop)]
+pub struct LineBuf {
+    buffer: [u8; ROOM],
+    len: usize,
+}
+
+impl Model for LineBuf {
+    ghost Value = { List ℕ };
+
+    ghost view = { λ line. take line.len line.buffer };
+
+    ghost invariant = { λ line. line.len ≤ 256 };
+}
+
+impl LineBuf {
+    /// An empty line.
+    pub fn new() -> LineBuf
+        ensures { result ≡ [] }
+    {
+        LineBuf {
+            buffer: [0; ROOM],
+            len: 0,
+        }
+    }
+
+    /// The bytes of the line.
+    pub fn bytes(&self) -> &[u8]
+        ensures bytes { result.now ≡ self.now }
+        ensures fits { length self.now ≤ 256 }
+    {
+        &self.buffer[..self.len]
+    }
+
+    /// Empties the line.
+    pub fn clear(&mut self)
+        ensures { self.new ≡ [] }
+    {
+        self.len = 0;
+    }
+
+    /// Appends bytes.
+    pub fn push_bytes(&mut self, bytes: &[u8])
+        requires { length self.old + length bytes.now ≤ 256 }
+        ensures text { self.new ≡ self.old ++ bytes.now }
+        ensures grows { length self.new ≡ length self.old + length bytes.now }
+    {
+        let end = self.len + bytes.len();
+        self.buffer[self.len..end].copy_from_slice(bytes);
+        self.len = end;
+    }
+
+    /// Appends a number in decimal, with no leading zero.
+    pub fn push_dec(&mut self, n: u64)
+        requires { length self.old + length (decimal n) ≤ 256 }
+        ensures text { self.new ≡ self.old ++ decimal n }
+        ensures grows { length self.new ≡ length self.old + length (decimal n) }
+    {
+        let mut buffer = Buffer::new();
+        self.push_bytes(buffer.format(n).as_bytes());
+    }
+
+    /// Appends a number in upper case hexadecimal, with leading zeros up to `digits` digits.
+    pub fn push_hex(&mut self, n: u64, digits: u32)
+        requires digits { (1 ≤ digits) × (digits ≤ 16) }
+        requires room { length self.old + length (hex digits n) ≤ 256 }
+        ensures text { self.new ≡ self.old ++ hex digits n }
+        ensures grows { length self.new ≡ length self.old + length (hex digits n) }
+    {
+        let mut places = [0; PLACES];
+        let start = write_hex(n, &mut places);
+        self.push_padded(&places[start..], digits);
+    }
+
+    /// Appends `-` where `negative`, then `whole` in decimal, a point, and `part` in decimal with
+    /// leading zeros up to `digits` digits: `part` counts units of the last of these places.
+    pub fn push_fixed(&mut self, negative: bool, whole: u64, part: u64, digits: u32)
+        requires digits { (1 ≤ digits) × (digits ≤ 4) }
+        requires part { part < 10 ^ digits }
+        requires room { length self.old + length (fixed negative whole part digits) ≤ 256 }
+        ensures text { self.new ≡ self.old ++ fixed negative whole part digits }
+        ensures grows { length self.new ≡ length self.old + length (fixed negative whole part digits) }
+    {
+        if negative {
+            self.push_bytes(b"-");
+        }
+        self.push_dec(whole);
+        self.push_bytes(b".");
+        let mut buffer = Buffer::new();
+        self.push_padded(buffer.format(part).as_bytes(), digits);
+    }
+
+    // Appends a text, behind zeros up to a width.
+    fn push_padded(&mut self, text: &[u8], width: u32)
+        requires width { width ≤ 16 }
+        requires room { length self.old + length (padded width text.now) ≤ 256 }
+        ensures text { self.new ≡ self.old ++ padded width text.now }
+        ensures grows { length self.new ≡ length self.old + length (padded width text.now) }
+    {
+        let zeros = (width as usize).saturating_sub(text.len());
+        self.push_bytes(&ZEROS[..zeros]);
+        self.push_bytes(text);
+    }
+}

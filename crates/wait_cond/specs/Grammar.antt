@@ -1,0 +1,52 @@
+-- The grammar of a condition's word: its terms, or its first fault by place.
+use Rattle.std.specs.Prelude.{ℕ, Bool, ◌+◌, ◌==◌, nat_le, List, [], length, Option, Some, None, Result, Ok, Err, if◌then◌else◌, codes}
+use Rattle.std.specs.List.{before_first, after_first, position_or_len}
+use Rattle.std.specs.Str.{bytes_eq}
+use Rattle.text_parts.specs.Places.{Placed, parts_between}
+use Rattle.text_parts.specs.Reading.{read_parts}
+use Rattle.wait_cond.specs.Words.{Meaning, Line}
+use Rattle.wait_cond.specs.declared.words.CondFault.{CondFault}
+use Rattle.wait_cond.specs.declared.words.CondWhy.{CondWhy}
+use Rattle.wait_cond.specs.declared.words.CondWhy.TheVariants as why
+use Rattle.wait_cond.specs.declared.words.Letter.{Letter}
+use Rattle.wait_cond.specs.declared.words.Letter.TheVariants as letter
+
+-- the most terms that an alternative has
+abbrev pub most_terms : ℕ
+most_terms = 1
+
+abbrev pub fault : ℕ → CondWhy → Result Meaning CondFault
+fault at why = Err (record { at = at; why = why })
+
+-- the letter of a kind of term
+abbrev pub letter_of : List ℕ → Option Letter
+letter_of text = if bytes_eq text (codes "l") then Some letter.Low
+    else if bytes_eq text (codes "h") then Some letter.High
+    else if bytes_eq text (codes "r") then Some letter.Rise
+    else if bytes_eq text (codes "f") then Some letter.Fall
+    else if bytes_eq text (codes "e") then Some letter.Edge
+    else if bytes_eq text (codes "s") then Some letter.Steady
+    else None
+
+abbrev pub line_from : List ℕ → ℕ → Option Letter → Result Meaning CondFault
+line_from reference at (Some letter) = Ok (Line reference letter)
+line_from reference at None = fault at why.Level
+
+-- what stands behind a reference and its `=`, at place `at`
+abbrev pub line_term : List ℕ → ℕ → List ℕ → Result Meaning CondFault
+line_term reference at text = line_from reference at (letter_of text)
+
+abbrev pub is_equals : ℕ → Bool
+is_equals byte = byte == 61
+
+-- one term, behind those before it
+abbrev pub term_at : List Meaning → Placed → Result Meaning CondFault
+term_at before part = if nat_le most_terms (length before) then fault part.0 why.Many
+    else if length part.1 == 0 then fault part.0 why.Empty
+    else if position_or_len is_equals part.1 == length part.1 then fault part.0 why.Term
+    else if length (before_first is_equals part.1) == 0 then fault part.0 why.Term
+    else line_term (before_first is_equals part.1) (part.0 + length (before_first is_equals part.1) + 1) (after_first is_equals part.1)
+
+-- the terms of a word, between its commas, or its first fault
+abbrev pub terms_of : List ℕ → Result (List Meaning) CondFault
+terms_of word = read_parts term_at [] (parts_between 44 word)

@@ -1,0 +1,10 @@
+pub mod Conds
+pub mod Meets
+pub mod Stops
+pub mod StopLaws
+pub mod Waiting
+pub mod Words
+pub mod Grammar
+pub mod Binding
+pub mod Steps
+pub mod Holding

@@ -1,0 +1,27 @@
+//! Conditions on samples, and the wait for the next sample that meets one.
+#![tactic(auto)]
+
+mod alt;
+mod behind;
+mod bind;
+mod faults;
+mod laws;
+mod lines;
+mod met;
+mod read;
+mod scan;
+mod words;
+
+pub use alt::{Alt, Cond};
+pub use bind::bind_alt;
+pub use faults::{BindWhy, ItemFault};
+pub use laws::{
+    a_wait_has_one_stop, bound_terms_are_what_is_met, samples_have_one_list_of_stops,
+    samples_make_the_waiter, stops_go_on_with_samples,
+};
+pub use read::read_alt;
+pub use scan::{Scan, Waiter};
+pub use words::{AltWords, CondError, CondFault, CondWhy, Letter, Term};
+
+#[cfg(test)]
+mod tests;

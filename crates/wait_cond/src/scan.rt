@@ -1,0 +1,135 @@
+// The wait itself.
+ghost use Rattle.std.specs.Prelude.{◌≡◌, ◌≤◌, ◌^◌, length};
+
+use crate::Cond;
+use crate::behind::behind;
+use crate::met::met_set;
+use la_base::{Run, Word};
+
+/// Waits for the next sample that meets a condition. It stands for the samples that it has consumed,
+/// its last stop among them, and its condition; of the samples it holds three numbers.
+#[derive(Drop)]
+pub struct Waiter {
+    cond: Cond,
+    consumed: u64,
+    from: u64,
+    last: Word,
+    ghost stop: { from ≤ consumed },
+    ghost few: { consumed ≤ 2 ^ 60 },
+}
+
+/// Where a wait stopped, or that it goes on behind the run.
+#[derive(Clone, Copy, Debug, PartialEq, Eq)]
+pub enum Scan {
+    Met {
+        at: u64,
+        value: Word,
+        met: u8,
+        rest: Option<Run>,
+    },
+    Through,
+}
+
+impl Waiter {
+    ghost use Rattle.std.specs.Prelude.{◌≡◌, ◌≢◌, ◌+◌, ◌≤◌, ◌<◌, ◌^◌, ◌++◌, ◌==◌, if◌then◌else◌, [], List, ℕ, length, IfSome};
+    ghost use Rattle.la_base.specs.Samples.{samples};
+    ghost use Rattle.wait_cond.specs.Conds.{cond_alts};
+    ghost use Rattle.wait_cond.specs.Waiting.{Waits, Scanned, Counts, Found, alts_of, wait_from, consumed_by, last_of};
+
+    /// A waiter that has consumed no sample yet.
+    pub fn new(cond: Cond) -> Waiter
+        ensures new { Waits result [] }
+        ensures alts { alts_of result ≡ cond_alts cond }
+        ensures from { wait_from result ≡ 0 }
+    {
+        Waiter {
+            cond,
+            consumed: 0,
+            from: 0,
+            last: 0,
+        }
+    }
+
+    /// Sets the condition of the next wait; without it the same condition is waited for again. The
+    /// last sample that was consumed must be the last stop, or none was consumed.
+    pub fn renew(&mut self, cond: Cond)
+        requires { wait_from self.old ≡ consumed_by self.old }
+        ensures waits { (list : List ℕ) → Waits self.old list → Waits self.new list }
+        ensures alts { alts_of self.new ≡ cond_alts cond }
+        ensures from { wait_from self.new ≡ wait_from self.old }
+        ensures consumed { consumed_by self.new ≡ consumed_by self.old }
+        ensures last { last_of self.new ≡ last_of self.old }
+    {
+        self.cond = cond;
+    }
+
+    /// How many samples were consumed.
+    pub fn consumed(&self) -> u64
+        ensures consumed { result ≡ consumed_by self.now }
+        ensures few { result ≤ 2 ^ 60 }
+        ensures stop { wait_from self.now ≤ result }
+    {
+        self.consumed
+    }
+
+    // The sample before sample k of a run that comes next, if there is one.
+    fn before(&self, run: Run, k: u64) -> Option<Word>
+        ensures { result ≡ (if k == 0 then (if self.now.consumed == 0 then None else Some self.now.last) else Some run.value) }
+    {
+        if k > 0 {
+            Some(run.value)
+        } else if self.consumed > 0 {
+            Some(self.last)
+        } else {
+            None
+        }
+    }
+
+    // The first sample of a run that meets the condition, and the alternatives that it meets.
+    fn find(&self, run: Run) -> Option<(u64, u8)>
+        requires { self.now.consumed + run.len ≤ 2 ^ 60 }
+        ensures found { (list : List ℕ) → Waits self.now list → Found self.now.cond.alts.items self.now.from (list ++ samples run) (length list) run.len result }
+        ensures within { IfSome result (λ x. (x.0 < run.len) × (x.1 ≢ 0)) }
+    {
+        let alts = self.cond.alts();
+        for k in 0..run.len {
+            let before = self.before(run, k);
+            let met = met_set(alts, before, run.value, self.from, self.consumed + k);
+            if met != 0 {
+                return Some((k, met));
+            }
+        }
+        None
+    }
+
+    /// Consumes samples up to the first one of the run that meets an alternative and lies behind the
+    /// last stop. `Met` has its place among all samples, its value, the set of all alternatives that
+    /// it meets (bit i is alternative i) and the samples of the run behind it. `Through` comes exactly
+    /// where there is none; the whole run is consumed then. All samples together are at most 2^60.
+    pub fn scan(&mut self, run: Run) -> Scan
+        requires { consumed_by self.old + run.len ≤ 2 ^ 60 }
+        ensures scanned { (list : List ℕ) → Waits self.old list → Scanned self.old self.new (list ++ samples run) result }
+        ensures counts { Counts self.old self.new run result }
+        ensures alts { alts_of self.new ≡ alts_of self.old }
+    {
+        match self.find(run) {
+            Some((k, met)) => {
+                let at = self.consumed + k;
+                self.consumed = at + 1;
+                self.from = at + 1;
+                self.last = run.value;
+                Scan::Met {
+                    at,
+                    value: run.value,
+                    met,
+                    rest: behind(run, k),
+                }
+            }
+            None => {
+                self.consumed += run.len;
+                self.last = run.value;
+                Scan::Through
+            }
+        }
+    }
+}

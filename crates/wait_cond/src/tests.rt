@@ -1,0 +1,274 @@
+// Worked by hand from what each letter means.
+use crate::{
+    Alt, AltWords, BindWhy, Cond, CondError, CondFault, CondWhy, ItemFault, Letter, Scan, Term,
+    Waiter, bind_alt, read_alt,
+};
+use la_base::{MOST_PINS, Names, Pins, Run, Word};
+use std::alloc::Global;
+use std::test::Fail;
+
+fn alt(letter: Letter, mask: Word, skip: u64) -> Alt {
+    let mut alt = Alt {
+        low: 0,
+        high: 0,
+        rise: 0,
+        fall: 0,
+        edge: 0,
+        steady: 0,
+        skip,
+    };
+    match letter {
+        Letter::Low => alt.low = mask,
+        Letter::High => alt.high = mask,
+        Letter::Rise => alt.rise = mask,
+        Letter::Fall => alt.fall = mask,
+        Letter::Edge => alt.edge = mask,
+        Letter::Steady => alt.steady = mask,
+    }
+    alt
+}
+
+// The places of all stops in a list of runs, as bits of a number.
+fn stops(cond: Cond, runs: &[(Word, u64)]) -> u64 {
+    let mut waiter = Waiter::new(cond);
+    let mut places = 0;
+    for (value, len) in runs {
+        if *len == 0 || 8 < *len || 50 < waiter.consumed() {
+            return 0;
+        }
+        let mut next = Some(Run {
+            value: *value,
+            len: *len,
+        });
+        for _ in 0..9 {
+            let Some(run) = next else {
+                break;
+            };
+            if 50 < waiter.consumed() || 8 < run.len {
+                return 0;
+            }
+            match waiter.scan(run) {
+                Scan::Met { at, rest, .. } => {
+                    if 60 < at {
+                        return 0;
+                    }
+                    places |= 1 << at;
+                    next = rest;
+                }
+                Scan::Through => next = None,
+            }
+        }
+    }
+    places
+}
+
+#[test]
+fn each_letter_on_two_runs(rt: HostRuntime) {
+    // Samples 1 1 0 0 1 of line 0.
+    let runs = [(1, 2), (0, 2), (1, 1)];
+    assert_eq!(rt; stops(Cond::one(alt(Letter::Low, 1, 0)), &runs), 0b01100);
+    assert_eq!(rt; stops(Cond::one(alt(Letter::High, 1, 0)), &runs), 0b10011);
+    assert_eq!(rt; stops(Cond::one(alt(Letter::Rise, 1, 0)), &runs), 0b10000);
+    assert_eq!(rt; stops(Cond::one(alt(Letter::Fall, 1, 0)), &runs), 0b00100);
+    assert_eq!(rt; stops(Cond::one(alt(Letter::Edge, 1, 0)), &runs), 0b10100);
+    assert_eq!(rt; stops(Cond::one(alt(Letter::Steady, 1, 0)), &runs), 0b01011);
+}
+
+#[test]
+fn skips_count_from_the_last_stop(rt: HostRuntime) {
+    // Before the first stop from place -1: 2, and then each third sample.
+    let third = Cond::one(alt(Letter::Low, 0, 3));
+    assert_eq!(rt; stops(third, &[(0, 4), (0, 5)]), 0b100_100_100);
+    let high = Cond::one(alt(Letter::High, 1, 2));
+    assert_eq!(rt; stops(high, &[(1, 1), (0, 2), (1, 3)]), 0b101_000);
+}
+
+#[test]
+fn stops_inside_a_run_with_all_alternatives_that_are_met(rt: HostRuntime) {
+    let mut cond = Cond::one(alt(Letter::High, 2, 0));
+    cond.add(alt(Letter::Low, 1, 0));
+    cond.add(alt(Letter::Rise, 2, 3));
+    assert_eq!(rt; cond.count(), 3);
+    let mut waiter = Waiter::new(cond);
+    assert_eq!(rt; waiter.scan(Run { value: 1, len: 3 }), Scan::Through);
+    let met = Scan::Met {
+        at: 3,
+        value: 2,
+        met: 0b111,
+        rest: Some(Run { value: 2, len: 4 }),
+    };
+    assert_eq!(rt; waiter.scan(Run { value: 2, len: 5 }), met);
+    assert_eq!(rt; waiter.consumed(), 4);
+}
+
+#[test]
+fn a_new_condition_keeps_what_was_consumed(rt: HostRuntime) {
+    let mut waiter = Waiter::new(Cond::one(alt(Letter::High, 1, 0)));
+    waiter.renew(Cond::one(alt(Letter::Low, 1, 0)));
+    let first = Scan::Met {
+        at: 0,
+        value: 0,
+        met: 1,
+        rest: None,
+    };
+    assert_eq!(rt; waiter.scan(Run { value: 0, len: 1 }), first);
+    waiter.renew(Cond::one(alt(Letter::Rise, 1, 0)));
+    let second = Scan::Met {
+        at: 1,
+        value: 1,
+        met: 1,
+        rest: Some(Run { value: 1, len: 1 }),
+    };
+    assert_eq!(rt; waiter.scan(Run { value: 1, len: 2 }), second);
+}
+
+fn fault(alloc: Global, word: &str) -> Option<(u32, CondWhy)> {
+    if word.len() > 4096 {
+        return None;
+    }
+    match read_alt(alloc, word) {
+        Err(CondError::Fault(CondFault { at, why })) => Some((at, why)),
+        _ => None,
+    }
+}
+
+#[test]
+fn reads_one_term_or_its_first_fault(rt: HostRuntime) -> Result<(), Fail> {
+    let alloc = rt.alloc();
+    let words = read_alt(alloc, "D0=r").ok().ok_or("a fault")?;
+    assert_eq!(rt; words.terms.len(), 1);
+    let Some(Term::Line { reference, letter }) = words.terms.first() else {
+        return Err("no line".into());
+    };
+    assert_eq!(rt; reference.as_str(), "D0");
+    assert_eq!(rt; *letter, Letter::Rise);
+    assert_eq!(rt; fault(alloc, ""), Some((0, CondWhy::Empty)));
+    assert_eq!(rt; fault(alloc, "any"), Some((0, CondWhy::Term)));
+    assert_eq!(rt; fault(alloc, "D0"), Some((0, CondWhy::Term)));
+    assert_eq!(rt; fault(alloc, "=h"), Some((0, CondWhy::Term)));
+    assert_eq!(rt; fault(alloc, "D0=q"), Some((3, CondWhy::Level)));
+    assert_eq!(rt; fault(alloc, "D0=r=r"), Some((3, CondWhy::Level)));
+    assert_eq!(rt; fault(alloc, "skip=3"), Some((5, CondWhy::Level)));
+    assert_eq!(rt; fault(alloc, "D0=q,D1=h"), Some((3, CondWhy::Level)));
+    assert_eq!(rt; fault(alloc, "D0=r,D1=h"), Some((5, CondWhy::Many)));
+    assert_eq!(rt; fault(alloc, "D0=r,"), Some((5, CondWhy::Many)));
+    Ok(())
+}
+
+// Names with one channel for each of these.
+fn names(alloc: Global, list: &[&str]) -> Result<Names, Fail> {
+    let mut names = Names::new(alloc);
+    for name in list {
+        if names.count() < 4096 && names.push(name.as_bytes()).is_err() {
+            return Err("no memory".into());
+        }
+    }
+    Ok(names)
+}
+
+fn words(alloc: Global, word: &str) -> Result<AltWords, Fail> {
+    if word.len() > 4096 {
+        return Err("a long word".into());
+    }
+    Ok(read_alt(alloc, word).ok().ok_or("a fault")?)
+}
+
+#[test]
+fn binds_by_name_and_by_number(rt: HostRuntime) -> Result<(), Fail> {
+    let alloc = rt.alloc();
+    let names = names(alloc, &["clk", "data", "clk", "4"])?;
+    let mut pins = Pins::new();
+    let bound = bind_alt(&words(alloc, "data=r")?, &names, &mut pins);
+    assert_eq!(rt; bound.ok(), Some(alt(Letter::Rise, 0b1, 0)));
+    let bound = bind_alt(&words(alloc, "2=l")?, &names, &mut pins);
+    assert_eq!(rt; bound.ok(), Some(alt(Letter::Low, 0b10, 0)));
+    let bound = bind_alt(&words(alloc, "data=e")?, &names, &mut pins);
+    assert_eq!(rt; bound.ok(), Some(alt(Letter::Edge, 0b1, 0)));
+    let unknown = ItemFault {
+        item: 0,
+        why: BindWhy::Unknown,
+    };
+    let bound = bind_alt(&words(alloc, "5=h")?, &names, &mut pins);
+    assert_eq!(rt; bound.err(), Some(unknown));
+    let bound = bind_alt(&words(alloc, "clk=s")?, &names, &mut pins);
+    assert_eq!(rt; bound.ok(), Some(alt(Letter::Steady, 0b100, 0)));
+    let bound = bind_alt(&words(alloc, "4=f")?, &names, &mut pins);
+    assert_eq!(rt; bound.ok(), Some(alt(Letter::Fall, 0b1000, 0)));
+    assert_eq!(rt; pins.as_slice(), [1, 2, 0, 3].as_slice());
+    Ok(())
+}
+
+#[test]
+fn binds_no_more_channels_than_a_sample_has_bits(rt: HostRuntime) -> Result<(), Fail> {
+    let alloc = rt.alloc();
+    let mut names = Names::new(alloc);
+    let mut terms = Vec::new(alloc);
+    for channel in 0..=MOST_PINS {
+        if names.count() < 4096 && names.push(b"x").is_err() {
+            return Err("no memory".into());
+        }
+        let reference = format!(in alloc; "{channel}").ok().ok_or("no memory")?;
+        let letter = Letter::High;
+        terms
+            .push(Term::Line { reference, letter })
+            .ok()
+            .ok_or("no memory")?;
+    }
+    if terms.len() > 4096 {
+        return Err("too many terms".into());
+    }
+    let mut pins = Pins::new();
+    let bound = bind_alt(&AltWords { terms }, &names, &mut pins);
+    let many = ItemFault {
+        item: MOST_PINS,
+        why: BindWhy::TooMany,
+    };
+    assert_eq!(rt; bound.err(), Some(many));
+    assert_eq!(rt; pins.len(), 0);
+    Ok(())
+}
+
+#[test]
+fn skips_are_items_that_bind_no_channel(rt: HostRuntime) -> Result<(), Fail> {
+    let alloc = rt.alloc();
+    let names = names(alloc, &["clk"])?;
+    let mut terms = Vec::new(alloc);
+    terms.push(Term::Skip(5)).ok().ok_or("no memory")?;
+    let reference = String::from_str(alloc, "nothing").ok().ok_or("no memory")?;
+    let letter = Letter::High;
+    terms
+        .push(Term::Line { reference, letter })
+        .ok()
+        .ok_or("no memory")?;
+    let mut pins = Pins::new();
+    let bound = bind_alt(&AltWords { terms }, &names, &mut pins);
+    let unknown = ItemFault {
+        item: 1,
+        why: BindWhy::Unknown,
+    };
+    assert_eq!(rt; bound.err(), Some(unknown));
+    let mut terms = Vec::new(alloc);
+    terms.push(Term::Skip(5)).ok().ok_or("no memory")?;
+    let bound = bind_alt(&AltWords { terms }, &names, &mut pins);
+    assert_eq!(rt; bound.ok(), Some(alt(Letter::Low, 0, 5)));
+    Ok(())
+}
+
+#[test]
+fn tells_its_faults(rt: HostRuntime) -> Result<(), Fail> {
+    let fault = CondFault {
+        at: 3,
+        why: CondWhy::Level,
+    };
+    let text = format!(in rt.alloc(); "{}", CondError::Fault(fault))
+        .ok()
+        .ok_or("no memory")?;
+    assert_eq!(rt; text.as_str(), "byte 3: no such letter");
+    let item = ItemFault {
+        item: 1,
+        why: BindWhy::Unknown,
+    };
+    let text = format!(in rt.alloc(); "{item}").ok().ok_or("no memory")?;
+    assert_eq!(rt; text.as_str(), "item 1: no such channel");
+    Ok(())
+}

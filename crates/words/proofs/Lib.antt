@@ -1,0 +1,5 @@
+pub mod Turns
+pub mod Dashes
+pub mod ChainLemmas
+pub mod ShortLemmas
+pub mod ReadableLemmas

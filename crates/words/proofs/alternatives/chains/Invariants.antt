@@ -1,0 +1,7 @@
+use Rattle.std.proofs.Common.{◌≡◌, ◌++◌, map, drop}
+use Rattle.words.specs.Settings.{chain_of}
+use Rattle.words.proofs.ChainLemmas.{kept}
+use Rattle.words.proofs.alternatives.chains.Given as goal
+
+abbrev pub invariant-loop-given : goal.invariant-loop-given
+invariant-loop-given l = map chain_of l.chains.items ++ kept (drop l.given-index l.uses) ≡ kept l.uses

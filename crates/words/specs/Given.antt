@@ -1,0 +1,14 @@
+-- What a use of an option means.
+use Rattle.std.specs.Prelude.{Option, Some, None}
+use Rattle.words.specs.Uses.{Used}
+use Rattle.words.specs.declared.uses.Given.{Given}
+use Rattle.words.specs.declared.kinds.WordFault.{WordFault}
+use Rattle.words.specs.declared.kinds.WordsError.{WordsError}
+use Rattle.words.specs.declared.kinds.WordsError.TheVariants as error
+
+abbrev pub used_of : Given → Used
+used_of given = record { name = given.name; word = given.word; text = given.text.now }
+
+abbrev pub fault_in : WordsError → Option WordFault
+fault_in (error.Fault fault) = Some fault
+fault_in error.NoMemory = None

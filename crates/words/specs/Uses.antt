@@ -1,0 +1,115 @@
+-- What the words of a command line say: its uses of options, its other words, or the first fault.
+use Rattle.std.specs.Prelude.{ℕ, Bool, true, false, not, ◌+◌, ◌==◌, ◌&&◌, nat_le, nat_lt, List, [], ◌∷◌, length, Option, Some, None, Result, Ok, Err, if◌then◌else◌, codes, is_some}
+use Rattle.std.specs.List.{list_any, filter}
+use Rattle.std.specs.Str.{bytes_eq}
+use Rattle.text_parts.specs.Reading.{read_parts}
+use Rattle.words.specs.Lexer.{Text, begins_option, long_of}
+use Rattle.words.specs.declared.kinds.Name.{Name}
+use Rattle.words.specs.declared.kinds.Name.TheVariants.{Job}
+use Rattle.words.specs.declared.kinds.WordWhy.{WordWhy}
+use Rattle.words.specs.declared.kinds.WordWhy.TheVariants as why
+use Rattle.words.specs.declared.kinds.WordFault.{WordFault}
+
+-- a word with its number, and the next word where that may be its value
+pub record Part : Type 0 where
+  pub number : ℕ
+  pub word : Text
+  pub next : Option Text
+
+-- an option whose value isn't in the word itself
+abbrev pub waits_for : Option (Text × Option Text) → Bool
+waits_for None = false
+waits_for (Some (name, None)) = true
+waits_for (Some (name, Some value)) = false
+
+abbrev pub takes_next : Text → Text → Bool
+takes_next word next = waits_for (long_of word) && not (begins_option next)
+
+-- the words, each with its number, and an option with the word that holds its value
+abbrev pub parts_from : ℕ → List Text → List Part
+parts_from number [] = []
+parts_from number (word ∷ []) = record { number = number; word = word; next = None } ∷ []
+parts_from number (word ∷ next ∷ rest) = if takes_next word next
+    then record { number = number; word = word; next = Some next } ∷ parts_from (number + 2) rest
+    else record { number = number; word = word; next = None } ∷ parts_from (number + 1) (next ∷ rest)
+
+-- the value of a first word where the next holds it, and the words behind
+abbrev pub value_behind : Text → List Text → Option Text × List Text
+value_behind word [] = (None, [])
+value_behind word (next ∷ rest) = if takes_next word next then (Some next, rest) else (None, next ∷ rest)
+
+abbrev pub number_behind : ℕ → Option Text → ℕ
+number_behind number None = number + 1
+number_behind number (Some next) = number + 2
+
+-- an option's value, or a word that is no option, with the number of the word that holds it
+pub record Used : Type 0 where
+  pub name : Option Name
+  pub word : ℕ
+  pub text : Text
+
+abbrev pub name_text : Name → Text
+name_text Job = codes "job"
+
+abbrev pub name_of : Text → Option Name
+name_of text = if bytes_eq text (codes "job") then Some Job
+    else None
+
+-- it is this option
+abbrev pub is_of : Name → Option Name → Bool
+is_of name None = false
+is_of name (Some other) = bytes_eq (name_text other) (name_text name)
+
+abbrev pub is_given : Name → List Used → Bool
+is_given name uses = list_any (λ u. is_of name u.name) uses
+
+abbrev pub fault : {X : Type 0} → ℕ → WordWhy → Result X WordFault
+fault number why = Err (record { word = number; at = 0; why = why })
+
+abbrev pub or_fault : {X : Type 0} → ℕ → Option WordWhy → Result X WordFault → Result X WordFault
+or_fault number None good = good
+or_fault number (Some why) good = fault number why
+
+-- the rules for every word
+abbrev pub why_word : ℕ → Text → Option WordWhy
+why_word number word = if nat_le 256 number then Some why.Many
+    else if nat_lt 4096 (length word) then Some why.Long
+    else if length word == 0 then Some why.Empty
+    else None
+
+-- the rules for a value
+abbrev pub why_value : Name → Text → Option WordWhy
+why_value Job value = if bytes_eq value (codes "find") then None else Some why.Value
+
+abbrev pub judged : Name → ℕ → Text → Result Used WordFault
+judged name number value = or_fault number (why_value name value) (Ok (record { name = Some name; word = number; text = value }))
+
+abbrev pub value_at : Name → ℕ → Option Text → Option Text → Result Used WordFault
+value_at name number (Some value) next = if length value == 0 then fault number why.Empty else judged name number value
+value_at name number None None = fault number why.NoValue
+value_at name number None (Some next) = or_fault (number + 1) (why_word (number + 1) next) (judged name (number + 1) next)
+
+abbrev pub named_at : List Used → Part → Option Name → Option Text → Result Used WordFault
+named_at before part None value = fault part.number why.Unknown
+named_at before part (Some name) value = if is_given name before then fault part.number why.Repeat else value_at name part.number value part.next
+
+abbrev pub option_at : List Used → Part → Option (Text × Option Text) → Result Used WordFault
+option_at before part None = fault part.number why.Unknown
+option_at before part (Some p) = named_at before part (name_of p.0) p.1
+
+-- one part, behind those before it
+abbrev pub use_at : List Used → Part → Result Used WordFault
+use_at before part = or_fault part.number (why_word part.number part.word)
+    (if begins_option part.word then option_at before part (long_of part.word)
+    else Ok (record { name = None; word = part.number; text = part.word }))
+
+-- the uses in the words, or the first fault of a word
+abbrev pub uses_of : List Text → Result (List Used) WordFault
+uses_of words = read_parts use_at [] (parts_from 0 words)
+
+-- the words that are no options
+abbrev pub is_chain : Used → Bool
+is_chain u = not (is_some u.name)
+
+abbrev pub chains_of : List Used → List Used
+chains_of uses = filter is_chain uses
