@@ -4,3 +4,4 @@ pub mod Numbers
 pub mod Standing
 pub mod Captures
 pub mod Levels
+pub mod Agreeing

@@ -2,6 +2,7 @@
 //! unit.
 #![tactic(auto)]
 
+mod alike;
 mod held;
 mod laws;
 mod reader;

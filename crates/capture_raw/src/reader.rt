@@ -1,11 +1,13 @@
 // The reader of raw captures.
 ghost use Rattle.std.specs.Prelude.{◌≡◌, ◌<◌, ◌≤◌, ℕ, length, slice_index};
 ghost use Rattle.la_base.specs.declared.samples.TheConstants.{MOST_PINS};
+ghost use Rattle.capture_raw.specs.Masks.{Covers, OfBytes};
 
 use crate::RawStep;
+use crate::alike::alike_units;
 use crate::held::{Held, MOST_BYTES};
-use crate::units::{MOST_UNIT, equal_units, number, picked};
-use la_base::{MOST_PINS, Pins, Rate, Run};
+use crate::units::{BYTES, MOST_UNIT, mask_of, number, picked, samples_of_bytes};
+use la_base::{MOST_PINS, Pins, Rate, Run, Word};
 use la_io::{Failed, Source};
 
 /// Reads units of bytes, `channels` bits rounded up to whole bytes each, and gives runs of their
@@ -15,15 +17,22 @@ pub struct RawReader {
     channels: u32,
     rate: Rate,
     pins: Pins,
+    // the bits of the unit that the pins pick
+    mask: Word,
+    // the samples of units of one byte
+    of_bytes: [Word; BYTES],
     held: Held,
     open: bool,
     ghost channels_fit: { (1 ≤ channels) × (channels ≤ MOST_PINS) },
     ghost few_pins: { length pins.items ≤ MOST_PINS },
     ghost pins_fit: { (k : ℕ) → k < length pins.items → slice_index pins.items k < channels },
+    ghost mask_covers: { Covers mask pins.items },
+    ghost table_fits: { OfBytes of_bytes pins.items },
 }
 
 impl RawReader {
-    ghost use Rattle.std.specs.Prelude.{◌≡◌, ◌+◌, ◌-◌, ◌==◌, ◌^◌, if◌then◌else◌, [], true};
+    ghost use Rattle.std.specs.Prelude.{◌≡◌, ◌+◌, ◌-◌, ◌==◌, ◌^◌, if◌then◌else◌, [], take, true};
+    ghost use Rattle.capture_raw.specs.Raw.{word_of};
     ghost use Rattle.la_io.specs.Causes.{HasCause};
     ghost use Rattle.capture_raw.specs.Reader.{Stands, Next, Gives, SameForm, IfRun, stays_open, raw_channels, raw_rate, raw_pins, raw_open, raw_unit, raw_held, raw_given};
 
@@ -38,10 +47,14 @@ impl RawReader {
         ensures rate { raw_rate result ≡ rate }
         ensures pins { raw_pins result ≡ [] }
     {
+        let pins = Pins::new();
+        let of_bytes = samples_of_bytes(&pins);
         RawReader {
             channels,
             rate,
-            pins: Pins::new(),
+            pins,
+            mask: 0,
+            of_bytes,
             held: Held::new(),
             open: true,
         }
@@ -57,7 +70,11 @@ impl RawReader {
         ensures rate { raw_rate self.new ≡ raw_rate self.old }
         ensures is_open { raw_open self.new ≡ raw_open self.old }
     {
+        let mask = mask_of(&pins);
+        let of_bytes = samples_of_bytes(&pins);
         self.pins = pins;
+        self.mask = mask;
+        self.of_bytes = of_bytes;
     }
 
     /// Whether there may be more to come.
@@ -76,17 +93,29 @@ impl RawReader {
         self.channels.div_ceil(8) as usize
     }
 
+    // The sample of the first unit of what is held.
+    fn sample(&self, unit: usize) -> Word
+        requires unit { unit ≡ raw_unit self.now }
+        requires whole { unit ≤ length (raw_held self.now) }
+        ensures { result ≡ word_of (raw_pins self.now) (take unit (raw_held self.now)) }
+    {
+        let bytes = self.held.bytes();
+        if unit == 1 {
+            return self.of_bytes[bytes[0] as usize];
+        }
+        picked(&self.pins, number(&bytes[..unit]))
+    }
+
     // The next run of what is held.
-    fn run(&mut self) -> Run
-        requires { raw_unit self.old ≤ length (raw_held self.old) }
+    fn run(&mut self, unit: usize) -> Run
+        requires unit { unit ≡ raw_unit self.old }
+        requires whole { unit ≤ length (raw_held self.old) }
         ensures gives { Gives (raw_unit self.old) (raw_pins self.old) self.old.held self.new.held result }
         ensures form { SameForm self.old self.new }
         ensures is_open { raw_open self.new ≡ raw_open self.old }
     {
-        let unit = self.unit();
-        let bytes = self.held.bytes();
-        let count = equal_units(bytes, unit);
-        let value = picked(&self.pins, number(&bytes[..unit]));
+        let count = alike_units(self.held.bytes(), unit, self.mask);
+        let value = self.sample(unit);
         self.held.advance(count * unit);
         Run {
             value,
@@ -95,8 +124,9 @@ impl RawReader {
     }
 
     /// The next run, or the end and how it came. It reads only where less than a unit is held, and
-    /// joins equal neighbouring units as far as they are held. After every answer but a run it is
-    /// closed. `Failed` comes where the source failed, after all samples that came before.
+    /// joins neighbouring units that give the same sample, as far as they are held: where units
+    /// differ in channels alone that no pin selects, they are one run. After every answer but a run
+    /// it is closed. `Failed` comes where the source failed, after all samples that came before.
     pub fn next<S: Source>(&mut self, source: &mut S) -> Result<RawStep, Failed>
         requires { raw_open self.old ≡ true }
         ensures next { Next self.old self.new (S.left source.old) (S.left source.new) result }
@@ -125,7 +155,7 @@ impl RawReader {
                 }
             }
         }
-        Ok(RawStep::Run(self.run()))
+        Ok(RawStep::Run(self.run(unit)))
     }
 
     // How the bytes end, where less than a unit is held.

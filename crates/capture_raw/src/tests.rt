@@ -166,11 +166,47 @@ fn runs_join_within_a_read(rt: HostRuntime) -> Result<(), Fail> {
     let mut bytes = [7u8; 302];
     bytes[301] = 6;
     let mut source = SureSource::new(bytes.to_vec(rt.alloc())?);
-    let given = read_all(&rt, rt.alloc(), opened(16, &[0]), &mut source)?;
-    assert_eq!(rt; given.runs.as_slice(), [(1, 150), (1, 1)].as_slice());
+    let given = read_all(&rt, rt.alloc(), opened(16, &[0, 8]), &mut source)?;
+    assert_eq!(rt; given.runs.as_slice(), [(3, 150), (1, 1)].as_slice());
     let mut source = SureSource::new(bytes.to_vec(rt.alloc())?);
     let given = read_all(&rt, rt.alloc(), opened(8, &[0]), &mut source)?;
     assert_eq!(rt; given.runs.as_slice(), [(1, 301), (0, 1)].as_slice());
+    Ok(())
+}
+
+#[test]
+fn what_no_pin_picks_parts_no_run(rt: HostRuntime) -> Result<(), Fail> {
+    let cases: [(u32, &[u32], &[u8], &[(Word, u64)]); 4] = [
+        (
+            8,
+            &[3],
+            &[0x00, 0x17, 0xf0, 0x08, 0x0f, 0x07],
+            &[(0, 3), (1, 2), (0, 1)],
+        ),
+        // bit 9 is bit 1 of the second byte
+        (16, &[9], &[1, 0, 2, 1, 3, 2, 4, 0xff], &[(0, 2), (1, 2)]),
+        (17, &[16], &[0, 0, 1, 9, 9, 1, 9, 9, 0], &[(1, 2), (0, 1)]),
+        (8, &[], &[1, 2, 3, 4], &[(0, 4)]),
+    ];
+    for (channels, pins, bytes, runs) in cases {
+        let mut source = SureSource::new(bytes.to_vec(rt.alloc())?);
+        assert!(rt; 1 <= channels && channels <= MOST_PINS);
+        let given = read_all(&rt, rt.alloc(), opened(channels, pins), &mut source)?;
+        assert_eq!(rt; given.runs.as_slice(), runs);
+        assert_eq!(rt; given.last, Some(Ok(RawStep::End)));
+    }
+    // longer than what is compared at once: bit 0 is noise
+    let mut bytes = [2u8; 200];
+    for place in 0..100 {
+        bytes[2 * place] = 3;
+    }
+    bytes[70] = 1;
+    let mut source = SureSource::new(bytes.to_vec(rt.alloc())?);
+    let given = read_all(&rt, rt.alloc(), opened(8, &[1]), &mut source)?;
+    assert_eq!(rt;
+        given.runs.as_slice(),
+        [(1, 70), (0, 1), (1, 129)].as_slice()
+    );
     Ok(())
 }
 

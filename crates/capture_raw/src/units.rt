@@ -1,21 +1,25 @@
 // Units of bytes, and the words that pins pick from them.
-ghost use Rattle.std.specs.Prelude.{◌≡◌, ◌<◌, ◌≤◌, ◌+◌, ◌*◌, ◌^◌, ℕ, length, slice_index, take, replicate};
-ghost use Rattle.la_base.specs.Groups.{groups};
+ghost use Rattle.std.specs.Prelude.{◌≡◌, ◌<◌, ◌≤◌, ℕ, length, slice_index};
 ghost use Rattle.capture_raw.specs.Raw.{number, picked};
+ghost use Rattle.capture_raw.specs.Masks.{Covers, OfBytes};
 
 use la_base::{MOST_PINS, Word};
 
+/// How many bytes there are.
+pub const BYTES: usize = 256;
+
 /// The most bytes that a unit has.
 pub const MOST_UNIT: usize = (MOST_PINS as usize + 7) / 8;
-
-// How many bytes are compared at once.
-const BLOCK: usize = 64;
 
 /// The number that the bytes of a unit say, the lowest first.
 pub fn number(unit: &[u8]) -> Word
     requires { length unit.now ≤ MOST_UNIT }
     ensures { result ≡ number unit.now }
 {
+    // The usual length, where no table serves.
+    if unit.len() == 2 {
+        return Word::from(unit[0]) + 256 * Word::from(unit[1]);
+    }
     let mut value: Word = 0;
     let mut place = unit.len();
     while place > 0 {
@@ -40,60 +44,32 @@ pub fn picked(pins: &[u32], n: Word) -> Word
     value
 }
 
-/// How many units at the front are equal.
-pub fn equal_units(bytes: &[u8], unit: usize) -> usize
-    requires some { 0 < unit }
-    requires whole { unit ≤ length bytes.now }
-    ensures some { 1 ≤ result }
-    ensures within { result * unit ≤ length bytes.now }
-    ensures equal { groups unit (take (result * unit) bytes.now) ≡ replicate result (take unit bytes.now) }
+/// A number that has the bit of each pin.
+pub fn mask_of(pins: &[u32]) -> Word
+    requires within { (k : ℕ) → k < length pins.now → slice_index pins.now k < MOST_PINS }
+    ensures { Covers result pins.now }
 {
-    let same = same_front(bytes, &bytes[unit..]);
-    if same < unit {
-        return 1;
+    let mut mask: Word = 0;
+    let mut place = 0;
+    while place < pins.len() {
+        let bit: Word = 1 << pins[place];
+        mask |= bit;
+        place += 1;
     }
-    1 + same / unit
+    mask
 }
 
-// How many bytes `a` and `b` have in common at their fronts.
-fn same_front(a: &[u8], b: &[u8]) -> usize
-    requires { length b.now ≤ length a.now }
-    ensures within { result ≤ length b.now }
-    ensures same { take result a.now ≡ take result b.now }
+/// The sample of each byte that is a unit.
+pub fn samples_of_bytes(pins: &[u32]) -> [Word; BYTES]
+    requires few { length pins.now ≤ MOST_PINS }
+    requires within { (k : ℕ) → k < length pins.now → slice_index pins.now k < MOST_PINS }
+    ensures { OfBytes result pins.now }
 {
-    // Often the first bytes differ.
-    if b.is_empty() || a[0] != b[0] {
-        return 0;
+    let mut table: [Word; BYTES] = [0; BYTES];
+    let mut byte = 0;
+    while byte < BYTES {
+        table[byte] = picked(pins, byte as Word);
+        byte += 1;
     }
-    let blocks = same_blocks(a, b);
-    blocks + same_bytes(&a[blocks..], &b[blocks..])
-}
-
-// The same, by whole blocks alone.
-fn same_blocks(a: &[u8], b: &[u8]) -> usize
-    requires { length b.now ≤ length a.now }
-    ensures within { result ≤ length b.now }
-    ensures same { take result a.now ≡ take result b.now }
-{
-    let mut done = 0;
-    while b.len() - done >= BLOCK {
-        if a[done..done + BLOCK] != b[done..done + BLOCK] {
-            return done;
-        }
-        done += BLOCK;
-    }
-    done
-}
-
-// The same, byte by byte.
-fn same_bytes(a: &[u8], b: &[u8]) -> usize
-    requires { length b.now ≤ length a.now }
-    ensures within { result ≤ length b.now }
-    ensures same { take result a.now ≡ take result b.now }
-{
-    let mut done = 0;
-    while done < b.len() && a[done] == b[done] {
-        done += 1;
-    }
-    done
+    table
 }

@@ -1,0 +1,130 @@
+// Neighbouring units that give the same sample: they agree on the bits of a mask.
+ghost use Rattle.std.specs.Prelude.{◌≡◌, ◌<◌, ◌≤◌, ◌*◌, length, take, slice_index, true};
+ghost use Rattle.capture_raw.specs.Masks.{Agree, AllAgree, SameSamples};
+
+use crate::units::{MOST_UNIT, number};
+use la_base::Word;
+
+// How many bytes are compared at once.
+const BLOCK: usize = 64;
+
+// How many bytes are compared at once under a mask.
+const SHORT_BLOCK: usize = 32;
+
+/// How many units at the front give the same sample, for pins whose bits `mask` has.
+pub fn alike_units(bytes: &[u8], unit: usize, mask: Word) -> usize
+    requires some { 0 < unit }
+    requires few { unit ≤ MOST_UNIT }
+    requires whole { unit ≤ length bytes.now }
+    ensures some { 1 ≤ result }
+    ensures within { result * unit ≤ length bytes.now }
+    ensures same { SameSamples unit mask bytes.now result }
+{
+    if unit == 1 {
+        return alike_bytes(bytes, (mask & 0xff) as u8);
+    }
+    let equal = equal_front(bytes, &bytes[unit..]);
+    // Dividing takes long.
+    if equal < unit {
+        return more_units(bytes, unit, mask, 1);
+    }
+    more_units(bytes, unit, mask, 1 + equal / unit)
+}
+
+// Goes on behind `known` units that give the same sample.
+fn more_units(bytes: &[u8], unit: usize, mask: Word, known: usize) -> usize
+    requires some { 1 ≤ known }
+    requires bytes { 0 < unit }
+    requires few { unit ≤ MOST_UNIT }
+    requires within { known * unit ≤ length bytes.now }
+    requires same { SameSamples unit mask bytes.now known }
+    ensures some { 1 ≤ result }
+    ensures within { result * unit ≤ length bytes.now }
+    ensures same { SameSamples unit mask bytes.now result }
+{
+    let first = number(&bytes[..unit]);
+    let mut count = known;
+    let mut at = known * unit;
+    while bytes.len() - at >= unit {
+        if (number(&bytes[at..at + unit]) ^ first) & mask != 0 {
+            return count;
+        }
+        at += unit;
+        count += 1;
+    }
+    count
+}
+
+// How many bytes `a` and `b` have in common at their fronts, by whole blocks.
+fn equal_front(a: &[u8], b: &[u8]) -> usize
+    requires { length b.now ≤ length a.now }
+    ensures within { result ≤ length b.now }
+    ensures same { take result a.now ≡ take result b.now }
+{
+    let mut done = 0;
+    while b.len() - done >= BLOCK {
+        // Often the first bytes differ.
+        if a[done] != b[done] || a[done..done + BLOCK] != b[done..done + BLOCK] {
+            return done;
+        }
+        done += BLOCK;
+    }
+    done
+}
+
+// How many units of one byte give the same sample.
+fn alike_bytes(bytes: &[u8], mask: u8) -> usize
+    requires { 1 ≤ length bytes.now }
+    ensures some { 1 ≤ result }
+    ensures within { result ≤ length bytes.now }
+    ensures alike { AllAgree mask (slice_index bytes.now 0) bytes.now result }
+{
+    let first = bytes[0];
+    let rest = &bytes[1..];
+    // Often the first neighbour differs.
+    if rest.is_empty() || (rest[0] ^ first) & mask != 0 {
+        return 1;
+    }
+    let blocks = agreeing_blocks(rest, first, mask);
+    1 + blocks + agreeing_bytes(&rest[blocks..], first, mask)
+}
+
+// How many bytes at the front agree with `first`, by whole blocks.
+fn agreeing_blocks(bytes: &[u8], first: u8, mask: u8) -> usize
+    ensures within { result ≤ length bytes.now }
+    ensures agree { AllAgree mask first bytes.now result }
+{
+    let mut done = 0;
+    while bytes.len() - done >= SHORT_BLOCK {
+        if !block_agrees(&bytes[done..done + SHORT_BLOCK], first, mask) {
+            return done;
+        }
+        done += SHORT_BLOCK;
+    }
+    done
+}
+
+// Whether all bytes agree with `first`. It stops nowhere, so that many are compared at once.
+fn block_agrees(bytes: &[u8], first: u8, mask: u8) -> bool
+    ensures { result ≡ true → AllAgree mask first bytes.now (length bytes.now) }
+{
+    let mut different: u8 = 0;
+    let mut place = 0;
+    while place < bytes.len() {
+        different |= bytes[place] ^ first;
+        place += 1;
+    }
+    different & mask == 0
+}
+
+// How many bytes at the front agree with `first`, byte by byte.
+fn agreeing_bytes(bytes: &[u8], first: u8, mask: u8) -> usize
+    ensures within { result ≤ length bytes.now }
+    ensures agree { AllAgree mask first bytes.now result }
+{
+    let mut done = 0;
+    while done < bytes.len() && (bytes[done] ^ first) & mask == 0 {
+        done += 1;
+    }
+    done
+}
