@@ -5,8 +5,8 @@ use Rattle.std.proofs.lemmas.Nat.{one_shl}
 use Rattle.std.proofs.lemmas.Nat.Bits.{bit_at_and, bit_at_or, bit_at_xor, bit_at-lt, bit_at-zero, bit_at-pow_same, bit_at_above, bit_at_cat_low}
 use Rattle.std.proofs.lemmas.List.{replicate_more, append-nil, drop_more, take_rest, get_or-take, get_or-drop, get_or-set_same, get_or-set_other}
 use Rattle.std.proofs.Math.Seq.{take-add}
-use Rattle.la_base.specs.Groups.{groups}
-use Rattle.la_base.specs.GroupLaws.{groups_first, groups_short}
+use Rattle.list_cuts.specs.Groups.{groups}
+use Rattle.list_cuts.proofs.GroupLaws.{groups_first, groups_short}
 use Rattle.capture_raw.specs.Raw.{number, picked, word_of, raw_samples}
 use Rattle.capture_raw.specs.Masks.{Covers, Agree, AllAgree, SameSamples}
 use Rattle.capture_raw.proofs.Captures.{samples_after}

@@ -3,8 +3,8 @@ use Rattle.std.proofs.Common.{◌≡◌, ℕ, zero, suc, ◌+◌, ◌-◌, ◌*�
 use Rattle.std.proofs.lemmas.List.{map-append, append-nil, take-append-le, take_all}
 use Rattle.std.proofs.Math.Seq.{take-append-add}
 use Rattle.std.proofs.lemmas.Bool.Decides.{nat_tests}
-use Rattle.la_base.specs.Groups.{groups, after_groups}
-use Rattle.la_base.specs.GroupLaws.{groups_append, groups_short, groups_longer}
+use Rattle.list_cuts.specs.Groups.{groups, after_groups}
+use Rattle.list_cuts.proofs.GroupLaws.{groups_append, groups_short, groups_longer}
 use Rattle.la_base.specs.declared.samples.Rate.{Rate}
 use Rattle.la_io.specs.declared.fault.CaptureFault.{CaptureFault}
 use Rattle.la_io.specs.declared.fault.CaptureFault.TheVariants.{Bytes}

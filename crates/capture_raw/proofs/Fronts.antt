@@ -5,8 +5,8 @@ use Rattle.std.proofs.Math.Seq.{take-add}
 use Rattle.std.proofs.lemmas.Slice.Eq.{slice_eq-Decides}
 use Rattle.std.proofs.lemmas.Bool.Decides.{Decides-eqb}
 use Rattle.std.specs.Cmp.Lexicographic.{pointwise}
-use Rattle.la_base.specs.Groups.{groups}
-use Rattle.la_base.specs.GroupLaws.{groups_append, groups_first, groups_short}
+use Rattle.list_cuts.specs.Groups.{groups}
+use Rattle.list_cuts.proofs.GroupLaws.{groups_append, groups_first, groups_short}
 
 true_from : (b : Bool) → false ≡ not b → b ≡ true
 true_from true e = refl

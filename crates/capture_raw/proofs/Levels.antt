@@ -3,7 +3,7 @@ use Rattle.std.proofs.Common.{◌≡◌, ℕ, zero, suc, ◌+◌, ◌-◌, ◌*�
 use Rattle.std.specs.Int.{bit_at}
 use Rattle.std.proofs.lemmas.Nat.Bits.{bit_at_lowest, bit_at-suc, bit_at-zero, bit_at-lt, bit_at_above, bit_at_cat_low, bit_at_cat_high}
 use Rattle.std.proofs.lemmas.List.{get_or-take, get_or-drop, get_or-map, get_or_past, drop-drop, length-map}
-use Rattle.la_base.specs.Groups.{first_groups, groups}
+use Rattle.list_cuts.specs.Groups.{first_groups, groups}
 use Rattle.capture_raw.specs.Raw.{number, picked, word_of, raw_samples}
 use Rattle.capture_raw.specs.Laws.{Levels}
 use Rattle.capture_raw.proofs.Numbers.{digit_more}

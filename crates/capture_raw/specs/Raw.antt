@@ -3,7 +3,7 @@ use Rattle.std.specs.Prelude.{ℕ, ◌+◌, ◌*◌, ◌/◌, ◌%◌, ◌^◌, 
 use Rattle.std.specs.Int.{bit_at}
 use Rattle.std.specs.Fmt.{decimal}
 use Rattle.std.specs.List.{range_with_len}
-use Rattle.la_base.specs.Groups.{groups}
+use Rattle.list_cuts.specs.Groups.{groups}
 use Rattle.la_base.specs.declared.samples.Rate.{Rate}
 use Rattle.la_io.specs.declared.fault.CaptureFault.TheVariants.{ShortUnit, Bytes}
 use Rattle.la_io.specs.Capture.{Stop, AtEnd, Cut, Good, Ending, Clean, Faulty, Open, Captured}

@@ -2,7 +2,7 @@ use Rattle.std.proofs.Common.{◌≡◌, ◌+◌, ◌*◌, ◌/◌, ◌%◌, ari
 use Rattle.std.proofs.lemmas.List.{take_rest}
 use Rattle.std.proofs.lemmas.Nat.{and_mask}
 use Rattle.std.proofs.Math.Nat.{div-mul-le_self}
-use Rattle.la_base.specs.Groups.{groups}
+use Rattle.list_cuts.specs.Groups.{groups}
 use Rattle.capture_raw.specs.Masks.{AllAgree, SameSamples}
 use Rattle.capture_raw.proofs.Captures.{equal_samples}
 use Rattle.capture_raw.proofs.Fronts.{equal_first, equal_run}

@@ -1,5 +1,5 @@
 use Rattle.std.proofs.Common.{refl}
-use Rattle.la_base.specs.Groups.{groups}
+use Rattle.list_cuts.specs.Groups.{groups}
 use Rattle.capture_raw.specs.Raw.{raw_samples, raw_capture}
 use Rattle.capture_raw.proofs.tests.a_short_unit.Goals as goal
 

@@ -1,4 +1,4 @@
--- A list cut into groups of n, and a row of places.
+-- A list cut into groups of n.
 use Rattle.std.specs.Prelude.{ℕ, zero, suc, ◌*◌, ◌/◌, List, [], ◌∷◌, take, drop, length}
 
 -- the first k groups of n

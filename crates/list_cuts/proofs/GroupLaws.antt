@@ -1,8 +1,10 @@
 -- What holds of lists that are cut into groups.
 use Rattle.std.proofs.Common.{◌≡◌, ℕ, zero, suc, ◌+◌, ◌*◌, ◌/◌, ◌<◌, ◌≤◌, List, [], ◌∷◌, ◌++◌, take, drop, length, sym, ◌∙◌, ap, arith, length-append, length-take-le, length-drop, append_assoc, take-append-drop, add-zero}
-use Rattle.std.proofs.lemmas.List.{take_at, drop_at, drop_all, nil_from_length, append-nil}
-use Rattle.std.proofs.Math.Nat.{add-div_left, div-eq_of_lt, lt-div-mul-add, div-mul-le_self, mul-add-div_right, div_self}
-use Rattle.la_base.specs.Groups.{first_groups, groups, after_groups}
+use Rattle.std.specs.List.{flat_map}
+use Rattle.std.specs.Prelude.{Some, slice_get}
+use Rattle.std.proofs.lemmas.List.{take_at, drop_at, drop_all, drop-drop, nil_from_length, append-nil}
+use Rattle.std.proofs.Math.Nat.{add-div_left, div-eq_of_lt, lt-div-mul-add, div-mul-le_self, mul-add-div_right, div_self, div-zero, mul-zero}
+use Rattle.list_cuts.specs.Groups.{first_groups, groups, after_groups}
 
 module _ {A : Type 0} (n : ℕ) (some : 0 < n) where
   -- less than a group gives none
@@ -35,6 +37,22 @@ module _ {A : Type 0} (n : ℕ) (some : 0 < n) where
       ∙ groups_first front (rest ++ ys) front_len
       ∙ ap (λ (l : List (List A)). front ∷ l) (groups_append m rest ys rest_len)
       ∙ ap (λ (l : List (List A)). l ++ groups n ys) (sym (ap (λ (l : List A). groups n l) parts ∙ groups_first front rest front_len))
+
+  -- less than a group is left whole
+  pub after_groups_few : (xs : List A) → length xs < n → after_groups n xs ≡ xs
+  unfolding after_groups
+  after_groups_few xs short = ap (λ (k : ℕ). drop (k * n) xs) (div-eq_of_lt short) ∙ ap (λ (k : ℕ). drop k xs) (let none : 0 * n ≡ 0 = omega arith in none)
+
+  -- what is left behind the first group
+  pub after_groups_first : (front rest : List A) → length front ≡ n → after_groups n (front ++ rest) ≡ after_groups n rest
+  unfolding after_groups
+  after_groups_first front rest is =
+      let whole : length (front ++ rest) ≡ n + length rest = omega (arith, length-append front rest) in
+      let count : length (front ++ rest) / n ≡ suc (length rest / n) = ap (λ (k : ℕ). k / n) whole ∙ add-div_left (length rest) some ∙ omega arith in
+      let more : suc (length rest / n) * n ≡ n + length rest / n * n = grind arith in
+      ap (λ (k : ℕ). drop k (front ++ rest)) (ap (λ (k : ℕ). k * n) count ∙ more)
+      ∙ sym (drop-drop (length rest / n * n) n (front ++ rest))
+      ∙ ap (λ (l : List A). drop (length rest / n * n) l) (drop_at front rest n is)
 
   module _ (xs : List A) where
     front_len : length (take (length xs / n * n) xs) ≡ length xs / n * n
@@ -103,3 +121,58 @@ module _ {A : Type 0} (n : ℕ) (some : 0 < n) where
         ap (λ (k : ℕ). k / n) (total (x ∷ [])) ∙ mul-add-div_right some (length xs / n) (length (rest ++ x ∷ [])) ∙ ap (λ (k : ℕ). length xs / n + k) (ap (λ (k : ℕ). k / n) whole ∙ div_self some) in
         let more : (length xs / n + 1) * n ≡ length xs / n * n + n = grind arith in
         drop_all _ (xs ++ x ∷ []) (omega (arith, ap (λ (k : ℕ). k * n) count, more, total (x ∷ []), whole))
+
+-- there is no group of nothing
+pub groups_of_none : {A : Type 0} (n : ℕ) (xs : List A) → n ≡ 0 → groups n xs ≡ []
+unfolding groups
+groups_of_none n xs is = let none : length xs / n ≡ 0 = ap (λ (k : ℕ). length xs / k) is ∙ div-zero (length xs) in ap (λ (k : ℕ). first_groups n k xs) none
+
+times_next : (n k : ℕ) → n + k * n ≡ suc k * n
+times_next n k = grind arith
+
+module _ {A : Type 0} (n : ℕ) where
+  first_whole : (k : ℕ) (xs : List A) → flat_map (λ g. g) (first_groups n k xs) ++ drop (k * n) xs ≡ xs
+  first_whole zero xs = let none : 0 * n ≡ 0 = omega arith in ap (λ (j : ℕ). drop j xs) none
+  first_whole (suc k) xs =
+      append_assoc (take n xs) (flat_map (λ g. g) (first_groups n k (drop n xs))) (drop (suc k * n) xs)
+      ∙ ap (λ (j : ℕ). take n xs ++ (flat_map (λ g. g) (first_groups n k (drop n xs)) ++ drop j xs)) (sym (times_next n k))
+      ∙ ap (λ (l : List A). take n xs ++ (flat_map (λ g. g) (first_groups n k (drop n xs)) ++ l)) (sym (drop-drop (k * n) n xs))
+      ∙ ap (λ (l : List A). take n xs ++ l) (first_whole k (drop n xs))
+      ∙ take-append-drop n xs
+
+  -- the groups and what they leave are the list
+  pub groups_whole : (xs : List A) → flat_map (λ g. g) (groups n xs) ++ after_groups n xs ≡ xs
+  unfolding groups after_groups
+  groups_whole xs = first_whole (length xs / n) xs
+
+  first_count : (k : ℕ) (xs : List A) → length (first_groups n k xs) ≡ k
+  first_count zero xs = λ i. 0
+  first_count (suc k) xs = ap (λ (j : ℕ). suc j) (first_count k (drop n xs))
+
+  -- there are as many as fit
+  pub groups_count : (xs : List A) → length (groups n xs) ≡ length xs / n
+  unfolding groups
+  groups_count xs = first_count (length xs / n) xs
+
+  first_at : (m k : ℕ) (xs group : List A) → m * n ≤ length xs → slice_get (first_groups n m xs) k ≡ Some group → (group ≡ take n (drop (k * n) xs)) × (length group ≡ n)
+  first_at zero k xs group long at = absurd cc
+  first_at (suc m) zero xs group long at =
+      let same : take n xs ≡ group = cc in
+      let none : 0 * n ≡ 0 = omega arith in
+      let fits : n ≤ length xs = omega (arith, times_next n m) in
+      (sym same ∙ ap (λ (j : ℕ). take n (drop j xs)) (sym none), ap (λ (l : List A). length l) (sym same) ∙ length-take-le n xs fits)
+  first_at (suc m) (suc k) xs group long at =
+      let found = first_at m k (drop n xs) group (omega (arith, times_next n m, length-drop n xs)) at in
+      (found.0 ∙ ap (λ (l : List A). take n l) (drop-drop (k * n) n xs) ∙ ap (λ (j : ℕ). take n (drop j xs)) (times_next n k), found.1)
+
+  -- group k has the n elements from place k * n on
+  pub group_at : (xs : List A) (k : ℕ) (group : List A) → slice_get (groups n xs) k ≡ Some group → (group ≡ take n (drop (k * n) xs)) × (length group ≡ n)
+  unfolding groups
+  group_at xs k group at = first_at (length xs / n) k xs group (div-mul-le_self (length xs) n) at
+
+-- and then everything is left
+pub after_groups_of_none : {A : Type 0} (n : ℕ) (xs : List A) → n ≡ 0 → after_groups n xs ≡ xs
+unfolding after_groups
+after_groups_of_none n xs is =
+    let none : length xs / n * n ≡ 0 = grind (arith, mul-zero) in
+    ap (λ (k : ℕ). drop k xs) none

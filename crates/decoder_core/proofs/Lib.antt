@@ -1,0 +1,4 @@
+pub mod Counting
+pub mod Driven
+pub mod OneDriver
+pub mod EdgeStops

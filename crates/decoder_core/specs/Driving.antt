@@ -1,0 +1,28 @@
+-- What one step of a machine does, and what a driver stands for.
+use Rattle.std.specs.Prelude.{ℕ, ◌≡◌, ◌<◌, List, ◌++◌, length, take, Option, IfSome}
+use Rattle.la_base.specs.declared.wires.Feed.{Feed}
+use Rattle.la_base.specs.declared.wires.Out.{Out}
+use Rattle.wait_cond.specs.declared.alt.Alt.{Alt}
+use Rattle.wait_cond.specs.declared.scan.Waiter.{Waiter}
+use Rattle.wait_cond.specs.Waiting.{Waits, SameNumbers, wait_from, alts_of}
+use Rattle.decoder_core.specs.Inputs.{Item, items_of, left_items, counted}
+
+-- a front of the feed was consumed, which isn't empty where the feed isn't; the outputs grew by those that were put out, and what is answered is the rest, which isn't empty. `before` and `after` say of which inputs the machine stood and stands
+pub record Steps (before after : List Item → Type 0) (outputs : List Item → List Out) (feed : Feed) (left : Option Feed) (into : List Out) : Type 0 where
+  pub front : List Item
+  pub split : items_of feed ≡ front ++ left_items left
+  pub some : 0 < length (items_of feed) → 0 < length front
+  pub more : IfSome left (λ rest. 0 < length (items_of rest))
+  pub consumes : (input : List Item) → before input → after (input ++ front)
+  pub gives : (input : List Item) → before input → outputs (input ++ front) ≡ outputs input ++ into
+
+-- a driver has consumed this input: its waiter stands for the samples that count, and its machine for those up to its last stop
+pub record Drives {L : Type 0} (stands : L → List ℕ → Type 0) (alts : L → List Alt) (machine : L) (waiter : Waiter) (input : List Item) : Type 0 where
+  pub waits : Waits waiter (counted input)
+  pub machine_stands : stands machine (take (wait_from waiter) (counted input))
+  pub cond : alts_of waiter ≡ alts machine
+
+-- two drivers hold the same: equal machines, and waiters with equal numbers
+pub record SameState {L : Type 0} (one other : L) (waiter other_waiter : Waiter) : Type 0 where
+  pub machine : one ≡ other
+  pub numbers : SameNumbers waiter other_waiter

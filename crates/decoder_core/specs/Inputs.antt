@@ -1,0 +1,31 @@
+-- What a machine is given, as one list.
+use Rattle.std.specs.Prelude.{ℕ, ◌^◌, List, [], ◌∷◌, map, take, Option, Some, None}
+use Rattle.la_base.specs.declared.wires.Packet.{Packet}
+use Rattle.la_base.specs.declared.wires.Feed.{Feed}
+use Rattle.la_base.specs.declared.wires.Feed.TheVariants.{Run as RunFeed, Packet as PacketFeed, End}
+use Rattle.la_base.specs.Samples.{samples}
+
+-- one sample, or one packet
+pub data Item : Type 0 where
+  Sample : ℕ → Item
+  Pack : Packet → Item
+
+-- the items of a feed; the end is none
+abbrev pub items_of : Feed → List Item
+items_of (RunFeed run) = map Sample (samples run)
+items_of (PacketFeed packet) = Pack packet ∷ []
+items_of End = []
+
+abbrev pub left_items : Option Feed → List Item
+left_items None = []
+left_items (Some feed) = items_of feed
+
+-- the samples among items
+abbrev pub samples_in : List Item → List ℕ
+samples_in [] = []
+samples_in (Sample value ∷ items) = value ∷ samples_in items
+samples_in (Pack packet ∷ items) = samples_in items
+
+-- those that count
+unfoldable pub counted : List Item → List ℕ
+counted items = take (2 ^ 60) (samples_in items)

@@ -1,0 +1,128 @@
+// Drives a decoder of samples by the waits that it asks for.
+ghost use Rattle.std.specs.Prelude.{◌≡◌, ◌≤◌, ◌<◌, ◌+◌, ◌^◌, [], ◌∷◌, ◌++◌, ℕ, List, length, min, replicate, ◌-◌, IfSome};
+ghost use Rattle.la_base.specs.declared.wires.Wire.TheVariants.{Logic};
+ghost use Rattle.decoder_core.specs.Inputs.{Item, Sample, counted, items_of, left_items};
+ghost use Rattle.decoder_core.specs.Driving.{Steps, Drives, SameState};
+ghost use Rattle.decoder_core.specs.CountedLaws.{nothing_counted, front_counted, few_counted};
+
+use crate::{LogicMachine, Machine, Outs};
+use la_base::{Feed, Run, Wire};
+use wait_cond::{Scan, Waiter};
+
+// How many samples count.
+const MOST_SAMPLES: u64 = 1 << 60;
+
+/// A decoder of samples as a machine of any input: it waits for the samples that the decoder asks
+/// for, and stands for the samples that count. Those are all up to number 2^60; packets don't count.
+#[derive(Drop)]
+pub struct Driver<L: LogicMachine> {
+    machine: L,
+    waiter: Waiter,
+}
+
+impl<L: LogicMachine> Driver<L> {
+    /// A driver that has consumed nothing. The machine must stand for no samples.
+    pub fn new(machine: L) -> Driver<L>
+        requires { L.stands machine [] }
+        ensures stands { Drives L.stands L.alts result.machine result.waiter [] }
+        ensures machine { result.machine ≡ machine }
+    {
+        let waiter = Waiter::new(machine.cond());
+        Driver { machine, waiter }
+    }
+
+    // Consumes samples up to their first stop.
+    fn run(&mut self, run: Run, into: &mut Outs) -> Option<Feed>
+        requires { into.old ≡ [] }
+        ensures setup { L.setup self.new.machine ≡ L.setup self.old.machine }
+        ensures step { Steps (Drives L.stands L.alts self.old.machine self.old.waiter) (Drives L.stands L.alts self.new.machine self.new.waiter)
+            (λ input. L.outs (L.setup self.old.machine) (counted input)) (Feed.Run run) result into.new }
+    {
+        let before = self.waiter.consumed();
+        if before >= MOST_SAMPLES {
+            return None;
+        }
+        match self.waiter.scan(part_of(run, MOST_SAMPLES - before)) {
+            Scan::Through => None,
+            Scan::Met { at, value, met, .. } => {
+                self.machine.resume(at, value, met, into);
+                self.waiter.renew(self.machine.cond());
+                behind(run, at + 1 - before)
+            }
+        }
+    }
+}
+
+// The front of a run, as far as there is room.
+fn part_of(run: Run, room: u64) -> Run
+    requires { 0 < room }
+    ensures len { result.len ≡ min run.len room }
+    ensures value { result.value ≡ run.value }
+{
+    Run {
+        value: run.value,
+        len: run.len.min(room),
+    }
+}
+
+// The samples of a run behind its first `count`.
+fn behind(run: Run, count: u64) -> Option<Feed>
+    requires { count ≤ run.len }
+    ensures rest { left_items result ≡ replicate (run.len - count) (Sample run.value) }
+    ensures more { IfSome result (λ rest. 0 < length (items_of rest)) }
+{
+    if count < run.len {
+        Some(Feed::Run(Run {
+            value: run.value,
+            len: run.len - count,
+        }))
+    } else {
+        None
+    }
+}
+
+impl<L: LogicMachine> Machine for Driver<L> {
+    type Setup = L::Setup;
+
+    ghost setup = { λ d. L.setup d.machine };
+
+    ghost outputs = { λ setup input. L.outs setup (counted input) };
+
+    ghost near = { λ setup input. L.near setup (counted input) };
+
+    ghost wire = { λ _. Logic };
+
+    ghost consumed = { λ d input. Drives L.stands L.alts d.machine d.waiter input };
+
+    fn wants(&self) -> Wire {
+        Wire::Logic
+    }
+
+    fn step(&mut self, feed: Feed, into: &mut Outs) -> Option<Feed> {
+        match feed {
+            Feed::Run(run) => self.run(run, into),
+            Feed::Packet(_) => None,
+            Feed::End => None,
+        }
+    }
+
+    fn floor(&self) -> u64 {
+        self.machine.floor(self.waiter.consumed())
+    }
+
+    ghost nothing = { λ d. nothing_counted (L.outs (L.setup d.machine)) (L.nothing d.machine) };
+
+    ghost prefix = { λ d. front_counted (L.outs (L.setup d.machine)) (L.prefix d.machine) };
+
+    ghost order = { λ d input. L.order d.machine (counted input) };
+
+    ghost few = { λ d. few_counted (L.outs (L.setup d.machine)) (L.few d.machine) };
+}
+
+/// The input makes the driver: two drivers of one setup that have consumed the same input hold equal
+/// machines and equal counts of samples, last stops and last samples. (A law; nothing is done.)
+pub fn one_input_makes_one_driver<L: LogicMachine>(one: &Driver<L>, other: &Driver<L>)
+    ensures { (input : List Item) → L.setup one.now.machine ≡ L.setup other.now.machine
+        → Drives L.stands L.alts one.now.machine one.now.waiter input → Drives L.stands L.alts other.now.machine other.now.waiter input
+        → SameState one.now.machine other.now.machine one.now.waiter other.now.waiter }
+{}

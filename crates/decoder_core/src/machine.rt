@@ -1,0 +1,132 @@
+// What a decoder is, by the outputs of its whole input.
+ghost use Rattle.std.specs.Prelude.{◌≡◌, ◌≤◌, ◌<◌, ◌+◌, ◌^◌, [], ◌∷◌, ◌++◌, ℕ, List, length, take};
+ghost use Rattle.la_base.specs.declared.wires.Out.{Out};
+ghost use Rattle.la_base.specs.declared.wires.Wire.{Wire};
+ghost use Rattle.wait_cond.specs.declared.alt.Alt.{Alt};
+ghost use Rattle.wait_cond.specs.Conds.{cond_alts};
+ghost use Rattle.decoder_core.specs.Inputs.{Item};
+ghost use Rattle.decoder_core.specs.Laws.{IsFloor, GivesNothing, KeepsFront, PacketsInOrder, AddsFew, Rests, IsQuiet, IsLoud, StandsThere, OneMachine, OneLastStop};
+ghost use Rattle.decoder_core.specs.Driving.{Steps};
+
+use crate::Outs;
+use la_base::{Feed, Wire, Word};
+use wait_cond::Cond;
+
+/// A decoder of samples, between two stops. It waits for a condition; what it does at a sample that
+/// meets it is all that it does. Every call is safe for every value of the type, also for one that
+/// stands for no samples; what is said of samples is said of all those that the value stands for.
+pub trait LogicMachine {
+    /// Kind, options and rate, as plain data.
+    type Setup;
+
+    /// Its kind, options and rate. No call changes them.
+    ghost setup: { Self → Self.Setup };
+
+    /// The outputs of a whole list of samples, by the decoder's definition.
+    ghost outs: { Self.Setup → List ℕ → List Out };
+
+    /// Where what has begun in these samples and isn't given yet starts; their number where nothing has.
+    ghost near: { Self.Setup → List ℕ → ℕ };
+
+    /// It stands for these samples, the last of which is its last stop.
+    ghost stands: { Self → List ℕ → Type 0 };
+
+    /// The alternatives that it waits for.
+    ghost alts: { Self → List Alt };
+
+    /// The condition of its next stop.
+    fn cond(&self) -> Cond
+        ensures { cond_alts result ≡ alts self.now };
+
+    /// Takes the stop at sample number `at`, whose value is `value`; bit i of `met` says whether it
+    /// meets alternative i. *Loud*: the outputs grow by those that are put into `into`, in their order,
+    /// and by nothing else.
+    fn resume(&mut self, at: u64, value: Word, met: u8, into: &mut Outs)
+        requires empty { into.old ≡ [] }
+        requires early { at < 2 ^ 60 }
+        ensures setup { setup self.new ≡ setup self.old }
+        ensures stands { StandsThere (stands self.old) (stands self.new) (alts self.old) at value met }
+        ensures loud { IsLoud (outs (setup self.old)) (stands self.old) (alts self.old) at value met into.new };
+
+    /// At most the start of every note that is still to come, where `next` is the number of samples
+    /// consumed so far; and at least the start of what has begun and isn't given yet.
+    fn floor(&self, next: u64) -> u64
+        ensures floor { (seen more : List ℕ) → stands self.now seen → Rests (alts self.now) seen more
+            → next ≡ length (seen ++ more) → IsFloor (outs (setup self.now)) (seen ++ more) result }
+        ensures near { (seen more : List ℕ) → stands self.now seen → Rests (alts self.now) seen more
+            → next ≡ length (seen ++ more) → near (setup self.now) (seen ++ more) ≤ result };
+
+    /// *Quiet*: samples that don't meet the condition leave the outputs as they were.
+    ghost quiet: { (machine : Self) → IsQuiet (outs (setup machine)) (stands machine) (alts machine) };
+
+    /// *Nothing*: no samples give nothing.
+    ghost nothing: { (machine : Self) → GivesNothing (outs (setup machine)) };
+
+    /// *Prefix*: the outputs of more samples begin with those of fewer.
+    ghost prefix: { (machine : Self) → KeepsFront (outs (setup machine)) };
+
+    /// *Order*: the starts of the packets never fall.
+    ghost order: { (machine : Self) → PacketsInOrder (outs (setup machine)) };
+
+    /// *Few*: one more sample adds at most 16 outputs.
+    ghost few: { (machine : Self) → AddsFew (outs (setup machine)) };
+
+    /// *One machine*: two machines of one setup that stand for the same samples are equal.
+    ghost one_machine: { OneMachine setup stands };
+
+    /// *One stop*: the samples and the setup fix the place of the last stop. Where one machine has no
+    /// further stop, another of its setup has none either.
+    ghost one_stop: { OneLastStop setup stands alts };
+}
+
+/// A decoder of any input, stop by stop. What is said of inputs is said of all those that the machine
+/// has consumed; the rest holds of every value of the type.
+pub trait Machine {
+    /// Kind, options and rate, as plain data.
+    type Setup;
+
+    /// Its kind, options and rate. No call changes them.
+    ghost setup: { Self → Self.Setup };
+
+    /// The outputs of a whole input, by the decoder's definition.
+    ghost outputs: { Self.Setup → List Item → List Out };
+
+    /// Where what has begun in this input and isn't given yet starts.
+    ghost near: { Self.Setup → List Item → ℕ };
+
+    /// The wire that it wants.
+    ghost wire: { Self.Setup → Wire };
+
+    /// It has consumed this input.
+    ghost consumed: { Self → List Item → Type 0 };
+
+    /// The wire that it wants.
+    fn wants(&self) -> Wire
+        ensures { result ≡ wire (setup self.now) };
+
+    /// Consumes a feed up to its first stop, puts the outputs of that stop into `into`, and answers
+    /// what is left of a run, if anything is. What doesn't count for this decoder is consumed whole and
+    /// gives nothing. `End` gives nothing and answers None.
+    fn step(&mut self, feed: Feed, into: &mut Outs) -> Option<Feed>
+        requires { into.old ≡ [] }
+        ensures setup { setup self.new ≡ setup self.old }
+        ensures step { Steps (consumed self.old) (consumed self.new) (outputs (setup self.old)) feed result into.new };
+
+    /// At most the start of every note that is still to come, and at least the start of what has begun
+    /// and isn't given yet.
+    fn floor(&self) -> u64
+        ensures floor { (input : List Item) → consumed self.now input → IsFloor (outputs (setup self.now)) input result }
+        ensures near { (input : List Item) → consumed self.now input → near (setup self.now) input ≤ result };
+
+    /// *Nothing*: no input gives nothing.
+    ghost nothing: { (machine : Self) → GivesNothing (outputs (setup machine)) };
+
+    /// *Prefix*: the outputs of a longer input begin with those of a shorter one.
+    ghost prefix: { (machine : Self) → KeepsFront (outputs (setup machine)) };
+
+    /// *Order*: the starts of the packets never fall.
+    ghost order: { (machine : Self) → PacketsInOrder (outputs (setup machine)) };
+
+    /// *Few*: one more sample or packet adds at most 16 outputs.
+    ghost few: { (machine : Self) → AddsFew (outputs (setup machine)) };
+}

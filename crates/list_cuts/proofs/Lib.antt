@@ -1,0 +1,6 @@
+pub mod BetweenLaws
+pub mod GroupLaws
+pub mod LastLaws
+mod Loops
+pub mod NeighbourLaws
+pub mod PartLaws

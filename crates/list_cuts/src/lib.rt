@@ -1,0 +1,20 @@
+//! Whole lists, cut: what neighbours give, parts between marks, groups of a size, and the last place at which
+//! something holds. Each is a short definition over the whole list, a law for one more element, and a plain program
+//! that computes it on small lists and that faster ones are compared with.
+#![tactic(auto)]
+
+mod groups;
+mod last;
+mod laws;
+mod neighbours;
+mod parts;
+mod test;
+#[cfg(test)]
+mod tests;
+
+pub use groups::{after_groups_of, groups_of};
+pub use last::{last_that, last_where};
+pub use laws::{between_laws, group_laws, last_laws, neighbour_laws, part_laws};
+pub use neighbours::{Gives, Rises, events_of};
+pub use parts::{Part, parts_between, parts_of};
+pub use test::Test;
