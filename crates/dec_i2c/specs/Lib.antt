@@ -1,0 +1,13 @@
+pub mod Bus
+pub mod Rows
+pub mod Known
+pub mod ClockLaws
+pub mod EventLaws
+pub mod GivenLaws
+pub mod Waits
+pub mod MetLaws
+pub mod Standing
+pub mod I2cLaws
+pub mod Opening
+pub mod MachineLaws
+pub mod Texts

@@ -1,0 +1,26 @@
+-- What an I2C decoder stands for, and how it is opened.
+use Rattle.std.specs.Prelude.{ℕ, ◌≡◌, ◌<◌, List, [], Result, Ok, Err}
+use Rattle.decoder_core.specs.declared.faults.OptFault.{OptFault}
+use Rattle.decoder_core.specs.declared.faults.OptFault.TheVariants.{Range}
+use Rattle.dec_i2c.specs.declared.held.Bus.{Bus}
+use Rattle.dec_i2c.specs.declared.held.I2c.{I2c}
+use Rattle.dec_i2c.specs.declared.held.I2cOpts.{I2cOpts}
+use Rattle.dec_i2c.specs.Known.{held_at}
+use Rattle.dec_i2c.specs.Waits.{EndsAtEvent}
+
+-- the lines of a decoder
+abbrev pub bus_of : I2c → Bus
+bus_of machine = machine.bus
+
+-- a decoder stands for samples that end with an event, or for none: it keeps what they leave to keep
+abbrev pub StandsFor : I2c → List ℕ → Type 0
+StandsFor machine list = EndsAtEvent machine.bus.scl machine.bus.sda list × (machine.held ≡ held_at machine.bus.scl machine.bus.sda list)
+
+-- both lines are bits of a sample, which has `most`
+abbrev pub InRange : ℕ → I2cOpts → Type 0
+InRange most opts = (opts.scl < most) × (opts.sda < most)
+
+-- a decoder of these lines that stands for no samples, or Range exactly where a line is out of range
+abbrev pub Opens : ℕ → I2cOpts → Result I2c OptFault → Type 0
+Opens most opts (Ok machine) = InRange most opts × (machine.bus.scl ≡ opts.scl) × (machine.bus.sda ≡ opts.sda) × StandsFor machine []
+Opens most opts (Err fault) = (fault ≡ Range) × (¬ InRange most opts)

@@ -1,0 +1,132 @@
+// I2C as a decoder of samples: it sleeps between two events.
+ghost use Rattle.std.specs.Prelude.{◌≡◌, ◌<◌, ◌^◌, ◌∷◌, [], ℕ, List};
+ghost use Rattle.dec_i2c.specs.Bus.{i2c_outs, i2c_near};
+ghost use Rattle.dec_i2c.specs.Known.{near_by};
+ghost use Rattle.dec_i2c.specs.Waits.{clock_alt, i2c_alts};
+ghost use Rattle.dec_i2c.specs.Opening.{StandsFor, Opens};
+ghost use Rattle.dec_i2c.specs.I2cLaws.{i2c_quiet, i2c_nothing, i2c_prefix, i2c_order, i2c_few, i2c_one_stop};
+ghost use Rattle.dec_i2c.specs.MachineLaws.{one_i2c, ends_too};
+
+use crate::outputs::give;
+use crate::steps::{closed, step};
+use crate::{Bus, Held, I2c, I2cOpts};
+use decoder_core::{LogicMachine, OptFault, Outs};
+use la_base::{MOST_PINS, Rate, Word, pin};
+use wait_cond::{Alt, Cond};
+
+// The mask of one line.
+fn mask(line: u32) -> Word
+    requires { line < MOST_PINS }
+    ensures { result ≡ 2 ^ line }
+{
+    1 << line
+}
+
+// SCL stays high, and these lines rise or fall.
+fn steady_alt(bus: Bus, rise: Word, fall: Word) -> Alt
+    ensures { result ≡ record { low = 0; high = 2 ^ bus.scl; rise = rise; fall = fall; edge = 0; steady = 2 ^ bus.scl; skip = 0 } }
+{
+    let scl = mask(bus.scl);
+    Alt {
+        low: 0,
+        high: scl,
+        rise,
+        fall,
+        edge: 0,
+        steady: scl,
+        skip: 0,
+    }
+}
+
+// SCL rises.
+fn clock_alt(bus: Bus) -> Alt
+    ensures { result ≡ clock_alt bus.scl }
+{
+    Alt {
+        low: 0,
+        high: 0,
+        rise: mask(bus.scl),
+        fall: 0,
+        edge: 0,
+        steady: 0,
+        skip: 0,
+    }
+}
+
+// Where the byte that has begun and isn't given yet starts, else the number of samples.
+fn near(held: Held, next: u64) -> u64
+    ensures { result ≡ near_by held next }
+{
+    if 0 < held.bits && held.bits < 8 {
+        held.first
+    } else {
+        next
+    }
+}
+
+impl I2c {
+    /// Opens a decoder of these lines at any rate; it stands for no samples. Answers Range where a line
+    /// isn't one of the bits of a sample, and never Rate.
+    pub fn open(opts: I2cOpts, _rate: Rate) -> Result<I2c, OptFault>
+        ensures { Opens MOST_PINS opts result }
+    {
+        if opts.scl < MOST_PINS && opts.sda < MOST_PINS {
+            let bus = Bus {
+                scl: opts.scl,
+                sda: opts.sda,
+            };
+            Ok(I2c {
+                bus,
+                held: closed(),
+            })
+        } else {
+            Err(OptFault::Range)
+        }
+    }
+}
+
+impl LogicMachine for I2c {
+    type Setup = Bus;
+
+    ghost setup = { λ machine. machine.bus };
+
+    ghost outs = { λ bus list. i2c_outs bus.scl bus.sda list };
+
+    ghost near = { λ bus list. i2c_near bus.scl bus.sda list };
+
+    ghost stands = { λ machine list. StandsFor machine list };
+
+    ghost alts = { λ machine. i2c_alts machine.bus.scl machine.bus.sda };
+
+    fn cond(&self) -> Cond {
+        let sda = mask(self.bus.sda);
+        let mut cond = Cond::one(steady_alt(self.bus, 0, sda));
+        cond.add(steady_alt(self.bus, sda, 0));
+        cond.add(clock_alt(self.bus));
+        cond
+    }
+
+    fn resume(&mut self, at: u64, value: Word, met: u8, into: &mut Outs) {
+        let level = pin(value, self.bus.sda);
+        give(self.held, met, at, level, into);
+        self.held = step(self.held, met, at, level);
+    }
+
+    fn floor(&self, next: u64) -> u64 {
+        near(self.held, next)
+    }
+
+    ghost quiet = { λ machine seen more _ rests. i2c_quiet machine.bus.scl machine.bus.sda seen more rests };
+
+    ghost nothing = { λ machine. i2c_nothing machine.bus.scl machine.bus.sda };
+
+    ghost prefix = { λ machine. i2c_prefix machine.bus.scl machine.bus.sda };
+
+    ghost order = { λ machine. i2c_order machine.bus.scl machine.bus.sda };
+
+    ghost few = { λ machine. i2c_few machine.bus.scl machine.bus.sda };
+
+    ghost one_machine = { λ one other list same stands also. one_i2c one other list same stands also };
+
+    ghost one_stop = { λ one other seen more same stands also rests. i2c_one_stop one.bus.scl one.bus.sda seen more (ends_too one other seen more same also) rests };
+}

@@ -1,0 +1,261 @@
+// Samples are digits: line 0 is SCL, line 1 is SDA. All is worked by hand from where they change.
+ghost use Rattle.std.specs.Prelude.{◌≤◌};
+
+use crate::{I2c, I2cOpts, text};
+use decoder_core::{Driver, Machine, OptFault, Outs};
+use la_base::{Feed, Note, Out, Packet, PacketKind, Piece, Rate, Run};
+use line_text::LineBuf;
+use std::alloc::{AllocError, Global};
+use std::test::Fail;
+
+const RATE: Rate = Rate {
+    num: 1_000_000,
+    den: 1,
+};
+
+// START, address 50h, write, ACK, a clock, STOP.
+const ONE_WRITE: &[u8] = b"31230123010101010101013";
+
+fn note(class: u16, start: u64, end: u64, a: u64) -> Out
+    requires { start ≤ end }
+{
+    Out::Note(Note {
+        class,
+        start,
+        end,
+        a,
+        b: 0,
+    })
+}
+
+fn piece(class: u16, start: u64, end: u64, byte: u8) -> Out
+    requires { start ≤ end }
+{
+    Out::Piece(Piece {
+        class,
+        start,
+        end,
+        byte,
+    })
+}
+
+fn packet(kind: PacketKind, start: u64, end: u64, a: u64, b: u64) -> Out
+    requires { start ≤ end }
+{
+    Out::Packet(Packet {
+        kind,
+        start,
+        end,
+        a,
+        b,
+    })
+}
+
+fn sample(digit: u8) -> Feed {
+    Feed::Run(Run {
+        value: (digit % 4) as u64,
+        len: 1,
+    })
+}
+
+// All outputs of samples, or none where memory is wanting.
+fn outputs(alloc: Global, digits: &[u8]) -> Result<Vec<Out>, AllocError> {
+    let mut all = Vec::new(alloc);
+    match I2c::open(I2cOpts { scl: 0, sda: 1 }, RATE) {
+        Ok(machine) => {
+            let mut driver = Driver::new(machine);
+            let mut outs = Outs::new();
+            for digit in digits {
+                outs.clear();
+                driver.step(sample(*digit), &mut outs);
+                all.extend_from_slice(outs.list())?;
+            }
+        }
+        Err(_) => {}
+    }
+    Ok(all)
+}
+
+fn an_address() -> [Out; 6] {
+    [
+        note(0, 1, 1, 0),
+        packet(PacketKind::I2cStart, 1, 1, 0, 0),
+        note(3, 3, 17, 0x50),
+        packet(PacketKind::I2cAddress, 3, 17, 0x50, 0),
+        note(7, 19, 19, 0),
+        packet(PacketKind::I2cAck, 19, 19, 0, 0),
+    ]
+}
+
+#[test]
+fn an_address_is_written_to(rt: HostRuntime) -> Result<(), Fail> {
+    let all = outputs(rt.alloc(), ONE_WRITE)?;
+    let (front, stop) = all.split_at(6.min(all.len()));
+    assert_eq!(rt; front, an_address().as_slice());
+    assert_eq!(rt;
+        stop,
+        [
+            note(2, 22, 22, 0),
+            packet(PacketKind::I2cStop, 22, 22, 0, 0)
+        ]
+        .as_slice()
+    );
+    Ok(())
+}
+
+#[test]
+fn seven_bits_behind_a_repeated_start_are_no_byte(rt: HostRuntime) -> Result<(), Fail> {
+    let all = outputs(rt.alloc(), b"31230123010101010101231010101010101013")?;
+    let (front, back) = all.split_at(6.min(all.len()));
+    assert_eq!(rt; front, an_address().as_slice());
+    assert_eq!(rt;
+        back,
+        [
+            note(1, 22, 22, 0),
+            packet(PacketKind::I2cStart, 22, 22, 1, 0),
+            note(2, 37, 37, 0),
+            packet(PacketKind::I2cStop, 37, 37, 0, 0),
+        ]
+        .as_slice()
+    );
+    Ok(())
+}
+
+// START; A1h, ACK, C3h, NACK; repeated START; A0h, ACK, 3Ch without acknowledge; STOP.
+#[test]
+fn a_read_and_a_write(rt: HostRuntime) -> Result<(), Fail> {
+    let digits = b"3123012301010101230123230101010123232323123012301010101010101012323232301013";
+    assert_eq!(rt;
+        outputs(rt.alloc(), digits)?.as_slice(),
+        [
+            note(0, 1, 1, 0),
+            packet(PacketKind::I2cStart, 1, 1, 0, 0),
+            note(4, 3, 17, 0x50),
+            packet(PacketKind::I2cAddress, 3, 17, 0x50, 1),
+            note(7, 19, 19, 0),
+            packet(PacketKind::I2cAck, 19, 19, 0, 0),
+            note(6, 21, 35, 0xC3),
+            piece(1, 21, 35, 0xC3),
+            packet(PacketKind::I2cData, 21, 35, 0xC3, 1),
+            note(8, 37, 37, 0),
+            packet(PacketKind::I2cAck, 37, 37, 1, 0),
+            note(1, 40, 40, 0),
+            packet(PacketKind::I2cStart, 40, 40, 1, 0),
+            note(3, 42, 56, 0x50),
+            packet(PacketKind::I2cAddress, 42, 56, 0x50, 0),
+            note(7, 58, 58, 0),
+            packet(PacketKind::I2cAck, 58, 58, 0, 0),
+            note(5, 60, 74, 0x3C),
+            piece(0, 60, 74, 0x3C),
+            packet(PacketKind::I2cData, 60, 74, 0x3C, 0),
+            note(2, 75, 75, 0),
+            packet(PacketKind::I2cStop, 75, 75, 0, 0),
+        ]
+        .as_slice()
+    );
+    Ok(())
+}
+
+#[test]
+fn outside_of_a_segment(rt: HostRuntime) -> Result<(), Fail> {
+    let stop = [note(2, 1, 1, 0), packet(PacketKind::I2cStop, 1, 1, 0, 0)];
+    // a STOP alone, and one with clocks behind it
+    assert_eq!(rt; outputs(rt.alloc(), b"13")?.as_slice(), stop.as_slice());
+    assert_eq!(rt;
+        outputs(rt.alloc(), b"1323232323232323232323")?.as_slice(),
+        stop.as_slice()
+    );
+    // SCL and SDA change in one sample: that is no START and no STOP
+    for digits in [b"21", b"03", b"30", b"12"] {
+        assert!(rt; outputs(rt.alloc(), digits)?.is_empty());
+    }
+    Ok(())
+}
+
+// After so many samples of the write: the clock of a byte that isn't given yet, or all samples.
+#[test]
+fn floors_of_a_write(rt: HostRuntime) -> Result<(), Fail> {
+    for (count, floor) in [
+        (0, 0),
+        (2, 2),
+        (3, 3),
+        (4, 3),
+        (17, 3),
+        (18, 18),
+        (20, 20),
+        (22, 21),
+        (23, 23),
+    ] {
+        match I2c::open(I2cOpts { scl: 0, sda: 1 }, RATE) {
+            Ok(machine) => {
+                let mut driver = Driver::new(machine);
+                let mut outs = Outs::new();
+                for digit in ONE_WRITE.iter().take(count) {
+                    outs.clear();
+                    driver.step(sample(*digit), &mut outs);
+                }
+                assert_eq!(rt; driver.floor(), floor);
+            }
+            Err(_) => return Err("not opened".into()),
+        }
+    }
+    Ok(())
+}
+
+#[test]
+fn lines_are_bits_of_a_sample(rt: HostRuntime) {
+    for (scl, sda, opens) in [
+        (0, 1, true),
+        (63, 63, true),
+        (64, 1, false),
+        (1, 64, false),
+        (u32::MAX, u32::MAX, false),
+    ] {
+        match I2c::open(I2cOpts { scl, sda }, RATE) {
+            Ok(_) => assert!(rt; opens),
+            Err(fault) => {
+                assert!(rt; !opens);
+                assert_eq!(rt; fault, OptFault::Range);
+            }
+        }
+    }
+}
+
+#[test]
+fn texts_of_notes(rt: HostRuntime) {
+    let texts: [(u16, u64, &[u8]); 11] = [
+        (0, 0, b"Start"),
+        (1, 0, b"Start repeat"),
+        (2, 0, b"Stop"),
+        (3, 0x50, b"Address write: 50"),
+        (4, 0x7F, b"Address read: 7F"),
+        (5, 0, b"Data write: 00"),
+        (6, 0xC3, b"Data read: C3"),
+        (7, 0, b"ACK"),
+        (8, 0, b"NACK"),
+        (9, 1, b""),
+        (u16::MAX, 1, b""),
+    ];
+    for (class, a, want) in texts {
+        let mut buf = LineBuf::new();
+        let note = Note {
+            class,
+            start: 0,
+            end: 0,
+            a,
+            b: 0,
+        };
+        text(note, &mut buf);
+        assert_eq!(rt; buf.bytes(), want);
+    }
+}
+
+fn is_send<T: Send>(_: &T) {}
+
+#[test]
+fn a_decoder_can_move_to_another_thread(_rt: HostRuntime) {
+    match I2c::open(I2cOpts { scl: 0, sda: 1 }, RATE) {
+        Ok(machine) => is_send(&machine),
+        Err(_) => {}
+    }
+}
