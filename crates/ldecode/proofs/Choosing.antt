@@ -9,7 +9,7 @@ use Rattle.wait_cond.specs.Grammar.{terms_of}
 use Rattle.wait_cond.specs.Words.{Meaning}
 use Rattle.wait_cond.specs.declared.alt.Alt.{Alt}
 use Rattle.wait_cond.specs.declared.faults.ItemFault.{ItemFault}
-use Rattle.words.specs.declared.settings.ChainWord.{ChainWord}
+use Rattle.text_parts.specs.declared.chain.ChainWord.{ChainWord}
 use Rattle.ldecode.specs.Asking.{EachAsks, bind_all, in_entry, channel_count}
 use Rattle.ldecode.specs.Chosen.{AreTerms, Chosen}
 

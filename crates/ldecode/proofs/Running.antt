@@ -13,11 +13,12 @@ use Rattle.wait_cond.specs.Words.{Meaning}
 use Rattle.wait_cond.specs.declared.alt.Alt.{Alt}
 use Rattle.wait_cond.specs.declared.words.CondFault.{CondFault}
 use Rattle.words.specs.Lexer.{Text}
-use Rattle.words.specs.Settings.{Values, WordText, chain_of, meaning_of, settings_of}
+use Rattle.text_parts.specs.Chains.{WordText, chain_of}
+use Rattle.words.specs.Settings.{Values, meaning_of, settings_of}
 use Rattle.words.specs.Readable.{IsReadable}
 use Rattle.words.specs.declared.settings.Settings.{Settings}
 use Rattle.words.specs.declared.kinds.WordFault.{WordFault}
-use Rattle.words.specs.declared.settings.ChainWord.{ChainWord}
+use Rattle.text_parts.specs.declared.chain.ChainWord.{ChainWord}
 use Rattle.ldecode.specs.Asking.{AsksFor, CanBind, CannotBind, IsUsual, Means, bind_all, capture_at, channel_count}
 use Rattle.ldecode.specs.Chosen.{AreTerms, Chosen}
 use Rattle.ldecode.specs.Finding.{Finds, ReadCause, WriteCause}

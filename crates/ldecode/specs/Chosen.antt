@@ -7,7 +7,7 @@ use Rattle.wait_cond.specs.Conds.{cond_alts}
 use Rattle.wait_cond.specs.Grammar.{terms_of}
 use Rattle.wait_cond.specs.Words.{Meaning}
 use Rattle.wait_cond.specs.declared.alt.Alt.{Alt}
-use Rattle.words.specs.declared.settings.ChainWord.{ChainWord}
+use Rattle.text_parts.specs.declared.chain.ChainWord.{ChainWord}
 use Rattle.ldecode.specs.Asking.{EachAsks, bind_all, channel_count, pins_of}
 use Rattle.ldecode.specs.declared.refusal.Refused.{Refused}
 use Rattle.ldecode.specs.declared.refusal.Refused.TheVariants.{Bind, NoMemory}

@@ -8,8 +8,11 @@ ghost use Rattle.std.specs.Prelude.{◌≡◌, ◌+◌, ◌<◌, ◌≤◌, ◌^
 ghost use Rattle.text_parts.specs.Reading.{FaultIsFirst, FirstIsFault};
 ghost use Rattle.text_parts.specs.Places.{Placed, placed_from, PartsFill};
 
+mod chain;
 #[cfg(test)]
 mod tests;
+
+pub use chain::ChainWord;
 
 /// The place of the part behind this one, which begins at `at`: one separator stands between them.
 pub fn place_behind(at: u32, part: &str) -> u32

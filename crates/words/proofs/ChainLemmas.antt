@@ -4,8 +4,9 @@ use Rattle.std.specs.Prelude.{is_some}
 use Rattle.std.proofs.lemmas.List.{map-append}
 use Rattle.words.specs.Given.{used_of}
 use Rattle.words.specs.Uses.{chains_of}
-use Rattle.words.specs.Settings.{WordText, chain_of, word_text}
-use Rattle.words.specs.declared.settings.ChainWord.{ChainWord}
+use Rattle.text_parts.specs.Chains.{WordText, chain_of}
+use Rattle.words.specs.Settings.{word_text}
+use Rattle.text_parts.specs.declared.chain.ChainWord.{ChainWord}
 use Rattle.words.specs.declared.uses.Given.{Given}
 
 -- the words that are no options, with their numbers

@@ -7,8 +7,9 @@ use Rattle.wait_cond.specs.Words.{Meaning}
 use Rattle.wait_cond.specs.Grammar.{terms_of}
 use Rattle.wait_cond.specs.declared.words.CondFault.{CondFault}
 use Rattle.words.specs.Readable.{IsReadable}
-use Rattle.words.specs.Settings.{WordText, chain_of, cond_fault, few_or_many, fault_of, or_else}
-use Rattle.words.specs.declared.settings.ChainWord.{ChainWord}
+use Rattle.text_parts.specs.Chains.{WordText, chain_of}
+use Rattle.words.specs.Settings.{cond_fault, few_or_many, fault_of, or_else}
+use Rattle.text_parts.specs.declared.chain.ChainWord.{ChainWord}
 
 good : (chains : List ChainWord) → None ≡ cond_fault (map chain_of chains) → All (λ chain. IsOk (terms_of (string_bytes chain.text))) chains
 good [] none = λ k d within. absurd (omega (arith, within))

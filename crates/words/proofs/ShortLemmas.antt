@@ -6,12 +6,13 @@ use Rattle.std.proofs.lemmas.Bool.Decides.{nat_tests}
 use Rattle.text_parts.specs.Reading.{then_read, read_parts}
 use Rattle.words.specs.Lexer.{Text, begins_option, long_of}
 use Rattle.words.specs.Uses.{Part, Used, chains_of, or_fault, option_at, named_at, name_of, is_given, value_at, judged, why_value, why_word, fault, use_at, parts_from, uses_of}
-use Rattle.words.specs.Settings.{WordText, chain_of, word_text}
+use Rattle.text_parts.specs.Chains.{WordText, chain_of}
+use Rattle.words.specs.Settings.{word_text}
 use Rattle.words.specs.declared.kinds.Name.{Name}
 use Rattle.words.specs.declared.kinds.WordWhy.{WordWhy}
 use Rattle.words.specs.declared.kinds.WordWhy.TheVariants as why
 use Rattle.words.specs.declared.kinds.WordFault.{WordFault}
-use Rattle.words.specs.declared.settings.ChainWord.{ChainWord}
+use Rattle.text_parts.specs.declared.chain.ChainWord.{ChainWord}
 
 abbrev IsShort : Used → Type 0
 IsShort u = is_some u.name ≡ false → length u.text ≤ 4096

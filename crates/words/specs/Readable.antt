@@ -3,7 +3,7 @@ use Rattle.std.specs.Prelude.{◌<◌, ◌≤◌, List, length, All, IsOk}
 use Rattle.std.specs.String.{string_bytes}
 use Rattle.wait_cond.specs.Grammar.{terms_of}
 use Rattle.words.specs.Settings.{most_alternatives}
-use Rattle.words.specs.declared.settings.ChainWord.{ChainWord}
+use Rattle.text_parts.specs.declared.chain.ChainWord.{ChainWord}
 
 pub record IsReadable (chains : List ChainWord) : Type 0 where
   pub some : 0 < length chains

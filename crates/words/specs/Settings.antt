@@ -1,6 +1,6 @@
 -- What the words set, or their first fault.
 use Rattle.std.specs.Prelude.{ℕ, List, [], ◌∷◌, length, map, slice_get, Option, Some, None, Result, Ok, Err}
-use Rattle.std.specs.String.{string_bytes}
+use Rattle.text_parts.specs.Chains.{WordText, chain_of}
 use Rattle.text_parts.specs.Reading.{then_read}
 use Rattle.wait_cond.specs.Words.{Meaning}
 use Rattle.wait_cond.specs.Grammar.{terms_of}
@@ -11,13 +11,7 @@ use Rattle.words.specs.declared.kinds.Job.{Job}
 use Rattle.words.specs.declared.kinds.Job.TheVariants.{Find}
 use Rattle.words.specs.declared.kinds.WordWhy.TheVariants as why
 use Rattle.words.specs.declared.kinds.WordFault.{WordFault}
-use Rattle.words.specs.declared.settings.ChainWord.{ChainWord}
 use Rattle.words.specs.declared.settings.Settings.{Settings}
-
--- a word that is no option, with its number
-pub record WordText : Type 0 where
-  pub word : ℕ
-  pub text : Text
 
 -- the value of each option, and the words that are no options
 pub record Values : Type 0 where
@@ -71,8 +65,5 @@ abbrev pub settings_of : List Text → Result Values WordFault
 settings_of words = then_read (uses_of words) (values_behind (length words))
 
 -- what the answer means
-abbrev pub chain_of : ChainWord → WordText
-chain_of chain = record { word = chain.word; text = string_bytes chain.text }
-
 abbrev pub meaning_of : Settings → Values
 meaning_of s = record { job = s.job; chains = map chain_of s.chains.items }

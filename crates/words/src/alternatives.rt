@@ -3,12 +3,13 @@ ghost use Rattle.std.specs.Prelude.{◌≡◌, ◌≤◌, List, length, map, All
 ghost use Rattle.std.specs.String.{string_bytes};
 ghost use Rattle.words.specs.Given.{used_of, fault_in};
 ghost use Rattle.words.specs.Uses.{chains_of};
-ghost use Rattle.words.specs.Settings.{chain_of, word_text, few_or_many, cond_fault};
+ghost use Rattle.text_parts.specs.Chains.{chain_of};
+ghost use Rattle.words.specs.Settings.{word_text, few_or_many, cond_fault};
 
-use crate::settings::ChainWord;
 use crate::uses::Given;
 use crate::{WordFault, WordWhy};
 use std::alloc::{AllocError, Global};
+use text_parts::ChainWord;
 use wait_cond::{CondError, read_alt};
 
 /// How many alternatives a condition may have.

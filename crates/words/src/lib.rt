@@ -12,7 +12,8 @@ mod uses;
 
 pub use kinds::{Job, Name, WordFault, WordWhy, WordsError};
 pub use read::read_words;
-pub use settings::{ChainWord, Settings};
+pub use settings::Settings;
+pub use text_parts::ChainWord;
 
 #[cfg(test)]
 mod tests;

@@ -1,12 +1,6 @@
 // What the words set.
 use crate::Job;
-
-/// A word that is no option, with its number.
-#[derive(Debug, Drop)]
-pub struct ChainWord {
-    pub word: u32,
-    pub text: String,
-}
+use text_parts::ChainWord;
 
 /// The value of each option, and the words that are no options, in order.
 #[derive(Debug, Drop)]

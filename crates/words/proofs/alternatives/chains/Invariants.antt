@@ -1,5 +1,5 @@
 use Rattle.std.proofs.Common.{◌≡◌, ◌++◌, map, drop}
-use Rattle.words.specs.Settings.{chain_of}
+use Rattle.text_parts.specs.Chains.{chain_of}
 use Rattle.words.proofs.ChainLemmas.{kept}
 use Rattle.words.proofs.alternatives.chains.Given as goal
 

@@ -1,5 +1,6 @@
 use Rattle.std.proofs.Common.{◌≡◌, map, drop}
-use Rattle.words.specs.Settings.{chain_of, cond_fault}
+use Rattle.text_parts.specs.Chains.{chain_of}
+use Rattle.words.specs.Settings.{cond_fault}
 use Rattle.words.proofs.alternatives.cond_fault.Given as goal
 
 abbrev pub invariant-loop-chain : goal.invariant-loop-chain

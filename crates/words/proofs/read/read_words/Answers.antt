@@ -1,7 +1,8 @@
 use Rattle.std.proofs.Common.{◌≡◌, None, length, map, rules}
 use Rattle.std.specs.String.{string_bytes}
 use Rattle.words.specs.Given.{used_of}
-use Rattle.words.specs.Settings.{chain_of, word_text, cond_fault, few_or_many}
+use Rattle.text_parts.specs.Chains.{chain_of}
+use Rattle.words.specs.Settings.{word_text, cond_fault, few_or_many}
 use Rattle.words.specs.Uses.{chains_of}
 use Rattle.words.proofs.ReadableLemmas.{readable}
 use Rattle.words.proofs.ShortLemmas.{chains_fit}
