@@ -1,0 +1,9 @@
+// A note and the instance that gave it.
+use la_base::Note;
+
+/// A note, and the number of the instance that gave it.
+#[derive(Clone, Copy, Debug, PartialEq, Eq)]
+pub struct Entry {
+    pub instance: u32,
+    pub note: Note,
+}

@@ -1,0 +1,13 @@
+//! The order of a listing: notes by their starts, then by the instances that gave them, and those of
+//! one instance in the order in which it gave them.
+#![tactic(auto)]
+
+mod entry;
+mod laws;
+mod sort;
+#[cfg(test)]
+mod tests;
+
+pub use entry::Entry;
+pub use laws::{instances_make_the_listing, one_order, order_keeps_each_instance};
+pub use sort::sort_entries;
