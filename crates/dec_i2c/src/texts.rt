@@ -10,7 +10,8 @@ use line_text::LineBuf;
 #[tactic(auto, using(line_text::proofs::Widths::hex_room))]
 fn labelled(label: &[u8], value: u64, buf: &mut LineBuf)
     requires { length buf.old + length label.now + 16 ≤ 256 }
-    ensures { buf.new ≡ buf.old ++ (label.now ++ hex 2 value) }
+    ensures text { buf.new ≡ buf.old ++ (label.now ++ hex 2 value) }
+    ensures short { length buf.new ≤ length buf.old + length label.now + 16 }
 {
     buf.push_bytes(label);
     buf.push_hex(value, 2);
@@ -21,7 +22,8 @@ fn labelled(label: &[u8], value: u64, buf: &mut LineBuf)
 /// with the byte, `ACK`, `NACK`. Addresses and bytes are two digits of upper case hexadecimal.
 pub fn text(note: Note, buf: &mut LineBuf)
     requires { length buf.old + 64 ≤ 256 }
-    ensures { buf.new ≡ buf.old ++ note_text note.class note.a }
+    ensures text { buf.new ≡ buf.old ++ note_text note.class note.a }
+    ensures short { length buf.new ≤ length buf.old + 64 }
 {
     match note.class {
         0 => buf.push_bytes(b"Start"),
