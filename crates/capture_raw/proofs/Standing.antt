@@ -1,6 +1,6 @@
 -- What a raw reader stands for, as it goes on.
 use Rattle.std.proofs.Common.{◌≡◌, ℕ, ◌+◌, ◌-◌, ◌*◌, ◌/◌, ◌%◌, ◌^◌, ◌≤◌, ◌<◌, List, [], ◌++◌, take, drop, length, refl, sym, ◌∙◌, ap, arith, length-append, length-take-le, length-drop, take-append-drop, Option, Bool, true, false, if◌then◌else◌, ◌==◌, Ok, subst}
-use Rattle.std.proofs.lemmas.List.{take-take, drop-append-le, take-append-le, drop-drop, take_all, nil_from_length, length-replicate}
+use Rattle.std.proofs.lemmas.List.{take-take, drop-append-le, take-append-le, drop-drop, take_all, length-replicate}
 use Rattle.std.proofs.Math.Seq.{take-add}
 use Rattle.std.proofs.Math.Nat.{mod-add-div'}
 use Rattle.std.proofs.lemmas.Nat.{mod-mul-add}
@@ -9,12 +9,12 @@ use Rattle.la_base.specs.Samples.{samples}
 use Rattle.la_base.specs.declared.samples.Rate.{Rate}
 use Rattle.la_base.specs.declared.samples.Run.{Run}
 use Rattle.la_io.specs.declared.fault.CaptureFault.TheVariants.{ShortUnit as ShortUnitFault, Bytes as BytesFault}
-use Rattle.la_io.specs.Capture.{Stop, AtEnd, Cut, Ending, Clean, Faulty, Open}
+use Rattle.la_io.specs.Capture.{Stop, AtEnd, Cut, Ending, Clean, Faulty, Open, Ends}
 use Rattle.capture_raw.specs.declared.step.RawStep.{RawStep}
 use Rattle.capture_raw.specs.declared.step.RawStep.TheVariants.{End, ShortUnit}
 use Rattle.capture_raw.specs.Held.{Front, Takes}
 use Rattle.capture_raw.specs.Raw.{unit_len, raw_samples, raw_rest, raw_capture}
-use Rattle.capture_raw.specs.Reader.{StandsAt, Ends, MeansAt, ToldEnd, stays_open}
+use Rattle.capture_raw.specs.Reader.{StandsAt, MeansAt, ToldEnd, stays_open}
 use Rattle.capture_raw.proofs.Captures.{samples_after, samples_at_end, no_samples, settled_is, ending_is, ending_full, ending_rest}
 
 module _ (unit : ℕ) (some : 0 < unit) (pins : List ℕ) where
@@ -29,13 +29,17 @@ module _ (unit : ℕ) (some : 0 < unit) (pins : List ℕ) where
         gave = no_samples unit some pins ∙ ap (λ (n : ℕ). raw_samples unit pins (take n [])) (sym none);
       }
 
-  -- other pins, where nothing was read
-  pub stands_again : (old_unit : ℕ) (old_pins : List ℕ) (front : Front) → StandsAt old_unit old_pins front [] [] → StandsAt unit pins front [] []
-  stands_again old_unit old_pins front st =
-      stands_new front (λ i. record {
-        bytes = (st.held ∙ nil_from_length (drop (0 * old_unit) []) (omega (arith, length-drop {A = ℕ} (0 * old_unit) []))) i;
-        taken = st.taken i;
-      })
+  -- other pins, where no sample was given
+  pub stands_again : (old_unit : ℕ) (old_pins : List ℕ) (front : Front) (bytes : List ℕ) → StandsAt old_unit old_pins front bytes [] → StandsAt unit pins front bytes []
+  stands_again old_unit old_pins front bytes st =
+      let none : 0 * unit ≡ 0 = omega arith in
+      let old_none : 0 * old_unit ≡ 0 = omega arith in
+      record {
+        taken = st.taken;
+        within = omega arith;
+        held = st.held ∙ ap (λ (n : ℕ). drop n bytes) (old_none ∙ sym none);
+        gave = no_samples unit some pins ∙ ap (λ (n : ℕ). raw_samples unit pins (take n bytes)) (sym none);
+      }
 
   -- bytes were taken
   pub stands_more : (old new : Front) (left_old left_new : Option (List ℕ)) (bytes before given : List ℕ) → Takes old new left_old left_new bytes → StandsAt unit pins old before given → StandsAt unit pins new (before ++ bytes) given

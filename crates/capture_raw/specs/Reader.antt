@@ -6,7 +6,7 @@ use Rattle.la_base.specs.declared.samples.Rate.{Rate}
 use Rattle.la_base.specs.declared.samples.Run.{Run}
 use Rattle.la_io.specs.declared.outside.Failed.{Failed}
 use Rattle.la_io.specs.declared.fault.CaptureFault.TheVariants.{ShortUnit as ShortUnitFault, Bytes as BytesFault}
-use Rattle.la_io.specs.Capture.{Stop, AtEnd, Cut, Ending, Clean, Faulty, Open, Captured}
+use Rattle.la_io.specs.Capture.{Stop, AtEnd, Cut, Clean, Faulty, Open, Captured, Ends}
 use Rattle.capture_raw.specs.Held.{Front}
 use Rattle.capture_raw.specs.Raw.{unit_len, raw_samples, raw_capture}
 use Rattle.capture_raw.specs.declared.reader.RawReader.{RawReader}
@@ -56,11 +56,6 @@ Stands r bytes given = StandsAt (raw_unit r) (raw_pins r) r.held bytes given
 -- what these bytes give, with its channels, rate and pins
 abbrev pub raw_cap : RawReader → List ℕ → Stop → Captured
 raw_cap r bytes stop = raw_capture (raw_channels r) (raw_rate r) (raw_pins r) bytes stop
-
--- these samples are all that a capture settles, and this is its ending
-pub record Ends (capture : Captured) (given : List ℕ) (how : Ending) : Type 0 where
-  pub settled : capture.settled ≡ given
-  pub ending : capture.ending ≡ how
 
 -- what an answer means, where these bytes were taken and these samples were given before it
 abbrev pub MeansAt : ℕ → Rate → List ℕ → Front → List ℕ → List ℕ → Result RawStep Failed → Type 0

@@ -31,7 +31,7 @@ pub struct RawReader {
 }
 
 impl RawReader {
-    ghost use Rattle.std.specs.Prelude.{◌≡◌, ◌+◌, ◌-◌, ◌==◌, ◌^◌, if◌then◌else◌, [], take, true};
+    ghost use Rattle.std.specs.Prelude.{◌≡◌, ◌+◌, ◌-◌, ◌==◌, ◌^◌, if◌then◌else◌, List, [], take, true};
     ghost use Rattle.capture_raw.specs.Raw.{word_of};
     ghost use Rattle.la_io.specs.Causes.{HasCause};
     ghost use Rattle.capture_raw.specs.Reader.{Stands, Next, Gives, SameForm, IfRun, stays_open, raw_channels, raw_rate, raw_pins, raw_open, raw_unit, raw_held, raw_given};
@@ -60,11 +60,11 @@ impl RawReader {
         }
     }
 
-    /// Bit j of each sample is channel `pins[j]` from now on. Nothing was read yet.
+    /// Bit j of each sample is channel `pins[j]` from now on. No sample was given yet.
     pub fn select(&mut self, pins: Pins)
         requires within { (k : ℕ) → k < length pins.items → slice_index pins.items k < raw_channels self.old }
-        requires fresh { Stands self.old [] [] }
-        ensures new { Stands self.new [] [] }
+        requires fresh { (bytes : List ℕ) × Stands self.old bytes [] }
+        ensures stands { (bytes : List ℕ) → Stands self.old bytes [] → Stands self.new bytes [] }
         ensures pins { raw_pins self.new ≡ pins.items }
         ensures channels { raw_channels self.new ≡ raw_channels self.old }
         ensures rate { raw_rate self.new ≡ raw_rate self.old }
@@ -75,6 +75,13 @@ impl RawReader {
         self.pins = pins;
         self.mask = mask;
         self.of_bytes = of_bytes;
+    }
+
+    /// The rate of its samples.
+    pub fn rate(&self) -> Rate
+        ensures { result ≡ raw_rate self.now }
+    {
+        self.rate
     }
 
     /// Whether there may be more to come.

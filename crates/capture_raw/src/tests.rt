@@ -2,9 +2,8 @@
 ghost use Rattle.std.specs.Prelude.{◌≡◌, ◌≤◌, [], ◌∷◌, codes, take};
 ghost use Rattle.la_base.specs.declared.samples.Rate.{Rate as ItsRate};
 ghost use Rattle.la_io.specs.declared.fault.CaptureFault.TheVariants.{ShortUnit};
-ghost use Rattle.la_io.specs.Capture.{AtEnd, Faulty};
+ghost use Rattle.la_io.specs.Capture.{AtEnd, Faulty, Ends};
 ghost use Rattle.capture_raw.specs.Raw.{raw_names, raw_capture};
-ghost use Rattle.capture_raw.specs.Reader.{Ends};
 
 use crate::{
     RawReader, RawStep, fault_stays, given_is_front, longer_extends, samples_are_levels,

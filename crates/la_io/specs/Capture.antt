@@ -1,5 +1,5 @@
 -- What the bytes of a capture give: a head, the settled samples and an ending.
-use Rattle.std.specs.Prelude.{ℕ, List}
+use Rattle.std.specs.Prelude.{ℕ, ◌≡◌, List}
 use Rattle.la_base.specs.declared.samples.Rate.{Rate}
 use Rattle.la_io.specs.declared.fault.CaptureFault.{CaptureFault}
 
@@ -25,3 +25,8 @@ pub record Captured : Type 0 where
   pub head : Head
   pub settled : List ℕ
   pub ending : Ending
+
+-- these samples are all that a capture settles, and this is its ending
+pub record Ends (capture : Captured) (given : List ℕ) (how : Ending) : Type 0 where
+  pub settled : capture.settled ≡ given
+  pub ending : capture.ending ≡ how

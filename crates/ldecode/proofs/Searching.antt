@@ -4,7 +4,7 @@ use Rattle.std.specs.Io.KnownBytes.{Appends, Consumes, IsAtEnd}
 use Rattle.std.proofs.Math.Seq.{take-length}
 use Rattle.la_base.specs.Samples.{samples}
 use Rattle.la_base.specs.declared.samples.Run.{Run}
-use Rattle.la_io.specs.Capture.{Stop as Told, AtEnd, Cut, Clean, Faulty, Open, Ending, Captured}
+use Rattle.la_io.specs.Capture.{Stop as Told, AtEnd, Cut, Clean, Faulty, Open, Ending, Captured, Ends}
 use Rattle.la_io.specs.Causes.{AppendsFront}
 use Rattle.la_io.specs.declared.fault.CaptureFault.{CaptureFault}
 use Rattle.la_io.specs.Grown.{appends_nothing, appends_on}
@@ -12,7 +12,7 @@ use Rattle.la_io.proofs.Bytes.{consumes_on}
 use Rattle.capture_raw.proofs.Captures.{unit_some}
 use Rattle.capture_raw.proofs.Standing.{given_front}
 use Rattle.capture_raw.specs.Raw.{raw_capture}
-use Rattle.capture_raw.specs.Reader.{Stands, Ends, SameForm, raw_cap, raw_channels, raw_rate, raw_pins, raw_given}
+use Rattle.capture_raw.specs.Reader.{Stands, SameForm, raw_cap, raw_channels, raw_rate, raw_pins, raw_given}
 use Rattle.capture_raw.specs.declared.reader.RawReader.{RawReader}
 use Rattle.wait_cond.specs.Stops.{Stop, Chain, AreStops}
 use Rattle.wait_cond.specs.Waiting.{Waits, alts_of, wait_from}

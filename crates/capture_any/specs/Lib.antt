@@ -1,0 +1,6 @@
+pub mod Captures
+pub mod Listings
+pub mod Reading
+pub mod Answers
+pub mod Naming
+pub mod Laws

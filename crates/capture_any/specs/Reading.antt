@@ -1,0 +1,114 @@
+-- What a reader of a capture stands for, and what its answers mean.
+use Rattle.std.specs.Prelude.{ℕ, ◌≡◌, ◌≤◌, ◌^◌, Bool, true, false, List, [], ◌++◌, length, take, Option, Some, None, Result, Ok, Err}
+use Rattle.std.specs.Io.KnownBytes.{Consumes, IsAtEnd}
+use Rattle.la_base.specs.Samples.{samples}
+use Rattle.la_base.specs.declared.samples.Rate.{Rate}
+use Rattle.la_base.specs.declared.samples.Run.{Run}
+use Rattle.la_io.specs.declared.fault.CaptureError.{CaptureError}
+use Rattle.la_io.specs.declared.fault.CaptureError.TheVariants.{Fault, Read, NoMemory}
+use Rattle.la_io.specs.Capture.{Stop, AtEnd, Cut, Good, Bad, Unread, Clean, Faulty, Open, Captured, Ends}
+use Rattle.la_io.specs.Causes.{Rose}
+use Rattle.capture_raw.specs.Reader.{Stands as RawStands, raw_channels, raw_rate, raw_pins, raw_open, raw_given}
+use Rattle.capture_any.specs.Captures.{capture_of}
+use Rattle.capture_any.specs.declared.capture.Capture.{Capture}
+use Rattle.capture_any.specs.declared.form.Form.{Form}
+use Rattle.capture_any.specs.declared.form.Form.TheVariants.{Raw}
+use Rattle.capture_any.specs.declared.reader.Reader.{Reader}
+use Rattle.capture_any.specs.declared.reader.Reader.TheVariants.{Raw as OfRaw}
+
+-- the form that a reader was opened with
+abbrev pub form_in : Reader → Form
+form_in (OfRaw reader) = Raw (raw_channels reader) (raw_rate reader)
+
+-- the channels that are the bits of its samples; none before `select`
+abbrev pub pins_in : Reader → List ℕ
+pins_in (OfRaw reader) = raw_pins reader
+
+-- the samples a second
+abbrev pub rate_in : Reader → Rate
+rate_in (OfRaw reader) = raw_rate reader
+
+-- whether there may be more to come
+abbrev pub open_in : Reader → Bool
+open_in (OfRaw reader) = raw_open reader
+
+-- a measure that rises by at least the samples of each run
+abbrev pub given_in : Reader → ℕ
+given_in (OfRaw reader) = raw_given reader
+
+-- it took these bytes, and gave these samples
+abbrev pub StandsIn : Reader → List ℕ → List ℕ → Type 0
+StandsIn (OfRaw reader) bytes given = RawStands reader bytes given
+
+-- the form that a capture was opened with
+abbrev pub form_of : Capture → Form
+form_of capture = form_in capture.reader
+
+-- the channels that are the bits of its samples; none before `select`
+abbrev pub pins_of : Capture → List ℕ
+pins_of capture = pins_in capture.reader
+
+-- the names of its channels
+abbrev pub names_of : Capture → List (List ℕ)
+names_of capture = capture.names
+
+-- the rate of its samples
+abbrev pub rate_of : Capture → Rate
+rate_of capture = rate_in capture.reader
+
+-- whether there may be more to come
+abbrev pub is_open_of : Capture → Bool
+is_open_of capture = open_in capture.reader
+
+-- a measure that rises by at least the samples of each run, and never passes 2^60
+abbrev pub given_by : Capture → ℕ
+given_by capture = given_in capture.reader
+
+-- it took these bytes, and gave these samples
+pub record Stands (capture : Capture) (bytes given : List ℕ) : Type 0 where
+  pub stands : StandsIn capture.reader bytes given
+  pub few : given_by capture ≤ 2 ^ 60
+
+-- what these bytes give, with its form and pins
+abbrev pub capture_by : Capture → List ℕ → Stop → Captured
+capture_by capture bytes told = capture_of (form_of capture) (pins_of capture) bytes told
+
+-- what an answer means, where these bytes were taken and these samples were given before it
+abbrev pub Answers : Capture → Option (List ℕ) → List ℕ → List ℕ → Result (Option Run) CaptureError → Type 0
+Answers capture left bytes given (Ok (Some run)) = Stands capture bytes (given ++ samples run)
+Answers capture left bytes given (Ok None) = IsAtEnd left × Ends (capture_by capture bytes AtEnd) given Clean
+Answers capture left bytes given (Err (Fault fault)) = (told : Stop) × (told ≡ AtEnd → IsAtEnd left) × Ends (capture_by capture bytes told) given (Faulty fault)
+Answers capture left bytes given (Err Read) = Ends (capture_by capture bytes Cut) given Open
+Answers capture left bytes given (Err NoMemory) = (count : ℕ) × (count ≤ length bytes) × (given ≡ (capture_by capture (take count bytes) Cut).settled)
+
+-- one call of `next`: the bytes that it took, and what its answer means behind them
+pub record Next (old new : Capture) (left_old left_new : Option (List ℕ)) (result : Result (Option Run) CaptureError) : Type 0 where
+  pub bytes : List ℕ
+  pub consumed : Consumes left_old left_new bytes
+  pub answers : (before given : List ℕ) → Stands old before given → Answers new left_new (before ++ bytes) given result
+
+-- whether a capture is open behind an answer
+abbrev pub stays_open : Result (Option Run) CaptureError → Bool
+stays_open (Ok (Some run)) = true
+stays_open (Ok None) = false
+stays_open (Err error) = false
+
+-- what opening means, where these bytes were taken: the head is whole, or it has a fault, or the source failed in it
+abbrev pub Opened : Form → List ℕ → Option (List ℕ) → Result Capture CaptureError → Type 0
+Opened form bytes left (Ok capture) = Stands capture bytes [] × ((capture_of form [] bytes Cut).head ≡ Good (names_of capture) (rate_of capture))
+Opened form bytes left (Err (Fault fault)) = (told : Stop) × (told ≡ AtEnd → IsAtEnd left) × ((capture_of form [] bytes told).head ≡ Bad fault)
+Opened form bytes left (Err Read) = (capture_of form [] bytes Cut).head ≡ Unread
+Opened form bytes left (Err NoMemory) = Unit {0}
+
+-- a call of `open`: the bytes that it took, and what its answer means behind them
+pub record Opens (form : Form) (left_old left_new : Option (List ℕ)) (result : Result Capture CaptureError) : Type 0 where
+  pub bytes : List ℕ
+  pub consumed : Consumes left_old left_new bytes
+  pub opened : Opened form bytes left_new result
+
+-- the source failed where the answer is Read, and only there; nothing was read behind a failure
+abbrev pub CaptureCause : {T : Type 0} → ℕ → ℕ → Result T CaptureError → Type 0
+CaptureCause before now (Ok x) = now ≡ before
+CaptureCause before now (Err (Fault fault)) = now ≡ before
+CaptureCause before now (Err Read) = (before ≤ now) × Rose before now
+CaptureCause before now (Err NoMemory) = now ≡ before

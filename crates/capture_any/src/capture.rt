@@ -1,0 +1,115 @@
+// A capture that is read.
+ghost use Rattle.std.specs.Prelude.{◌≡◌};
+ghost use Rattle.capture_any.specs.Naming.{names_in};
+
+use crate::Form;
+use crate::answer::answer_of;
+use crate::names::channel_names;
+use crate::reader::Reader;
+use capture_raw::RawReader;
+use la_base::{Names, NoMemory, Pins, Rate, Run};
+use la_io::{CaptureError, Source};
+use std::alloc::Global;
+
+/// A capture that is read from a source: its head was read as it was opened, and `next` gives its
+/// samples. The samples have no bits before `select`.
+#[derive(Drop)]
+pub struct Capture {
+    names: Names,
+    reader: Reader,
+    ghost named: { names ≡ names_in reader },
+}
+
+impl Capture {
+    ghost use Rattle.std.specs.Prelude.{◌≡◌, ◌+◌, ◌^◌, ◌<◌, ◌≤◌, ℕ, List, [], length, slice_index, true, IfOk, IfSome};
+    ghost use Rattle.capture_any.specs.Captures.{IsForm, HasNoHead};
+    ghost use Rattle.capture_any.specs.Reading.{Stands, Next, Opens, CaptureCause, stays_open, form_of, pins_of, names_of, rate_of, is_open_of, given_by};
+
+    /// Opens a capture of this form: reads its head, and no further than it must. `Fault` comes
+    /// exactly where the head has one, and `Read` where the source failed before the head was whole.
+    pub fn open<S: Source>(
+        alloc: Global,
+        form: Form,
+        source: &mut S,
+    ) -> Result<Capture, CaptureError>
+        requires { IsForm form }
+        ensures opens { Opens form (S.left source.old) (S.left source.new) result }
+        ensures form { IfOk result (λ capture. form_of capture ≡ form) }
+        ensures pins { IfOk result (λ capture. pins_of capture ≡ []) }
+        ensures is_open { IfOk result (λ capture. is_open_of capture ≡ true) }
+        ensures unread { HasNoHead form → source.new ≡ source.old }
+        ensures cause { CaptureCause (S.faults source.old) (S.faults source.new) result }
+    {
+        let mut form = form;
+        match &mut form {
+            Form::Raw { channels, rate } => match channel_names(alloc, *channels) {
+                Ok(names) => Ok(Capture {
+                    names,
+                    reader: Reader::Raw(RawReader::open(*channels, *rate)),
+                }),
+                Err(NoMemory) => Err(CaptureError::NoMemory),
+            },
+        }
+    }
+
+    /// The names of its channels.
+    pub fn names(&self) -> &Names
+        ensures { result.now ≡ names_of self.now }
+    {
+        &self.names
+    }
+
+    /// The rate of its samples.
+    pub fn rate(&self) -> Rate
+        ensures { result ≡ rate_of self.now }
+    {
+        match &self.reader {
+            Reader::Raw(reader) => reader.rate(),
+        }
+    }
+
+    /// Bit j of each sample is channel `pins[j]` from now on. No sample was given yet.
+    pub fn select(&mut self, pins: Pins)
+        requires within { (k : ℕ) → k < length pins.items → slice_index pins.items k < length (names_of self.old) }
+        requires fresh { (bytes : List ℕ) × Stands self.old bytes [] }
+        ensures stands { (bytes : List ℕ) → Stands self.old bytes [] → Stands self.new bytes [] }
+        ensures pins { pins_of self.new ≡ pins.items }
+        ensures form { form_of self.new ≡ form_of self.old }
+        ensures names { names_of self.new ≡ names_of self.old }
+        ensures rate { rate_of self.new ≡ rate_of self.old }
+        ensures is_open { is_open_of self.new ≡ is_open_of self.old }
+    {
+        match &mut self.reader {
+            Reader::Raw(reader) => reader.select(pins),
+        }
+    }
+
+    /// Whether there may be more to come.
+    pub fn is_open(&self) -> bool
+        ensures { result ≡ is_open_of self.now }
+    {
+        match &self.reader {
+            Reader::Raw(reader) => reader.is_open(),
+        }
+    }
+
+    /// The next run, or `None` at a clean end. After every answer but a run it is closed. `Fault`
+    /// comes where the capture has one, and `Read` where the source failed, both after all samples
+    /// that came before.
+    pub fn next<S: Source>(&mut self, source: &mut S) -> Result<Option<Run>, CaptureError>
+        requires { is_open_of self.old ≡ true }
+        ensures next { Next self.old self.new (S.left source.old) (S.left source.new) result }
+        ensures is_open { is_open_of self.new ≡ stays_open result }
+        ensures form { form_of self.new ≡ form_of self.old }
+        ensures pins { pins_of self.new ≡ pins_of self.old }
+        ensures names { names_of self.new ≡ names_of self.old }
+        ensures rate { rate_of self.new ≡ rate_of self.old }
+        ensures progress { IfOk result (λ step. IfSome step (λ run. given_by self.old + run.len ≤ given_by self.new)) }
+        ensures few { given_by self.new ≤ 2 ^ 60 }
+        ensures cause { CaptureCause (S.faults source.old) (S.faults source.new) result }
+    {
+        match &mut self.reader {
+            Reader::Raw(reader) => answer_of(reader.next(source)),
+        }
+    }
+}

@@ -1,0 +1,15 @@
+//! Captures of any form: what their bytes give, and one reader for all of them.
+#![tactic(auto)]
+
+mod answer;
+mod capture;
+mod end;
+mod form;
+mod laws;
+mod names;
+mod reader;
+
+pub use capture::Capture;
+pub use end::ListingEnd;
+pub use form::Form;
+pub use laws::{fault_stays, given_is_front, head_stays, longer_extends, pins_leave_the_head};
