@@ -17,3 +17,7 @@ IsForm (Raw channels rate) = (1 ≤ channels) × (channels ≤ MOST_PINS) × (ra
 -- a form whose head takes no bytes
 abbrev pub HasNoHead : Form → Type 0
 HasNoHead (Raw channels rate) = Unit {0}
+
+-- a form whose samples take no memory
+abbrev pub TakesNoMemory : Form → Type 0
+TakesNoMemory (Raw channels rate) = Unit {0}

@@ -21,8 +21,8 @@ pub struct Capture {
 }
 
 impl Capture {
-    ghost use Rattle.std.specs.Prelude.{◌≡◌, ◌+◌, ◌^◌, ◌<◌, ◌≤◌, ℕ, List, [], length, slice_index, true, IfOk, IfSome};
-    ghost use Rattle.capture_any.specs.Captures.{IsForm, HasNoHead};
+    ghost use Rattle.std.specs.Prelude.{◌≡◌, ◌≢◌, ◌+◌, ◌^◌, ◌<◌, ◌≤◌, ℕ, List, [], length, slice_index, true, IfOk, IfSome};
+    ghost use Rattle.capture_any.specs.Captures.{IsForm, HasNoHead, TakesNoMemory};
     ghost use Rattle.capture_any.specs.Reading.{Stands, Next, Opens, CaptureCause, stays_open, form_of, pins_of, names_of, rate_of, is_open_of, given_by};
 
     /// Opens a capture of this form: reads its head, and no further than it must. `Fault` comes
@@ -106,6 +106,7 @@ impl Capture {
         ensures rate { rate_of self.new ≡ rate_of self.old }
         ensures progress { IfOk result (λ step. IfSome step (λ run. given_by self.old + run.len ≤ given_by self.new)) }
         ensures few { given_by self.new ≤ 2 ^ 60 }
+        ensures memory { TakesNoMemory (form_of self.old) → result ≢ Err CaptureError.NoMemory }
         ensures cause { CaptureCause (S.faults source.old) (S.faults source.new) result }
     {
         match &mut self.reader {
