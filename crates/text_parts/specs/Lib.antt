@@ -1,3 +1,4 @@
 pub mod Reading
 pub mod Places
 pub mod Chains
+pub mod Numbers

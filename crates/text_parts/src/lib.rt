@@ -1,7 +1,8 @@
 //! Reading a text part by part, to its first fault.
 //!
-//! `specs/Reading.antt` says what it means to read parts one after another, and `specs/Places.antt`
-//! what the parts of a text are. The functions here are what holds of every such reading.
+//! `specs/Reading.antt` says what it means to read parts one after another, `specs/Places.antt` what
+//! the parts of a text are, and `specs/Numbers.antt` what a number is. The functions of this file are
+//! what holds of every such reading.
 #![tactic(auto)]
 
 ghost use Rattle.std.specs.Prelude.{◌≡◌, ◌+◌, ◌<◌, ◌≤◌, ◌^◌, length, ℕ, List, Result};
@@ -9,10 +10,12 @@ ghost use Rattle.text_parts.specs.Reading.{FaultIsFirst, FirstIsFault};
 ghost use Rattle.text_parts.specs.Places.{Placed, placed_from, PartsFill};
 
 mod chain;
+mod numbers;
 #[cfg(test)]
 mod tests;
 
 pub use chain::ChainWord;
+pub use numbers::{NumberWhy, number_in};
 
 /// The place of the part behind this one, which begins at `at`: one separator stands between them.
 pub fn place_behind(at: u32, part: &str) -> u32
