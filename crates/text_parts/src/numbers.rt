@@ -1,5 +1,5 @@
 // Decimal numbers in a range.
-ghost use Rattle.std.specs.Prelude.{◌≡◌};
+ghost use Rattle.std.specs.Prelude.{◌≡◌, ◌≤◌, IfOk};
 ghost use Rattle.text_parts.specs.Numbers.{is_number, number_in};
 
 // The most digits that a number may have: each such number fits 64 bits.
@@ -31,7 +31,8 @@ fn is_number(text: &[u8]) -> bool
 
 /// The number that a text writes in decimal digits, from `least` to `most`. Zeros may lead it.
 pub fn number_in(text: &str, least: u64, most: u64) -> Result<u64, NumberWhy>
-    ensures { result ≡ number_in least most text.now }
+    ensures gives { result ≡ number_in least most text.now }
+    ensures within { IfOk result (λ number. (least ≤ number) × (number ≤ most)) }
 {
     if !is_number(text.as_bytes()) {
         return Err(NumberWhy::Value);

@@ -5,3 +5,4 @@ pub mod ChainLemmas
 pub mod PinLemmas
 pub mod BoundLemmas
 pub mod HoldLemmas
+pub mod WordLemmas

@@ -133,25 +133,108 @@ fn fault(alloc: Global, word: &str) -> Option<(u32, CondWhy)> {
 }
 
 #[test]
-fn reads_one_term_or_its_first_fault(rt: HostRuntime) -> Result<(), Fail> {
+fn the_first_fault_of_a_word(rt: HostRuntime) {
+    let cases = [
+        ("", 0, CondWhy::Empty),
+        (",", 0, CondWhy::Empty),
+        (",D0=r", 0, CondWhy::Empty),
+        ("D0=r,", 5, CondWhy::Empty),
+        ("D0=r,,D1=h", 5, CondWhy::Empty),
+        ("any,", 0, CondWhy::Term),
+        ("any,any", 0, CondWhy::Term),
+        ("D0=r,any", 5, CondWhy::Term),
+        ("D0", 0, CondWhy::Term),
+        ("skip", 0, CondWhy::Term),
+        ("=h", 0, CondWhy::Term),
+        ("D0=r,=", 5, CondWhy::Term),
+        ("D0=", 3, CondWhy::Level),
+        ("D0=q", 3, CondWhy::Level),
+        ("D0=R", 3, CondWhy::Level),
+        ("D0=rh", 3, CondWhy::Level),
+        ("D0=r=r", 3, CondWhy::Level),
+        ("\u{e9}=q", 3, CondWhy::Level),
+        ("D0=q,skip=0", 3, CondWhy::Level),
+        ("skip=1,D0=q", 10, CondWhy::Level),
+        ("skip=", 5, CondWhy::Skip),
+        ("skip=0", 5, CondWhy::Skip),
+        ("skip=r", 5, CondWhy::Skip),
+        ("skip=+1", 5, CondWhy::Skip),
+        ("skip=1x", 5, CondWhy::Skip),
+        // 2^60, and 20 digits
+        ("skip=1152921504606846976", 5, CondWhy::Skip),
+        ("skip=00000000000000000001", 5, CondWhy::Skip),
+        ("skip=1,skip=1", 12, CondWhy::Skip),
+        ("D0=r,skip=2,D1=h,skip=x", 22, CondWhy::Skip),
+    ];
+    for (word, at, why) in cases {
+        assert_eq!(rt; fault(rt.alloc(), word), Some((at, why)), "{word}");
+    }
+}
+
+// So many terms `0=h` with a comma behind each, and then this.
+fn behind_terms(alloc: Global, count: u32, last: &str) -> Result<String, Fail> {
+    let mut word = String::new(alloc);
+    for _ in 0..count {
+        word.push_str("0=h,")?;
+    }
+    word.push_str(last)?;
+    Ok(word)
+}
+
+#[test]
+fn the_term_behind_64_is_one_too_many(rt: HostRuntime) -> Result<(), Fail> {
     let alloc = rt.alloc();
-    let words = read_alt(alloc, "D0=r").ok().ok_or("a fault")?;
-    assert_eq!(rt; words.terms.len(), 1);
+    for (count, last, at, why) in [
+        (64, "0=h", 256, CondWhy::Many),
+        (64, "", 256, CondWhy::Many),
+        (64, "skip=0", 256, CondWhy::Many),
+        (63, "0", 252, CondWhy::Term),
+        (63, "", 252, CondWhy::Empty),
+    ] {
+        let word = behind_terms(alloc, count, last)?;
+        assert_eq!(rt; fault(alloc, word.as_str()), Some((at, why)));
+    }
+    let word = behind_terms(alloc, 63, "0=h")?;
+    assert_eq!(rt; words(alloc, word.as_str())?.terms.len(), 64);
+    Ok(())
+}
+
+// How many terms a good word has, and the number of its skip, or 0.
+fn terms(alloc: Global, word: &str) -> Result<(usize, u64), Fail> {
+    let words = words(alloc, word)?;
+    let mut skip = 0;
+    for term in &words.terms {
+        if let Term::Skip(number) = term {
+            skip = *number;
+        }
+    }
+    Ok((words.terms.len(), skip))
+}
+
+#[test]
+fn the_terms_of_a_word(rt: HostRuntime) -> Result<(), Fail> {
+    let alloc = rt.alloc();
+    for (word, count, skip) in [
+        ("any", 0, 0),
+        ("D0=r", 1, 0),
+        ("skip=3", 1, 3),
+        ("skip=007", 1, 7),
+        ("skip=0000000000000000001", 1, 1),
+        ("skip=1152921504606846975", 1, 1152921504606846975),
+        ("D0=r,D1=h,skip=2", 3, 2),
+        ("skip=2,D1=l,D1=e,D1=l", 4, 2),
+        ("SKIP=e", 1, 0),
+        ("any=s", 1, 0),
+        (" =f", 1, 0),
+    ] {
+        assert_eq!(rt; terms(alloc, word)?, (count, skip), "{word}");
+    }
+    let words = words(alloc, "D0=r,skip=2")?;
     let Some(Term::Line { reference, letter }) = words.terms.first() else {
         return Err("no line".into());
     };
     assert_eq!(rt; reference.as_str(), "D0");
     assert_eq!(rt; *letter, Letter::Rise);
-    assert_eq!(rt; fault(alloc, ""), Some((0, CondWhy::Empty)));
-    assert_eq!(rt; fault(alloc, "any"), Some((0, CondWhy::Term)));
-    assert_eq!(rt; fault(alloc, "D0"), Some((0, CondWhy::Term)));
-    assert_eq!(rt; fault(alloc, "=h"), Some((0, CondWhy::Term)));
-    assert_eq!(rt; fault(alloc, "D0=q"), Some((3, CondWhy::Level)));
-    assert_eq!(rt; fault(alloc, "D0=r=r"), Some((3, CondWhy::Level)));
-    assert_eq!(rt; fault(alloc, "skip=3"), Some((5, CondWhy::Level)));
-    assert_eq!(rt; fault(alloc, "D0=q,D1=h"), Some((3, CondWhy::Level)));
-    assert_eq!(rt; fault(alloc, "D0=r,D1=h"), Some((5, CondWhy::Many)));
-    assert_eq!(rt; fault(alloc, "D0=r,"), Some((5, CondWhy::Many)));
     Ok(())
 }
 
@@ -195,6 +278,16 @@ fn binds_by_name_and_by_number(rt: HostRuntime) -> Result<(), Fail> {
     let bound = bind_alt(&words(alloc, "4=f")?, &names, &mut pins);
     assert_eq!(rt; bound.ok(), Some(alt(Letter::Fall, 0b1000, 0)));
     assert_eq!(rt; pins.as_slice(), [1, 2, 0, 3].as_slice());
+    let bound = bind_alt(&words(alloc, "any")?, &names, &mut pins);
+    assert_eq!(rt; bound.ok(), Some(alt(Letter::Low, 0, 0)));
+    let bound = bind_alt(&words(alloc, "1=h,skip=4,3=h")?, &names, &mut pins);
+    assert_eq!(rt; bound.ok(), Some(alt(Letter::High, 0b1001, 4)));
+    let late = ItemFault {
+        item: 2,
+        why: BindWhy::Unknown,
+    };
+    let bound = bind_alt(&words(alloc, "skip=1,data=h,none=h")?, &names, &mut pins);
+    assert_eq!(rt; bound.err(), Some(late));
     Ok(())
 }
 

@@ -3,21 +3,21 @@ use Rattle.text_parts.specs.Numbers.{is_number, number_after}
 use Rattle.text_parts.proofs.NumberLemmas.{parsed, accepted, outside}
 use Rattle.text_parts.proofs.numbers.number_in.Goals as goal
 
-pub returns-in_default : goal.returns-in_default
-returns-in_default c =
+pub returns-in_default-clause-gives : goal.returns-in_default-clause-gives
+returns-in_default-clause-gives c =
     let e : is_number c.args.text.now ≡ true = search rules in
     let p = parsed c.args.text.now c.parse.result c.parse.ensures.value.0 e c.if-text-gt-MOST_DIGITS.false in
     absurd (c.in_default.not-Ok _ p)
 
-pub returns-then-number-least : goal.returns-then-number-least
-returns-then-number-least c =
+pub returns-then-number-least-clause-gives : goal.returns-then-number-least-clause-gives
+returns-then-number-least-clause-gives c =
     let e : is_number c.args.text.now ≡ true = search rules in
     let p = parsed c.args.text.now c.parse.result c.parse.ensures.value.0 e c.if-text-gt-MOST_DIGITS.false in
     let n : c.in-Ok.number ≡ number_after 0 c.args.text.now = cc in
     sym (outside c.args.text.now _ _ e c.if-text-gt-MOST_DIGITS.false (rw n at c.then-number-least.either))
 
-pub returns : goal.returns
-returns c =
+pub returns-clause-gives : goal.returns-clause-gives
+returns-clause-gives c =
     let e : is_number c.args.text.now ≡ true = search rules in
     let p = parsed c.args.text.now c.parse.result c.parse.ensures.value.0 e c.if-text-gt-MOST_DIGITS.false in
     let n : c.in-Ok.number ≡ number_after 0 c.args.text.now = cc in
