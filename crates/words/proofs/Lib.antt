@@ -1,5 +1,12 @@
-pub mod Turns
+pub mod Agrees
+pub mod Cuts
 pub mod Dashes
-pub mod ChainLemmas
-pub mod ShortLemmas
+pub mod Kept
+pub mod KeptRules
 pub mod ReadableLemmas
+pub mod Rows
+pub mod Searches
+pub mod Shapes
+pub mod Taken
+pub mod Turns
+pub mod Walking

@@ -1,8 +1,9 @@
 -- One turn of the loop over the words.
-use Rattle.std.proofs.Common.{◌≡◌, ℕ, ◌+◌, ◌<◌, ◌≤◌, Bool, true, false, cond, List, [], ◌∷◌, ◌++◌, length, Option, Some, None, Ok, refl, sym, ◌∙◌, ap, arith}
+use Rattle.std.proofs.Common.{◌≡◌, ℕ, ◌+◌, ◌<◌, ◌≤◌, Bool, true, false, cond, List, [], ◌∷◌, ◌++◌, length, Option, Some, None, Ok, Err, refl, sym, ◌∙◌, ap, arith}
 use Rattle.std.specs.Prelude.{is_some}
 use Rattle.text_parts.specs.Reading.{then_read, read_parts}
 use Rattle.words.specs.Lexer.{Text}
+use Rattle.words.specs.declared.kinds.WordFault.{WordFault}
 use Rattle.words.specs.Uses.{Used, number_behind, parts_from, takes_next, use_at, value_behind}
 
 parts_turn : (number : ℕ) (word : Text) (behind : List Text)
@@ -26,6 +27,10 @@ module _ (before : List Used) (number : ℕ) (words : List Text) (word : Text) (
       → read_parts use_at before (parts_from number words) ≡ read_parts use_at (before ++ u ∷ []) (parts_from (number_behind number next) rest)
   use_more u good = ap (read_parts use_at before) parts_are
       ∙ ap (λ r. then_read r (λ u. read_parts use_at (before ++ u ∷ []) (parts_from (number_behind number next) rest))) good
+
+  pub use_stops : (fault : WordFault) → use_at before (record { number = number; word = word; next = next }) ≡ Err fault → read_parts use_at before (parts_from number words) ≡ Err fault
+  use_stops fault bad = ap (read_parts use_at before) parts_are
+      ∙ ap (λ r. then_read r (λ u. read_parts use_at (before ++ u ∷ []) (parts_from (number_behind number next) rest))) bad
 
   pub fewer_words : length rest < length words
   fewer_words = let e = ap length first in let h = ap (λ p. length p.1) value in let l = shorter in omega arith

@@ -9,6 +9,7 @@ use Rattle.words.specs.declared.kinds.WordsError.TheVariants as error
 abbrev pub used_of : Given → Used
 used_of given = record { name = given.name; word = given.word; text = given.text.now }
 
+-- the fault that an error tells; want of memory tells none
 abbrev pub fault_in : WordsError → Option WordFault
 fault_in (error.Fault fault) = Some fault
 fault_in error.NoMemory = None

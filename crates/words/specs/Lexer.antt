@@ -1,6 +1,6 @@
 -- What a word looks like.
-use Rattle.std.specs.Prelude.{ℕ, Bool, false, ◌==◌, List, [], ◌∷◌, length, Option, Some, None, if◌then◌else◌, option_and_then}
-use Rattle.std.specs.List.{before_first, after_first, position_or_len}
+use Rattle.std.specs.Prelude.{ℕ, Bool, false, ◌==◌, List, [], ◌∷◌, Option, Some, None, if◌then◌else◌, option_and_then}
+use Rattle.std.specs.List.{list_any, before_first, after_first}
 
 abbrev pub Text : Type 0
 Text = List ℕ
@@ -15,16 +15,17 @@ abbrev pub behind_dash : Text → Option Text
 behind_dash [] = None
 behind_dash (byte ∷ rest) = if byte == 45 then Some rest else None
 
-abbrev pub is_equals : ℕ → Bool
-is_equals byte = byte == 61
+-- what stands before the first of such bytes, and what stands after it if there is one
+abbrev pub cut_at : ℕ → Text → Text × Option Text
+cut_at mark text = (
+  before_first (λ byte. byte == mark) text,
+  if list_any (λ byte. byte == mark) text then Some (after_first (λ byte. byte == mark) text) else None,
+)
 
--- what stands before the first `=`, and what stands after it if there is one
-abbrev pub name_and_value : Text → Text × Option Text
-name_and_value text = if position_or_len is_equals text == length text then (text, None) else (before_first is_equals text, Some (after_first is_equals text))
-
+-- a text that isn't empty, cut at its first `=`
 abbrev pub long_rest : Text → Option (Text × Option Text)
 long_rest [] = None
-long_rest (byte ∷ rest) = Some (name_and_value (byte ∷ rest))
+long_rest (byte ∷ rest) = Some (cut_at 61 (byte ∷ rest))
 
 -- the name and the value of `--NAME` or `--NAME=VALUE`; `--` alone has none
 abbrev pub long_of : Text → Option (Text × Option Text)

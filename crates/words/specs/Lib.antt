@@ -1,5 +1,9 @@
 pub mod Lexer
+pub mod Options
+pub mod Rows
+pub mod Rates
 pub mod Uses
 pub mod Given
 pub mod Settings
 pub mod Readable
+pub mod App

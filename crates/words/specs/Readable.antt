@@ -1,12 +1,17 @@
--- What good words hold: at least one alternative, not too many, and each can be read.
-use Rattle.std.specs.Prelude.{◌<◌, ◌≤◌, List, length, All, IsOk}
+-- What good words hold: at least one word that is no option, not too many, and for find each can be read.
+use Rattle.std.specs.Prelude.{◌≡◌, ◌<◌, ◌≤◌, List, length, All, IsOk}
 use Rattle.std.specs.String.{string_bytes}
-use Rattle.wait_cond.specs.Grammar.{terms_of}
-use Rattle.words.specs.Settings.{most_alternatives}
 use Rattle.text_parts.specs.declared.chain.ChainWord.{ChainWord}
+use Rattle.wait_cond.specs.Grammar.{terms_of}
+use Rattle.words.specs.Settings.{most_chains}
+use Rattle.words.specs.declared.kinds.Job.{Job}
+use Rattle.words.specs.declared.kinds.Job.TheVariants.{Find}
 
-pub record IsReadable (chains : List ChainWord) : Type 0 where
+abbrev pub IsShort : ChainWord → Type 0
+IsShort chain = length (string_bytes chain.text) ≤ 4096
+
+pub record IsReadable (job : Job) (chains : List ChainWord) : Type 0 where
   pub some : 0 < length chains
-  pub few : length chains ≤ most_alternatives
-  pub short : All (λ chain. length (string_bytes chain.text) ≤ 4096) chains
-  pub good : All (λ chain. IsOk (terms_of (string_bytes chain.text))) chains
+  pub few : length chains ≤ most_chains job
+  pub short : All IsShort chains
+  pub good : job ≡ Find → All (λ chain. IsOk (terms_of (string_bytes chain.text))) chains

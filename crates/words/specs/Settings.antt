@@ -1,42 +1,91 @@
 -- What the words set, or their first fault.
-use Rattle.std.specs.Prelude.{ℕ, List, [], ◌∷◌, length, map, slice_get, Option, Some, None, Result, Ok, Err}
+use Rattle.std.specs.Prelude.{◌≡◌, ℕ, Bool, List, [], ◌∷◌, length, map, slice_get, find, Option, Some, None, Result, Ok, Err, if◌then◌else◌, codes, option_map, option_and_then, unwrap_or}
+use Rattle.std.specs.Str.{bytes_eq}
 use Rattle.text_parts.specs.Chains.{WordText, chain_of}
+use Rattle.text_parts.specs.Numbers.{number_after}
 use Rattle.text_parts.specs.Reading.{then_read}
 use Rattle.wait_cond.specs.Words.{Meaning}
 use Rattle.wait_cond.specs.Grammar.{terms_of}
 use Rattle.wait_cond.specs.declared.words.CondFault.{CondFault}
 use Rattle.words.specs.Lexer.{Text}
-use Rattle.words.specs.Uses.{Used, chains_of, uses_of}
+use Rattle.words.specs.Options.{row}
+use Rattle.words.specs.Rates.{RateNumbers, numbers_of, rate_written}
+use Rattle.words.specs.Uses.{Used, chains_of, is_of, uses_of, why_value}
+use Rattle.words.specs.declared.kinds.Format.{Format}
+use Rattle.words.specs.declared.kinds.Format.TheVariants.{Raw}
 use Rattle.words.specs.declared.kinds.Job.{Job}
-use Rattle.words.specs.declared.kinds.Job.TheVariants.{Find}
+use Rattle.words.specs.declared.kinds.Job.TheVariants.{Decode, Find}
 use Rattle.words.specs.declared.kinds.WordWhy.TheVariants as why
 use Rattle.words.specs.declared.kinds.WordFault.{WordFault}
+use Rattle.words.specs.declared.options.Name.{Name}
+use Rattle.words.specs.declared.options.Name.TheVariants as name
 use Rattle.words.specs.declared.settings.Settings.{Settings}
 
 -- the value of each option, and the words that are no options
 pub record Values : Type 0 where
   pub job : Job
+  pub format : Format
+  pub channels : ℕ
+  pub rate : RateNumbers
+  pub threads : Bool
+  pub ring : ℕ
+  pub show : Option WordText
   pub chains : List WordText
 
 abbrev pub word_text : Used → WordText
 word_text u = record { word = u.word; text = u.text }
 
-abbrev pub values_of : List Used → Values
-values_of uses = record { job = Find; chains = map word_text (chains_of uses) }
+-- the use of an option
+abbrev pub use_of : Name → List Used → Option Used
+use_of name uses = find (λ u. is_of name u.name) uses
 
--- the most alternatives that a condition may have
-abbrev pub most_alternatives : ℕ
-most_alternatives = 1
+-- the value of an option: the one that is given, else the usual one
+abbrev pub value_of : Name → List Used → Text
+value_of name uses = unwrap_or (option_map (λ u. u.text) (use_of name uses)) (row name).usual
+
+-- each value keeps to the rules of its option
+abbrev pub AreGood : List Used → Type 0
+AreGood uses = (name : Name) → why_value (row name).takes (value_of name uses) ≡ None
+
+abbrev pub job_named : Text → Job
+job_named text = if bytes_eq text (codes "find") then Find else Decode
+
+abbrev pub format_named : Text → Format
+format_named text = Raw
+
+abbrev pub is_yes : Text → Bool
+is_yes text = bytes_eq text (codes "yes")
+
+-- `all` asks for no choice
+abbrev pub unless_all : Used → Option WordText
+unless_all u = if bytes_eq u.text (codes "all") then None else Some (word_text u)
+
+abbrev pub values_of : List Used → Values
+values_of uses = record {
+  job = job_named (value_of name.Job uses);
+  format = format_named (value_of name.Format uses);
+  channels = number_after 0 (value_of name.Channels uses);
+  rate = rate_written (value_of name.Rate uses);
+  threads = is_yes (value_of name.Threads uses);
+  ring = number_after 0 (value_of name.Ring uses);
+  show = option_and_then unless_all (use_of name.Show uses);
+  chains = map word_text (chains_of uses);
+}
+
+-- the most chains, or alternatives, that a job takes
+abbrev pub most_chains : Job → ℕ
+most_chains Decode = 24
+most_chains Find = 8
 
 -- Many at a word, if there is one
 abbrev pub many_at : Option WordText → Option WordFault
 many_at None = None
 many_at (Some chain) = Some (record { word = chain.word; at = 0; why = why.Many })
 
--- Few where there is no alternative, with the number of all words; Many at the first that is too many
-abbrev pub few_or_many : ℕ → List WordText → Option WordFault
-few_or_many count [] = Some (record { word = count; at = 0; why = why.Few })
-few_or_many count (chain ∷ chains) = many_at (slice_get (chain ∷ chains) most_alternatives)
+-- Few where there is no such word, with the number of all words; Many at the first that is too many
+abbrev pub few_or_many : ℕ → ℕ → List WordText → Option WordFault
+few_or_many most count [] = Some (record { word = count; at = 0; why = why.Few })
+few_or_many most count (chain ∷ chains) = many_at (slice_get (chain ∷ chains) most)
 
 -- the fault of one alternative
 abbrev pub fault_of : ℕ → Result (List Meaning) CondFault → Option WordFault
@@ -52,13 +101,22 @@ abbrev pub cond_fault : List WordText → Option WordFault
 cond_fault [] = None
 cond_fault (chain ∷ chains) = or_else (fault_of chain.word (terms_of chain.text)) (cond_fault chains)
 
+-- decode reads no alternatives
+abbrev pub job_fault : Job → List WordText → Option WordFault
+job_fault Decode chains = None
+job_fault Find chains = cond_fault chains
+
+-- the rules behind all the words, of which there are `count`
+abbrev pub fault_behind : ℕ → Job → List WordText → Option WordFault
+fault_behind count job chains = or_else (few_or_many (most_chains job) count chains) (job_fault job chains)
+
 abbrev pub unless_fault : Option WordFault → Values → Result Values WordFault
 unless_fault None values = Ok values
 unless_fault (Some fault) values = Err fault
 
--- what follows the uses, where there are `count` words
+-- what the uses set
 abbrev pub values_behind : ℕ → List Used → Result Values WordFault
-values_behind count uses = unless_fault (or_else (few_or_many count (values_of uses).chains) (cond_fault (values_of uses).chains)) (values_of uses)
+values_behind count uses = unless_fault (fault_behind count (values_of uses).job (values_of uses).chains) (values_of uses)
 
 -- what the words set, or their first fault
 abbrev pub settings_of : List Text → Result Values WordFault
@@ -66,4 +124,13 @@ settings_of words = then_read (uses_of words) (values_behind (length words))
 
 -- what the answer means
 abbrev pub meaning_of : Settings → Values
-meaning_of s = record { job = s.job; chains = map chain_of s.chains.items }
+meaning_of s = record {
+  job = s.job;
+  format = s.format;
+  channels = s.channels;
+  rate = numbers_of s.rate;
+  threads = s.threads;
+  ring = s.ring;
+  show = option_map chain_of s.show;
+  chains = map chain_of s.chains.items;
+}

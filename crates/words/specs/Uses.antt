@@ -1,11 +1,15 @@
 -- What the words of a command line say: its uses of options, its other words, or the first fault.
-use Rattle.std.specs.Prelude.{ℕ, Bool, true, false, not, ◌+◌, ◌==◌, ◌&&◌, nat_le, nat_lt, List, [], ◌∷◌, length, Option, Some, None, Result, Ok, Err, if◌then◌else◌, codes, is_some}
+use Rattle.std.specs.Prelude.{ℕ, Bool, true, false, not, ◌+◌, ◌==◌, ◌&&◌, nat_le, nat_lt, List, [], ◌∷◌, length, Option, Some, None, Result, Ok, Err, if◌then◌else◌, is_some}
 use Rattle.std.specs.List.{list_any, filter}
 use Rattle.std.specs.Str.{bytes_eq}
 use Rattle.text_parts.specs.Reading.{read_parts}
+use Rattle.text_parts.specs.Numbers.{number_in}
+use Rattle.text_parts.specs.declared.numbers.NumberWhy.{NumberWhy}
+use Rattle.text_parts.specs.declared.numbers.NumberWhy.TheVariants as number
 use Rattle.words.specs.Lexer.{Text, begins_option, long_of}
-use Rattle.words.specs.declared.kinds.Name.{Name}
-use Rattle.words.specs.declared.kinds.Name.TheVariants.{Job}
+use Rattle.words.specs.Options.{Kind, OneOf, Number, Ratio, Free, name_of, row}
+use Rattle.words.specs.Rates.{rate_in}
+use Rattle.words.specs.declared.options.Name.{Name}
 use Rattle.words.specs.declared.kinds.WordWhy.{WordWhy}
 use Rattle.words.specs.declared.kinds.WordWhy.TheVariants as why
 use Rattle.words.specs.declared.kinds.WordFault.{WordFault}
@@ -48,17 +52,10 @@ pub record Used : Type 0 where
   pub word : ℕ
   pub text : Text
 
-abbrev pub name_text : Name → Text
-name_text Job = codes "job"
-
-abbrev pub name_of : Text → Option Name
-name_of text = if bytes_eq text (codes "job") then Some Job
-    else None
-
 -- it is this option
 abbrev pub is_of : Name → Option Name → Bool
 is_of name None = false
-is_of name (Some other) = bytes_eq (name_text other) (name_text name)
+is_of name (Some other) = bytes_eq (row other).name (row name).name
 
 abbrev pub is_given : Name → List Used → Bool
 is_given name uses = list_any (λ u. is_of name u.name) uses
@@ -77,12 +74,21 @@ why_word number word = if nat_le 256 number then Some why.Many
     else if length word == 0 then Some why.Empty
     else None
 
--- the rules for a value
-abbrev pub why_value : Name → Text → Option WordWhy
-why_value Job value = if bytes_eq value (codes "find") then None else Some why.Value
+-- what is wrong with a number
+abbrev pub why_number : {X : Type 0} → Result X NumberWhy → Option WordWhy
+why_number (Ok n) = None
+why_number (Err number.Value) = Some why.Value
+why_number (Err number.Range) = Some why.Range
+
+-- the rules for a value, by what its option takes
+abbrev pub why_value : Kind → Text → Option WordWhy
+why_value (OneOf choices) value = if list_any (λ choice. bytes_eq choice value) choices then None else Some why.Value
+why_value (Number least most) value = why_number (number_in least most value)
+why_value Ratio value = why_number (rate_in value)
+why_value Free value = None
 
 abbrev pub judged : Name → ℕ → Text → Result Used WordFault
-judged name number value = or_fault number (why_value name value) (Ok (record { name = Some name; word = number; text = value }))
+judged name number value = or_fault number (why_value (row name).takes value) (Ok (record { name = Some name; word = number; text = value }))
 
 abbrev pub value_at : Name → ℕ → Option Text → Option Text → Result Used WordFault
 value_at name number (Some value) next = if length value == 0 then fault number why.Empty else judged name number value

@@ -1,46 +1,33 @@
-// The words that are no options, and their faults.
-ghost use Rattle.std.specs.Prelude.{◌≡◌, ◌≤◌, List, length, map, All, IfOk, Some, option_map};
-ghost use Rattle.std.specs.String.{string_bytes};
-ghost use Rattle.words.specs.Given.{used_of, fault_in};
-ghost use Rattle.words.specs.Uses.{chains_of};
+// What is wrong with the words that are no options, behind all words.
+ghost use Rattle.std.specs.Prelude.{◌≡◌, map, All, IfOk};
 ghost use Rattle.text_parts.specs.Chains.{chain_of};
-ghost use Rattle.words.specs.Settings.{word_text, few_or_many, cond_fault};
+ghost use Rattle.words.specs.Readable.{IsShort};
+ghost use Rattle.words.specs.Settings.{cond_fault, fault_behind, few_or_many, job_fault, most_chains};
 
-use crate::uses::Given;
-use crate::{WordFault, WordWhy};
+use crate::{Job, WordFault, WordWhy};
 use std::alloc::{AllocError, Global};
 use text_parts::ChainWord;
 use wait_cond::{CondError, read_alt};
 
-/// How many alternatives a condition may have.
-const MOST_ALTERNATIVES: usize = 1;
+// How many chains decode takes.
+const MOST_CHAINS: usize = 24;
 
-// A word that is no option, with a text of its own.
-fn chain_word(alloc: Global, given: &Given) -> Result<ChainWord, AllocError>
-    ensures { IfOk result (λ chain. chain_of chain ≡ word_text (used_of given.now)) }
-{
-    Ok(ChainWord {
-        word: given.word,
-        text: String::from_str(alloc, given.text)?,
-    })
-}
+// How many alternatives a condition may have.
+const MOST_ALTERNATIVES: usize = 8;
 
-/// The words that are no options.
-pub fn chains(alloc: Global, uses: &[Given]) -> Result<Vec<ChainWord>, AllocError>
-    ensures { IfOk result (λ v. map chain_of v.items ≡ map word_text (chains_of (map used_of uses.now))) }
+// How many such words a job takes.
+fn most_chains(job: Job) -> usize
+    ensures { result ≡ most_chains job }
 {
-    let mut chains = Vec::new(alloc);
-    for given in uses {
-        if given.name.is_none() {
-            chains.push(chain_word(alloc, given)?)?;
-        }
+    match job {
+        Job::Decode => MOST_CHAINS,
+        Job::Find => MOST_ALTERNATIVES,
     }
-    Ok(chains)
 }
 
-/// The fault where there are too few alternatives, or too many.
-pub fn few_or_many(count: u32, chains: &[ChainWord]) -> Option<WordFault>
-    ensures { result ≡ few_or_many count (map chain_of chains.now) }
+// The fault where there are too few such words, or too many.
+fn few_or_many(most: usize, count: u32, chains: &[ChainWord]) -> Option<WordFault>
+    ensures { result ≡ few_or_many most count (map chain_of chains.now) }
 {
     if chains.is_empty() {
         return Some(WordFault {
@@ -49,7 +36,7 @@ pub fn few_or_many(count: u32, chains: &[ChainWord]) -> Option<WordFault>
             why: WordWhy::Few,
         });
     }
-    let chain = chains.get(MOST_ALTERNATIVES)?;
+    let chain = chains.get(most)?;
     Some(WordFault {
         word: chain.word,
         at: 0,
@@ -57,9 +44,9 @@ pub fn few_or_many(count: u32, chains: &[ChainWord]) -> Option<WordFault>
     })
 }
 
-/// The fault of the first alternative that has one.
-pub fn cond_fault(alloc: Global, chains: &[ChainWord]) -> Result<Option<WordFault>, AllocError>
-    requires { All (λ chain. length (string_bytes chain.text) ≤ 4096) chains.now }
+// The fault of the first alternative that has one.
+fn cond_fault(alloc: Global, chains: &[ChainWord]) -> Result<Option<WordFault>, AllocError>
+    requires { All IsShort chains.now }
     ensures { IfOk result (λ fault. fault ≡ cond_fault (map chain_of chains.now)) }
 {
     for chain in chains {
@@ -76,4 +63,31 @@ pub fn cond_fault(alloc: Global, chains: &[ChainWord]) -> Result<Option<WordFaul
         }
     }
     Ok(None)
+}
+
+// What the job finds wrong with its words.
+fn job_fault(alloc: Global, job: Job, chains: &[ChainWord]) -> Result<Option<WordFault>, AllocError>
+    requires { All IsShort chains.now }
+    ensures { IfOk result (λ fault. fault ≡ job_fault job (map chain_of chains.now)) }
+{
+    match job {
+        Job::Decode => Ok(None),
+        Job::Find => cond_fault(alloc, chains),
+    }
+}
+
+/// What is wrong behind all the words, of which there are `count`.
+pub fn fault_behind(
+    alloc: Global,
+    count: u32,
+    job: Job,
+    chains: &[ChainWord],
+) -> Result<Option<WordFault>, AllocError>
+    requires { All IsShort chains.now }
+    ensures { IfOk result (λ fault. fault ≡ fault_behind count job (map chain_of chains.now)) }
+{
+    if let Some(fault) = few_or_many(most_chains(job), count, chains) {
+        return Ok(Some(fault));
+    }
+    job_fault(alloc, job, chains)
 }

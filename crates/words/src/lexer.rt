@@ -1,6 +1,6 @@
 // What a word looks like.
 ghost use Rattle.std.specs.Prelude.{◌≡◌, option_map};
-ghost use Rattle.words.specs.Lexer.{begins_option, behind_dash, name_and_value, long_of};
+ghost use Rattle.words.specs.Lexer.{begins_option, behind_dash, cut_at, long_of};
 
 /// Whether a word is read as an option.
 pub fn begins_option(word: &str) -> bool
@@ -20,11 +20,21 @@ fn behind_dash(word: &str) -> Option<&str>
 }
 
 // What stands before the first `=`, and what stands after it if there is one.
-fn name_and_value(text: &str) -> (&str, Option<&str>)
-    ensures { (result.0.now, option_map (λ s. s.now) result.1) ≡ name_and_value text.now }
+fn cut_at_equals(text: &str) -> (&str, Option<&str>)
+    ensures { (result.0.now, option_map (λ s. s.now) result.1) ≡ cut_at 61 text.now }
 {
     match text.split_once('=') {
         Some((name, value)) => (name, Some(value)),
+        None => (text, None),
+    }
+}
+
+/// What stands before the first `/`, and what stands after it if there is one.
+pub fn cut_at_slash(text: &str) -> (&str, Option<&str>)
+    ensures { (result.0.now, option_map (λ s. s.now) result.1) ≡ cut_at 47 text.now }
+{
+    match text.split_once('/') {
+        Some((above, below)) => (above, Some(below)),
         None => (text, None),
     }
 }
@@ -37,5 +47,5 @@ pub fn long_of(word: &str) -> Option<(&str, Option<&str>)>
     if rest.is_empty() {
         return None;
     }
-    Some(name_and_value(rest))
+    Some(cut_at_equals(rest))
 }

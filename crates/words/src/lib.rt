@@ -2,18 +2,20 @@
 #![tactic(auto)]
 
 mod alternatives;
+mod chains;
+mod command;
 mod kinds;
 mod lexer;
+mod options;
 mod read;
 mod reading;
 mod rules;
 mod settings;
 mod uses;
+mod values;
 
-pub use kinds::{Job, Name, WordFault, WordWhy, WordsError};
+pub use kinds::{Format, Job, WordFault, WordWhy, WordsError};
+pub use options::{MOST_RING, Name, OPTIONS, OptionRow, Takes};
 pub use read::read_words;
 pub use settings::Settings;
 pub use text_parts::ChainWord;
-
-#[cfg(test)]
-mod tests;

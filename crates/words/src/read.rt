@@ -1,38 +1,86 @@
 // The words of the command line.
-ghost use Rattle.std.specs.Prelude.{◌≡◌, length, map, IfOk};
+ghost use Rattle.std.specs.Prelude.{◌≡◌, [], List, length, map, IfOk, IfSome};
 ghost use Rattle.std.specs.String.{string_bytes};
+ghost use Rattle.clap.specs.Words.{found_of, rows_of};
+ghost use Rattle.text_parts.specs.Chains.{chain_of};
 ghost use Rattle.text_parts.specs.Reading.{Gives};
-ghost use Rattle.words.specs.Given.{fault_in};
-ghost use Rattle.words.specs.Readable.{IsReadable};
-ghost use Rattle.words.specs.Settings.{settings_of, meaning_of};
+ghost use Rattle.words.specs.App.{rows_of_uses};
+ghost use Rattle.words.specs.Given.{fault_in, used_of};
+ghost use Rattle.words.specs.Readable.{IsReadable, IsShort};
+ghost use Rattle.words.specs.Settings.{AreGood, settings_of, meaning_of, values_of, word_text};
+ghost use Rattle.words.specs.Uses.{chains_of};
 
-use crate::alternatives::{chains, cond_fault, few_or_many};
+use crate::alternatives::fault_behind;
+use crate::chains::{chains, numbers, shown};
+use crate::command::{chain_texts, matches, value};
+use crate::options::{MOST_RING, Name};
 use crate::reading::read_uses;
-use crate::{Job, Settings, WordsError};
-use std::alloc::Global;
+use crate::uses::Given;
+use crate::values::{format_named, is_yes, job_named, number, rate};
+use crate::{Settings, WordsError};
+use clap::ArgMatches;
+use la_base::MOST_PINS;
+use std::alloc::{AllocError, Global};
+use text_parts::ChainWord;
+
+// The words that are no options, as `clap` has them.
+fn chains_in(
+    alloc: Global,
+    matches: &ArgMatches,
+    uses: &[Given],
+) -> Result<Vec<ChainWord>, AllocError>
+    requires { rows_of (found_of matches.now) ≡ rows_of_uses [] (map used_of uses.now) }
+    ensures { IfOk result (λ v. map chain_of v.items ≡ map word_text (chains_of (map used_of uses.now))) }
+{
+    let numbers = numbers(alloc, uses)?;
+    match chain_texts(matches) {
+        Some(texts) => chains(alloc, &numbers, texts),
+        None => Ok(Vec::new(alloc)),
+    }
+}
+
+// What the matches set.
+fn settings(alloc: Global, matches: &ArgMatches, uses: &[Given]) -> Result<Settings, AllocError>
+    requires rows { rows_of (found_of matches.now) ≡ rows_of_uses [] (map used_of uses.now) }
+    requires good { AreGood (map used_of uses.now) }
+    ensures { IfOk result (λ s. meaning_of s ≡ values_of (map used_of uses.now)) }
+{
+    let show = shown(alloc, uses, value(matches, Name::Show))?;
+    let chains = chains_in(alloc, matches, uses)?;
+    let channels = number(value(matches, Name::Channels), 1, MOST_PINS as u64);
+    let ring = number(value(matches, Name::Ring), 1, MOST_RING as u64);
+    Ok(Settings {
+        job: job_named(value(matches, Name::Job)),
+        format: format_named(value(matches, Name::Format)),
+        channels: channels as u32,
+        rate: rate(value(matches, Name::Rate)),
+        threads: is_yes(value(matches, Name::Threads)),
+        ring: ring as u32,
+        show,
+        chains,
+    })
+}
 
 /// The settings that the words make, or the first fault of the words, counted from the left: the
-/// rules for each word and its value come first, then how many alternatives there are, then the
-/// alternatives themselves.
+/// rules for each word and its value come first, then how many chains or alternatives there are, then
+/// the alternatives themselves.
 pub fn read_words(alloc: Global, words: &[String]) -> Result<Settings, WordsError>
     ensures gives { Gives meaning_of fault_in (settings_of (map string_bytes words.now)) result }
-    ensures readable { IfOk result (λ settings. IsReadable settings.chains.items) }
+    ensures readable { IfOk result (λ settings. IsReadable settings.job settings.chains.items) }
+    ensures shown { IfOk result (λ settings. IfSome settings.show IsShort) }
 {
     let uses = match read_uses(alloc, words) {
         Ok(uses) => uses,
         Err(error) => return Err(error),
     };
-    let Ok(chains) = chains(alloc, &uses) else {
+    let Ok(matches) = matches(alloc, words) else {
         return Err(WordsError::NoMemory);
     };
-    if let Some(fault) = few_or_many(words.len() as u32, &chains) {
-        return Err(WordsError::Fault(fault));
-    }
-    match cond_fault(alloc, &chains) {
-        Ok(None) => Ok(Settings {
-            job: Job::Find,
-            chains,
-        }),
+    let Ok(settings) = settings(alloc, &matches, &uses) else {
+        return Err(WordsError::NoMemory);
+    };
+    match fault_behind(alloc, words.len() as u32, settings.job, &settings.chains) {
+        Ok(None) => Ok(settings),
         Ok(Some(fault)) => Err(WordsError::Fault(fault)),
         Err(_) => Err(WordsError::NoMemory),
     }

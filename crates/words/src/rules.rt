@@ -2,41 +2,24 @@
 ghost use Rattle.std.specs.Prelude.{◌≡◌, ◌<◌, ◌≤◌, ◌+◌, option_map, map, Some, OnOk};
 ghost use Rattle.text_parts.specs.Reading.{Gives};
 ghost use Rattle.words.specs.Given.{used_of};
-ghost use Rattle.words.specs.Uses.{name_of, name_text, is_of, is_given, why_word, why_value, judged, value_at, use_at};
+ghost use Rattle.words.specs.Uses.{is_of, is_given, why_word, judged, value_at, use_at};
 
 use crate::lexer::{begins_option, long_of};
+use crate::options::name_of;
 use crate::uses::Given;
+use crate::values::why_value;
 use crate::{Name, WordFault, WordWhy};
 
 const MOST_WORDS: u32 = 256;
 
 const MOST_BYTES: usize = 4096;
 
-// The option that a text names.
-fn name_of(text: &str) -> Option<Name>
-    ensures { result ≡ name_of text.now }
-{
-    match text {
-        "job" => Some(Name::Job),
-        _ => None,
-    }
-}
-
-// The name of an option as text.
-fn text_of(name: Name) -> &'static str
-    ensures { result.now ≡ name_text name }
-{
-    match name {
-        Name::Job => "job",
-    }
-}
-
-// Whether a use is of this option.
-fn is_of(name: Name, given: &Given) -> bool
+/// Whether a use is of this option.
+pub fn is_of(name: Name, given: &Given) -> bool
     ensures { result ≡ is_of name (used_of given.now).name }
 {
     match given.name {
-        Some(other) => text_of(other) == text_of(name),
+        Some(other) => other.row().name == name.row().name,
         None => false,
     }
 }
@@ -63,18 +46,6 @@ fn why_word(number: u32, word: &str) -> Option<WordWhy>
     }
 }
 
-// What is wrong with the value of an option.
-fn why_value(name: Name, value: &str) -> Option<WordWhy>
-    ensures { result ≡ why_value name value.now }
-{
-    match name {
-        Name::Job => match value {
-            "find" => None,
-            _ => Some(WordWhy::Value),
-        },
-    }
-}
-
 // A fault of a word, at its first byte.
 fn fault(word: u32, why: WordWhy) -> WordFault
     ensures { result ≡ record { word = word; at = 0; why = why } }
@@ -86,7 +57,7 @@ fn fault(word: u32, why: WordWhy) -> WordFault
 fn judged(name: Name, number: u32, value: &str) -> Result<Given<'_>, WordFault>
     ensures { Gives used_of (λ f. Some f) (judged name number value.now) result }
 {
-    match why_value(name, value) {
+    match why_value(name.row().takes, value) {
         Some(why) => Err(fault(number, why)),
         None => Ok(Given {
             name: Some(name),

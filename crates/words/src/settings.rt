@@ -1,10 +1,32 @@
 // What the words set.
-use crate::Job;
+ghost use Rattle.std.specs.Prelude.{◌≤◌};
+ghost use Rattle.la_base.specs.declared.samples.TheConstants.{MOST_PINS};
+ghost use Rattle.words.specs.declared.options.TheConstants.{MOST_RING};
+ghost use Rattle.words.specs.declared.values.TheConstants.{MOST_NUM, MOST_DEN};
+
+use crate::{Format, Job};
+use la_base::Rate;
 use text_parts::ChainWord;
 
 /// The value of each option, and the words that are no options, in order.
 #[derive(Debug, Drop)]
 pub struct Settings {
     pub job: Job,
+    pub format: Format,
+    /// The channels of a raw capture.
+    pub channels: u32,
+    /// The rate of a capture that doesn't tell its own.
+    pub rate: Rate,
+    /// Whether decoders run in threads of their own.
+    pub threads: bool,
+    /// The slots of each ring between two threads.
+    pub ring: u32,
+    /// The decoders that are shown, where the words name them: the number of the word that holds the
+    /// value, and the value.
+    pub show: Option<ChainWord>,
+    /// The chains of decoders, or the alternatives of a condition.
     pub chains: Vec<ChainWord>,
+    ghost channels_fit: { (1 ≤ channels) × (channels ≤ MOST_PINS) },
+    ghost rate_fits: { (rate.num ≤ MOST_NUM) × (rate.den ≤ MOST_DEN) },
+    ghost ring_fits: { (1 ≤ ring) × (ring ≤ MOST_RING) },
 }

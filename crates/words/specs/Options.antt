@@ -1,0 +1,38 @@
+-- The options that a word may name, and the values that each takes.
+use Rattle.std.specs.Prelude.{ℕ, List, [], ◌∷◌, Option, codes, find}
+use Rattle.std.specs.Str.{bytes_eq}
+use Rattle.la_base.specs.declared.samples.TheConstants.{MOST_PINS}
+use Rattle.words.specs.Lexer.{Text}
+use Rattle.words.specs.declared.options.Name.{Name}
+use Rattle.words.specs.declared.options.Name.TheVariants.{Job, Format, Channels, Rate, Threads, Ring, Show}
+
+-- the values that an option takes: one of some texts, a number from the first to the second, a rate, or any text
+pub data Kind : Type 0 where
+  OneOf : List Text → Kind
+  Number : ℕ → ℕ → Kind
+  Ratio : Kind
+  Free : Kind
+
+-- an option: what stands behind its `--`, the values it takes, and the value that counts where it isn't given
+pub record Row : Type 0 where
+  pub name : Text
+  pub takes : Kind
+  pub usual : Text
+
+-- the table of options
+abbrev pub row : Name → Row
+row Job = record { name = codes "job"; takes = OneOf (codes "decode" ∷ codes "find" ∷ []); usual = codes "decode" }
+row Format = record { name = codes "format"; takes = OneOf (codes "raw" ∷ []); usual = codes "raw" }
+row Channels = record { name = codes "channels"; takes = Number 1 MOST_PINS; usual = codes "8" }
+row Rate = record { name = codes "rate"; takes = Ratio; usual = codes "1000000" }
+row Threads = record { name = codes "threads"; takes = OneOf (codes "yes" ∷ codes "no" ∷ []); usual = codes "yes" }
+row Ring = record { name = codes "ring"; takes = Number 1 16384; usual = codes "256" }
+row Show = record { name = codes "show"; takes = Free; usual = codes "all" }
+
+-- all options
+abbrev pub names : List Name
+names = Job ∷ Format ∷ Channels ∷ Rate ∷ Threads ∷ Ring ∷ Show ∷ []
+
+-- the option that a text names
+abbrev pub name_of : Text → Option Name
+name_of text = find (λ name. bytes_eq (row name).name text) names

@@ -1,0 +1,15 @@
+-- What a row of the table of options means.
+use Rattle.std.specs.Prelude.{map}
+use Rattle.words.specs.Options.{Kind, OneOf, Number, Ratio, Free, Row}
+use Rattle.words.specs.declared.options.OptionRow.{OptionRow}
+use Rattle.words.specs.declared.options.Takes.{Takes}
+use Rattle.words.specs.declared.options.Takes.TheVariants as takes
+
+abbrev pub kind_of : Takes → Kind
+kind_of (takes.OneOf choices) = OneOf (map (λ choice. choice.now) choices.now)
+kind_of (takes.Number least most) = Number least most
+kind_of takes.Rate = Ratio
+kind_of takes.Text = Free
+
+abbrev pub row_of : OptionRow → Row
+row_of r = record { name = r.name.now; takes = kind_of r.takes; usual = r.usual.now }

@@ -1,0 +1,128 @@
+// The options that a word may name: one row for each.
+ghost use Rattle.std.specs.Prelude.{◌≡◌};
+ghost use Rattle.words.specs.Options.{name_of, row};
+ghost use Rattle.words.specs.Rows.{row_of};
+
+use la_base::MOST_PINS;
+
+/// An option: a word `--NAME VALUE` or `--NAME=VALUE`.
+#[derive(Clone, Copy, Debug, PartialEq, Eq)]
+pub enum Name {
+    Job,
+    Format,
+    Channels,
+    Rate,
+    Threads,
+    Ring,
+    Show,
+}
+
+/// The values that an option takes.
+#[derive(Clone, Copy, Debug)]
+pub enum Takes {
+    /// One of these texts.
+    OneOf(&'static [&'static str]),
+    /// A decimal number from `least` to `most`.
+    Number { least: u64, most: u64 },
+    /// `N` or `N/D` samples a second.
+    Rate,
+    /// Any text that isn't empty.
+    Text,
+}
+
+/// One option as it is told to who asks for help, and as the words are read.
+#[derive(Clone, Copy, Debug)]
+pub struct OptionRow {
+    /// What stands behind the `--`.
+    pub name: &'static str,
+    /// The values that it takes.
+    pub takes: Takes,
+    /// The value that counts where the option isn't given.
+    pub usual: &'static str,
+    /// What it sets, in one line.
+    pub help: &'static str,
+}
+
+/// The most slots of a ring.
+pub const MOST_RING: u32 = 16_384;
+
+/// The options, in the order in which they are told.
+pub const OPTIONS: [Name; 7] = [
+    Name::Job,
+    Name::Format,
+    Name::Channels,
+    Name::Rate,
+    Name::Threads,
+    Name::Ring,
+    Name::Show,
+];
+
+impl Name {
+    /// The row of the option: all that is said of it stands there.
+    pub fn row(self) -> OptionRow
+        ensures { row_of result ≡ row self }
+    {
+        match self {
+            Name::Job => OptionRow {
+                name: "job",
+                takes: Takes::OneOf(&["decode", "find"]),
+                usual: "decode",
+                help: "decode the capture, or find where a condition holds",
+            },
+            Name::Format => OptionRow {
+                name: "format",
+                takes: Takes::OneOf(&["raw"]),
+                usual: "raw",
+                help: "the form of the capture",
+            },
+            Name::Channels => OptionRow {
+                name: "channels",
+                takes: Takes::Number {
+                    least: 1,
+                    most: MOST_PINS as u64,
+                },
+                usual: "8",
+                help: "channels of a raw capture",
+            },
+            Name::Rate => OptionRow {
+                name: "rate",
+                takes: Takes::Rate,
+                usual: "1000000",
+                help: "samples a second",
+            },
+            Name::Threads => OptionRow {
+                name: "threads",
+                takes: Takes::OneOf(&["yes", "no"]),
+                usual: "yes",
+                help: "one thread for each decoder, or one for all",
+            },
+            Name::Ring => OptionRow {
+                name: "ring",
+                takes: Takes::Number {
+                    least: 1,
+                    most: MOST_RING as u64,
+                },
+                usual: "256",
+                help: "items that wait between two decoders at most",
+            },
+            Name::Show => OptionRow {
+                name: "show",
+                takes: Takes::Text,
+                usual: "all",
+                help: "the decoders whose notes are written: all, or names with commas between them",
+            },
+        }
+    }
+}
+
+/// The option that a text names.
+pub fn name_of(text: &str) -> Option<Name>
+    ensures { result ≡ name_of text.now }
+{
+    for option in OPTIONS {
+        if option.row().name == text {
+            return Some(option);
+        }
+    }
+    None
+}
