@@ -112,7 +112,7 @@ is_of_same name None e = cc
 is_of_same name (Some other) e = ap (λ n. Some n) (same_name other name e)
 
 -- the usual values keep to the rules
-usual_good : (name : Name) → why_value (row name).takes (row name).usual ≡ None
+pub usual_good : (name : Name) → why_value (row name).takes (row name).usual ≡ None
 usual_good Job = refl
 usual_good Format = refl
 usual_good Channels = refl

@@ -5,6 +5,7 @@ mod alternatives;
 mod chains;
 mod command;
 mod kinds;
+mod laws;
 mod lexer;
 mod options;
 mod read;
@@ -15,7 +16,11 @@ mod uses;
 mod values;
 
 pub use kinds::{Format, Job, WordFault, WordWhy, WordsError};
+pub use laws::{clap_reads_the_uses, options_are_whole};
 pub use options::{MOST_RING, Name, OPTIONS, OptionRow, Takes};
 pub use read::read_words;
 pub use settings::Settings;
 pub use text_parts::ChainWord;
+
+#[cfg(test)]
+mod tests;

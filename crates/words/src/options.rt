@@ -3,7 +3,9 @@ ghost use Rattle.std.specs.Prelude.{◌≡◌};
 ghost use Rattle.words.specs.Options.{name_of, row};
 ghost use Rattle.words.specs.Rows.{row_of};
 
+use crate::values::{MOST_DEN, MOST_NUM};
 use la_base::MOST_PINS;
+use std::fmt;
 
 /// An option: a word `--NAME VALUE` or `--NAME=VALUE`.
 #[derive(Clone, Copy, Debug, PartialEq, Eq)]
@@ -28,6 +30,25 @@ pub enum Takes {
     Rate,
     /// Any text that isn't empty.
     Text,
+}
+
+impl fmt::Display for Takes {
+    fn fmt<W: fmt::Write>(&self, f: &mut fmt::Formatter<W>) -> fmt::Result {
+        match self {
+            Takes::OneOf(choices) => {
+                for (place, choice) in choices.iter().enumerate() {
+                    if place > 0 {
+                        f.write_str(", ")?;
+                    }
+                    f.write_str(choice)?;
+                }
+                Ok(())
+            }
+            Takes::Number { least, most } => write!(f, "{least} to {most}"),
+            Takes::Rate => write!(f, "N or N/D, N 1 to {MOST_NUM}, D 1 to {MOST_DEN}"),
+            Takes::Text => f.write_str("text"),
+        }
+    }
 }
 
 /// One option as it is told to who asks for help, and as the words are read.

@@ -1,0 +1,459 @@
+use crate::{
+    Format, Job, Name, OPTIONS, Settings, Takes, WordFault, WordWhy, WordsError,
+    clap_reads_the_uses, options_are_whole, read_words,
+};
+use std::alloc::Global;
+use std::test::Fail;
+
+// What the words of a line give: they stand between single blanks, so that two blanks have an empty
+// word between them.
+fn read(alloc: Global, line: &str) -> Result<Result<Settings, WordsError>, Fail> {
+    let mut words = Vec::new(alloc);
+    for word in line.split(' ') {
+        words.push(String::from_str(alloc, word)?)?;
+    }
+    Ok(read_words(alloc, &words))
+}
+
+fn fault(alloc: Global, line: &str) -> Result<Option<(u32, u32, WordWhy)>, Fail> {
+    Ok(match read(alloc, line)? {
+        Err(WordsError::Fault(WordFault { word, at, why })) => Some((word, at, why)),
+        _ => None,
+    })
+}
+
+#[test]
+fn finds_first_faults_of_words(rt: HostRuntime) -> Result<(), Fail> {
+    let alloc = rt.alloc();
+    for (line, word, why) in [
+        ("", 0, WordWhy::Empty),
+        (" i2c", 0, WordWhy::Empty),
+        ("i2c ", 1, WordWhy::Empty),
+        ("-", 0, WordWhy::Unknown),
+        ("--", 0, WordWhy::Unknown),
+        ("-j find", 0, WordWhy::Unknown),
+        ("---job find", 0, WordWhy::Unknown),
+        ("--=x", 0, WordWhy::Unknown),
+        ("--é=x", 0, WordWhy::Unknown),
+        ("--help", 0, WordWhy::Unknown),
+        ("--version", 0, WordWhy::Unknown),
+        ("--rat 5", 0, WordWhy::Unknown),
+        ("--Job find", 0, WordWhy::Unknown),
+        ("--down 1", 0, WordWhy::Unknown),
+        ("--chains x", 0, WordWhy::Unknown),
+        ("i2c -x", 1, WordWhy::Unknown),
+        ("--job", 0, WordWhy::NoValue),
+        ("i2c --ring", 1, WordWhy::NoValue),
+        ("--job --job=find", 0, WordWhy::NoValue),
+        ("--channels -5", 0, WordWhy::NoValue),
+        ("--job find --job=find", 2, WordWhy::Repeat),
+        ("--job=find --job", 1, WordWhy::Repeat),
+        ("--job=find --job=", 1, WordWhy::Repeat),
+        ("--job=find --job=x", 1, WordWhy::Repeat),
+        ("--show=all x --show all", 2, WordWhy::Repeat),
+        ("--job=", 0, WordWhy::Empty),
+        ("--show=", 0, WordWhy::Empty),
+        ("--job ", 1, WordWhy::Empty),
+        ("--show  i2c", 1, WordWhy::Empty),
+        ("--job Find", 1, WordWhy::Value),
+        ("--job=make", 0, WordWhy::Value),
+        ("--job=find=", 0, WordWhy::Value),
+        ("i2c --job seek", 2, WordWhy::Value),
+        ("--format vcd", 1, WordWhy::Value),
+        ("--format=RAW", 0, WordWhy::Value),
+        ("--threads maybe", 1, WordWhy::Value),
+        ("--threads=Yes", 0, WordWhy::Value),
+        // A fault of a word comes before there are too few.
+        ("--ring=x", 0, WordWhy::Value),
+        // Two faults in both orders: the first word's is told.
+        ("--x --channels=0", 0, WordWhy::Unknown),
+        ("--channels=0 --x", 0, WordWhy::Range),
+        ("-y ", 0, WordWhy::Unknown),
+        (" -y", 0, WordWhy::Empty),
+        ("--ring=x --rate=0", 0, WordWhy::Value),
+        ("--rate=0 --ring=x", 0, WordWhy::Range),
+        ("--threads= --job", 0, WordWhy::Empty),
+        ("--job --threads=", 0, WordWhy::NoValue),
+        ("--ring=1 --ring --x", 1, WordWhy::Repeat),
+        ("--ring=1 --x --ring", 1, WordWhy::Unknown),
+        ("i2c --ring 0 --job", 2, WordWhy::Range),
+        ("i2c --job --ring 0", 1, WordWhy::NoValue),
+        ("--show  --x", 1, WordWhy::Empty),
+        ("--show x  --x", 2, WordWhy::Empty),
+    ] {
+        assert_eq!(rt; fault(alloc, line)?, Some((word, 0, why)), "at {line}");
+    }
+    Ok(())
+}
+
+#[test]
+fn finds_first_faults_of_numbers(rt: HostRuntime) -> Result<(), Fail> {
+    let alloc = rt.alloc();
+    for (line, word, why) in [
+        ("--channels 0", 1, WordWhy::Range),
+        ("--channels 65", 1, WordWhy::Range),
+        ("--channels=+5", 0, WordWhy::Value),
+        ("--channels=-5", 0, WordWhy::Value),
+        ("--channels=8x", 0, WordWhy::Value),
+        ("--channels=0x8", 0, WordWhy::Value),
+        ("--channels=00000000000000000008", 0, WordWhy::Range),
+        ("--channels 99999999999999999999", 1, WordWhy::Range),
+        ("--channels 9999999999999999999x", 1, WordWhy::Value),
+        ("--ring 0", 1, WordWhy::Range),
+        ("--ring=16385", 0, WordWhy::Range),
+        ("--ring=1e3", 0, WordWhy::Value),
+        ("--ring ten", 1, WordWhy::Value),
+        ("--rate 0", 1, WordWhy::Range),
+        ("--rate=1000000000000001", 0, WordWhy::Range),
+        ("--rate=10000000000000000000", 0, WordWhy::Range),
+        ("--rate=+5", 0, WordWhy::Value),
+        ("--rate=1.5", 0, WordWhy::Value),
+        ("--rate 5/", 1, WordWhy::Value),
+        ("--rate=/5", 0, WordWhy::Value),
+        ("--rate=/", 0, WordWhy::Value),
+        ("--rate 5/1/1", 1, WordWhy::Value),
+        ("--rate 1/+1", 1, WordWhy::Value),
+        ("--rate=5/0", 0, WordWhy::Range),
+        ("--rate=5/1000000001", 0, WordWhy::Range),
+        // N is judged whole, and then D.
+        ("--rate 0/x", 1, WordWhy::Range),
+        ("--rate x/0", 1, WordWhy::Value),
+        ("--rate=0/0", 0, WordWhy::Range),
+        ("--rate=x/x", 0, WordWhy::Value),
+    ] {
+        assert_eq!(rt; fault(alloc, line)?, Some((word, 0, why)), "at {line}");
+    }
+    Ok(())
+}
+
+#[test]
+fn finds_faults_behind_all_words(rt: HostRuntime) -> Result<(), Fail> {
+    let alloc = rt.alloc();
+    for (line, word, at, why) in [
+        ("--threads=no", 1, 0, WordWhy::Few),
+        ("--job decode", 2, 0, WordWhy::Few),
+        ("--job find", 2, 0, WordWhy::Few),
+        ("--job=find --ring 5 --rate=5", 4, 0, WordWhy::Few),
+        (
+            "a a a a a a a a a a a a a a a a a a a a a a a a a",
+            24,
+            0,
+            WordWhy::Many,
+        ),
+        (
+            "a a a a a a a a a a a a a a a a a a a a a a a a --ring 5 a a",
+            26,
+            0,
+            WordWhy::Many,
+        ),
+        (
+            "a=h --job find a=h a=h a=h a=h a=h a=h a=h a=h a=h",
+            10,
+            0,
+            WordWhy::Many,
+        ),
+        // Too many come before what an alternative is.
+        (
+            "--job=find a=q a=h a=h a=h a=h a=h a=h a=h a=h",
+            9,
+            0,
+            WordWhy::Many,
+        ),
+        ("--job find D0=q", 2, 3, WordWhy::Cond),
+        ("--job=find D0", 1, 0, WordWhy::Cond),
+        ("D0=h =r --job=find", 1, 0, WordWhy::Cond),
+        ("D0=h --job find D1=h D10=", 4, 4, WordWhy::Cond),
+        ("--job=find D0=x D1=y", 1, 3, WordWhy::Cond),
+        ("--job=find D0=h D10=hh D1=y", 2, 4, WordWhy::Cond),
+        // Faults of words come before both.
+        ("D0=q --job=find --ring=0", 2, 0, WordWhy::Range),
+        ("--job=find D0=q --x", 2, 0, WordWhy::Unknown),
+        ("--job=find a a a a a a a a a --job", 10, 0, WordWhy::Repeat),
+    ] {
+        assert_eq!(rt; fault(alloc, line)?, Some((word, at, why)), "at {line}");
+    }
+    let none = Vec::new(alloc);
+    assert!(rt;
+        matches!(
+            read_words(alloc, &none),
+            Err(WordsError::Fault(WordFault {
+                word: 0,
+                at: 0,
+                why: WordWhy::Few
+            }))
+        )
+    );
+    Ok(())
+}
+
+// What the options set, and the words that are no options, each with its number.
+fn values(
+    alloc: Global,
+    line: &str,
+) -> Result<Option<(Job, Format, u32, (u64, u64), bool, u32)>, Fail> {
+    Ok(match read(alloc, line)? {
+        Ok(s) => Some((
+            s.job,
+            s.format,
+            s.channels,
+            (s.rate.num, s.rate.den),
+            s.threads,
+            s.ring,
+        )),
+        Err(_) => None,
+    })
+}
+
+#[test]
+fn sets_options(rt: HostRuntime) -> Result<(), Fail> {
+    let alloc = rt.alloc();
+    for (line, job, channels, rate, threads, ring) in [
+        ("i2c", Job::Decode, 8, (1_000_000, 1), true, 256),
+        (
+            "--job decode i2c",
+            Job::Decode,
+            8,
+            (1_000_000, 1),
+            true,
+            256,
+        ),
+        ("D0=h --job find", Job::Find, 8, (1_000_000, 1), true, 256),
+        ("--job=find D0=h", Job::Find, 8, (1_000_000, 1), true, 256),
+        (
+            "--format raw i2c",
+            Job::Decode,
+            8,
+            (1_000_000, 1),
+            true,
+            256,
+        ),
+        (
+            "i2c --format=raw",
+            Job::Decode,
+            8,
+            (1_000_000, 1),
+            true,
+            256,
+        ),
+        (
+            "--channels 64 i2c",
+            Job::Decode,
+            64,
+            (1_000_000, 1),
+            true,
+            256,
+        ),
+        (
+            "--channels=1 i2c",
+            Job::Decode,
+            1,
+            (1_000_000, 1),
+            true,
+            256,
+        ),
+        (
+            "i2c --channels=0000000000000000007",
+            Job::Decode,
+            7,
+            (1_000_000, 1),
+            true,
+            256,
+        ),
+        ("--rate 1 i2c", Job::Decode, 8, (1, 1), true, 256),
+        ("--rate 0001/0003 i2c", Job::Decode, 8, (1, 3), true, 256),
+        ("--rate=4/2 i2c", Job::Decode, 8, (4, 2), true, 256),
+        (
+            "--rate=1000000000000000/1000000000 i2c",
+            Job::Decode,
+            8,
+            (1_000_000_000_000_000, 1_000_000_000),
+            true,
+            256,
+        ),
+        (
+            "--threads no i2c",
+            Job::Decode,
+            8,
+            (1_000_000, 1),
+            false,
+            256,
+        ),
+        (
+            "--threads=yes i2c",
+            Job::Decode,
+            8,
+            (1_000_000, 1),
+            true,
+            256,
+        ),
+        ("--ring 1 i2c", Job::Decode, 8, (1_000_000, 1), true, 1),
+        (
+            "--ring=16384 i2c",
+            Job::Decode,
+            8,
+            (1_000_000, 1),
+            true,
+            16_384,
+        ),
+        (
+            "--ring=4 --threads no D0=h --rate=2/3 --channels 16 --format=raw --show all --job=find",
+            Job::Find,
+            16,
+            (2, 3),
+            false,
+            4,
+        ),
+    ] {
+        assert_eq!(rt;
+            values(alloc, line)?,
+            Some((job, Format::Raw, channels, rate, threads, ring)),
+            "at {line}"
+        );
+    }
+    Ok(())
+}
+
+// The decoders that are shown, and the other words, each with its number.
+fn texts(alloc: Global, line: &str) -> Result<String, Fail> {
+    let mut texts = String::new(alloc);
+    if let Ok(settings) = read(alloc, line)? {
+        if let Some(show) = &settings.show {
+            texts.push_str(format!(in alloc; "{}:{} of", show.word, show.text)?.as_str())?;
+        }
+        for chain in &settings.chains {
+            texts.push_str(format!(in alloc; " {}:{}", chain.word, chain.text)?.as_str())?;
+        }
+    }
+    Ok(texts)
+}
+
+#[test]
+fn keeps_texts(rt: HostRuntime) -> Result<(), Fail> {
+    let alloc = rt.alloc();
+    for (line, wanted) in [
+        ("help", " 0:help"),
+        ("é a=b", " 0:é 1:a=b"),
+        ("a --ring 5 b --rate=5 c", " 0:a 3:b 5:c"),
+        ("--job=find D0=h --ring 5 D1=r", " 1:D0=h 4:D1=r"),
+        ("--show all a", " 2:a"),
+        ("--show=all a", " 1:a"),
+        ("--show i2c-1 i2c", "1:i2c-1 of 2:i2c"),
+        ("i2c --show=i2c-1,spi-1", "1:i2c-1,spi-1 of 0:i2c"),
+        ("a --show all,i2c-1", "2:all,i2c-1 of 0:a"),
+        ("--show=-all a", "0:-all of 1:a"),
+        ("--show=a=b a", "0:a=b of 1:a"),
+        ("--show==x a", "0:=x of 1:a"),
+        // Decode takes 24 chains, whatever they are, and find 8 alternatives.
+        (
+            "D0=q a a a a a a a a a a a a a a a a a a a a a a a",
+            " 0:D0=q 1:a 2:a 3:a 4:a 5:a 6:a 7:a 8:a 9:a 10:a 11:a 12:a 13:a 14:a 15:a 16:a 17:a 18:a 19:a 20:a 21:a 22:a 23:a",
+        ),
+        (
+            "a=h a=l a=r a=f a=e a=s a=h a=h --job=find",
+            " 0:a=h 1:a=l 2:a=r 3:a=f 4:a=e 5:a=s 6:a=h 7:a=h",
+        ),
+    ] {
+        assert_eq!(rt; texts(alloc, line)?.as_str(), wanted, "at {line}");
+    }
+    Ok(())
+}
+
+// A word that begins with a text and goes on with so many bytes.
+fn long(alloc: Global, begin: &str, bytes: usize) -> Result<String, Fail> {
+    let mut word = String::from_str(alloc, begin)?;
+    for _ in 0..bytes {
+        word.push_str("x")?;
+    }
+    Ok(word)
+}
+
+// What so many words `a` and then others give.
+fn behind(
+    alloc: Global,
+    count: usize,
+    first: String,
+    second: Option<String>,
+) -> Result<Option<(u32, WordWhy)>, Fail> {
+    let mut words = Vec::new(alloc);
+    for _ in 0..count {
+        words.push(String::from_str(alloc, "a")?)?;
+    }
+    words.push(first)?;
+    if let Some(second) = second {
+        words.push(second)?;
+    }
+    Ok(match read_words(alloc, &words) {
+        Err(WordsError::Fault(WordFault { word, at: 0, why })) => Some((word, why)),
+        _ => None,
+    })
+}
+
+#[test]
+fn counts_words_and_bytes(rt: HostRuntime) -> Result<(), Fail> {
+    let alloc = rt.alloc();
+    for (count, begin, bytes, next, wanted) in [
+        (255, "a", 0, None, Some((24, WordWhy::Many))),
+        (256, "a", 0, None, Some((256, WordWhy::Many))),
+        // The number comes before the bytes, and a value is judged as a word is.
+        (256, "a", 4096, None, Some((256, WordWhy::Many))),
+        (255, "--ring", 0, Some(("a", 0)), Some((256, WordWhy::Many))),
+        (
+            255,
+            "--ring",
+            0,
+            Some(("-a", 0)),
+            Some((255, WordWhy::NoValue)),
+        ),
+        (
+            254,
+            "--ring",
+            0,
+            Some(("a", 0)),
+            Some((255, WordWhy::Value)),
+        ),
+        (0, "a", 4095, None, None),
+        (0, "a", 4096, None, Some((0, WordWhy::Long))),
+        (1, "-", 4096, None, Some((1, WordWhy::Long))),
+        (0, "--show=", 4089, None, Some((1, WordWhy::Few))),
+        (0, "--show=", 4090, None, Some((0, WordWhy::Long))),
+        (0, "--show", 0, Some(("x", 4095)), Some((2, WordWhy::Few))),
+        (1, "--show", 0, Some(("x", 4096)), Some((2, WordWhy::Long))),
+        (
+            1,
+            "--show",
+            0,
+            Some(("-", 4096)),
+            Some((1, WordWhy::NoValue)),
+        ),
+    ] {
+        let first = long(alloc, begin, bytes)?;
+        let second = match next {
+            Some((begin, bytes)) => Some(long(alloc, begin, bytes)?),
+            None => None,
+        };
+        assert_eq!(rt;
+            behind(alloc, count, first, second)?,
+            wanted,
+            "at {count} {begin} {bytes}"
+        );
+    }
+    Ok(())
+}
+
+#[test]
+fn tells_options(rt: HostRuntime) -> Result<(), Fail> {
+    let alloc = rt.alloc();
+    let mut told = String::new(alloc);
+    for option in OPTIONS {
+        let row = option.row();
+        told.push_str(format!(in alloc; "{} ({}) {}\n", row.name, row.takes, row.usual)?.as_str())?;
+    }
+    assert_eq!(rt;
+        told.as_str(),
+        "job (decode, find) decode\nformat (raw) raw\nchannels (1 to 64) 8\nrate (N or N/D, N 1 to 1000000000000000, D 1 to 1000000000) 1000000\nthreads (yes, no) yes\nring (1 to 16384) 256\nshow (text) all\n"
+    );
+    assert!(rt; matches!(Name::Show.row().takes, Takes::Text));
+    options_are_whole();
+    clap_reads_the_uses();
+    Ok(())
+}
