@@ -1,0 +1,73 @@
+-- The table of kinds: one row a kind, and in it one row an option.
+use Rattle.std.specs.Prelude.{ℕ, Bool, true, List, [], ◌∷◌, map, Option, codes}
+use Rattle.std.specs.List.{find, position}
+use Rattle.std.specs.Str.{bytes_eq}
+use Rattle.la_base.specs.declared.wires.Wire.{Wire}
+use Rattle.la_base.specs.declared.wires.Wire.TheVariants as wire
+use Rattle.decoder_set.specs.declared.kinds.Kind.{Kind}
+use Rattle.decoder_set.specs.declared.kinds.Kind.TheVariants.{I2c}
+use Rattle.decoder_set.specs.declared.kinds.OptForm.{OptForm}
+use Rattle.decoder_set.specs.declared.kinds.OptForm.TheVariants as form
+use Rattle.decoder_set.specs.declared.kinds.OptRow.{OptRow}
+use Rattle.decoder_set.specs.declared.kinds.KindRow.{KindRow}
+
+abbrev pub Text : Type 0
+Text = List ℕ
+
+-- what an option takes: a channel, which may have to be given; a number in a range, with its usual value; one of some words
+pub data Form : Type 0 where
+  Pin : Bool → Form
+  Number : ℕ → ℕ → ℕ → Form
+  Choice : List Text → Form
+
+-- an option
+pub record OptionRow : Type 0 where
+  pub name : Text
+  pub form : Form
+
+-- a kind: its name, the wires that it reads and gives, its options, the names of its classes of binary data
+pub record Row : Type 0 where
+  pub name : Text
+  pub input : Wire
+  pub output : Wire
+  pub options : List OptionRow
+  pub classes : List Text
+
+-- the table
+abbrev pub kind_row : Kind → Row
+kind_row I2c = record {
+  name = codes "i2c";
+  input = wire.Logic;
+  output = wire.I2c;
+  options = record { name = codes "scl"; form = Pin true } ∷ record { name = codes "sda"; form = Pin true } ∷ [];
+  classes = codes "write" ∷ codes "read" ∷ [];
+}
+
+-- the kinds that have a row
+abbrev pub kinds : List Kind
+kinds = I2c ∷ []
+
+-- the kind of a name
+abbrev pub kind_of : Text → Option Kind
+kind_of name = find (λ kind. bytes_eq (kind_row kind).name name) kinds
+
+-- a class of binary data by its name: its place among the classes of the kind
+abbrev pub class_of : Kind → Text → Option ℕ
+class_of kind name = position (λ class. bytes_eq class name) (kind_row kind).classes
+
+abbrev pub form_of : OptForm → Form
+form_of (form.Pin required) = Pin required
+form_of (form.Number least most usual) = Number least most usual
+form_of (form.Choice words) = Choice (map (λ word. word.now) words.now)
+
+abbrev pub opt_row : OptRow → OptionRow
+opt_row row = record { name = row.name.now; form = form_of row.form }
+
+abbrev pub row_of : KindRow → Row
+row_of row = record {
+  name = row.name.now;
+  input = row.input;
+  output = row.output;
+  options = map opt_row row.options.now;
+  classes = map (λ class. class.now) row.classes.now;
+}

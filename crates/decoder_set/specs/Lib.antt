@@ -1,0 +1,5 @@
+pub mod Kinds
+pub mod Values
+pub mod Setups
+pub mod Laws
+pub mod Opening

@@ -1,0 +1,52 @@
+-- How a decoder is opened, and what it has consumed.
+use Rattle.std.specs.Prelude.{ℕ, ◌≡◌, List, [], Option, Some, None, Result, Ok, Err, if◌then◌else◌}
+use Rattle.decoder_core.specs.Inputs.{Item}
+use Rattle.decoder_core.specs.Driving.{Drives}
+use Rattle.decoder_core.specs.declared.driver.Driver.{Driver}
+use Rattle.decoder_core.specs.declared.faults.OptFault.{OptFault}
+use Rattle.decoder_core.specs.declared.faults.OptFault.TheVariants.{Range}
+use Rattle.dec_i2c.specs.Opening.{bus_of, StandsFor}
+use Rattle.dec_i2c.specs.Waits.{i2c_alts}
+use Rattle.dec_i2c.specs.declared.held.Bus.{Bus}
+use Rattle.dec_i2c.specs.declared.held.I2c.{I2c}
+use Rattle.la_base.specs.declared.samples.Rate.{Rate}
+use Rattle.decoder_set.specs.declared.kinds.Kind.{Kind}
+use Rattle.decoder_set.specs.declared.kinds.Kind.TheVariants as kind
+use Rattle.decoder_set.specs.declared.setup.OptValues.{OptValues}
+use Rattle.decoder_set.specs.declared.setup.Setup.{Setup}
+use Rattle.decoder_set.specs.declared.any.AnyDecoder.{AnyDecoder}
+use Rattle.decoder_set.specs.declared.any.AnyMachine.{AnyMachine}
+use Rattle.decoder_set.specs.declared.any.AnyMachine.TheVariants as machine
+use Rattle.decoder_set.specs.Setups.{value_at}
+use Rattle.decoder_set.specs.Values.{in_range}
+
+-- an I2C decoder of these values has consumed this input
+pub record I2cConsumed (values : List (Option ℕ)) (driver : Driver I2c Bus) (input : List Item) : Type 0 where
+  pub scl : (bus_of driver.machine).scl ≡ value_at values 0
+  pub sda : (bus_of driver.machine).sda ≡ value_at values 1
+  pub drives : Drives StandsFor (λ machine. i2c_alts (bus_of machine).scl (bus_of machine).sda) driver.machine driver.waiter input
+
+-- a decoder of this kind and these values has consumed this input
+abbrev pub Consumed : Kind → List (Option ℕ) → AnyMachine → List Item → Type 0
+Consumed kind.I2c values (machine.I2c driver) input = I2cConsumed values driver input
+
+-- its kind, options and rate
+abbrev pub setup_of : AnyDecoder → Setup
+setup_of decoder = decoder.setup
+
+-- a decoder has consumed this input
+abbrev pub HasConsumed : AnyDecoder → List Item → Type 0
+HasConsumed decoder input = Consumed decoder.setup.kind decoder.setup.values.given decoder.machine input
+
+-- why the options of a kind, each in its own range, can't be had at a rate
+abbrev pub rate_fault : Kind → List (Option ℕ) → Rate → Option OptFault
+rate_fault kind.I2c values rate = None
+
+-- why a decoder can't be opened: Range where an option doesn't take its value; then what the rate forbids
+abbrev pub open_fault : ℕ → Kind → List (Option ℕ) → Rate → Option OptFault
+open_fault bits kind values rate = if in_range bits kind values then rate_fault kind values rate else Some Range
+
+-- a decoder of this kind, values and rate that has consumed nothing, or its fault
+abbrev pub Opens : ℕ → Kind → OptValues → Rate → Result AnyDecoder OptFault → Type 0
+Opens bits kind values rate (Ok decoder) = (open_fault bits kind values.given rate ≡ None) × (setup_of decoder ≡ record { kind = kind; values = values; rate = rate }) × HasConsumed decoder []
+Opens bits kind values rate (Err fault) = open_fault bits kind values.given rate ≡ Some fault

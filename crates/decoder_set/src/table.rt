@@ -1,0 +1,98 @@
+// The table of kinds.
+ghost use Rattle.std.specs.Prelude.{◌≡◌, ◌≤◌, ◌<◌, length, map, IfSome};
+ghost use Rattle.std.specs.List.{position};
+ghost use Rattle.std.specs.Str.{bytes_eq};
+ghost use Rattle.decoder_set.specs.Kinds.{kind_row, row_of, opt_row, kind_of, class_of};
+
+use crate::kinds::{Kind, KindRow, OptForm, OptRow};
+use la_base::Wire;
+
+const KINDS: [Kind; 1] = [Kind::I2c];
+
+// I2C, by UM10204.
+const I2C: KindRow = KindRow {
+    name: "i2c",
+    input: Wire::Logic,
+    output: Wire::I2c,
+    options: &[
+        OptRow {
+            name: "scl",
+            form: OptForm::Pin { required: true },
+        },
+        OptRow {
+            name: "sda",
+            form: OptForm::Pin { required: true },
+        },
+    ],
+    classes: &["write", "read"],
+};
+
+// The row of a kind.
+fn row(kind: Kind) -> KindRow
+    ensures row { row_of result ≡ kind_row kind }
+    ensures short { length result.name.now ≤ 32 }
+    ensures few { length result.options.now ≤ 8 }
+    ensures few_classes { length result.classes.now ≤ 16 }
+{
+    match kind {
+        Kind::I2c => I2C,
+    }
+}
+
+/// The kind of this name.
+pub fn kind_of(name: &[u8]) -> Option<Kind>
+    ensures { result ≡ kind_of name.now }
+{
+    KINDS
+        .iter()
+        .copied()
+        .find(|kind| kind_name(*kind).as_bytes() == name)
+}
+
+/// The name of a kind.
+pub fn kind_name(kind: Kind) -> &'static str
+    ensures name { result.now ≡ (kind_row kind).name }
+    ensures short { length result.now ≤ 32 }
+{
+    row(kind).name
+}
+
+/// The wire that a kind reads.
+pub fn input_of(kind: Kind) -> Wire
+    ensures { result ≡ (kind_row kind).input }
+{
+    row(kind).input
+}
+
+/// The wire that a kind gives.
+pub fn output_of(kind: Kind) -> Wire
+    ensures { result ≡ (kind_row kind).output }
+{
+    row(kind).output
+}
+
+/// The options of a kind, those of channels first.
+pub fn options_of(kind: Kind) -> &'static [OptRow]
+    ensures options { map opt_row result.now ≡ (kind_row kind).options }
+    ensures few { length result.now ≤ 8 }
+{
+    row(kind).options
+}
+
+// Where the first of these words is that text.
+fn place_among(words: &[&str], text: &[u8]) -> Option<usize>
+    ensures place { result ≡ position (λ word. bytes_eq word.now text.now) words.now }
+    ensures within { IfSome result (λ place. place < length words.now) }
+{
+    words.iter().position(|word| word.as_bytes() == text)
+}
+
+/// The class of binary data of this name.
+pub fn class_of(kind: Kind, name: &[u8]) -> Option<u16>
+    ensures { result ≡ class_of kind name.now }
+{
+    match place_among(row(kind).classes, name) {
+        Some(place) => Some(place as u16),
+        None => None,
+    }
+}

@@ -1,0 +1,17 @@
+// Notes as text.
+ghost use Rattle.std.specs.Prelude.{◌≡◌, ◌+◌, ◌≤◌, ◌++◌, length};
+ghost use Rattle.decoder_set.specs.Setups.{note_text};
+
+use crate::Kind;
+use la_base::Note;
+use line_text::LineBuf;
+
+/// Appends the text of a note, and nothing for a class that the kind doesn't have.
+pub fn note_text(kind: Kind, note: Note, buf: &mut LineBuf)
+    requires { length buf.old + 64 ≤ 256 }
+    ensures { buf.new ≡ buf.old ++ note_text kind note }
+{
+    match kind {
+        Kind::I2c => dec_i2c::text(note, buf),
+    }
+}
