@@ -9,7 +9,8 @@ use line_text::LineBuf;
 /// Appends the text of a note, and nothing for a class that the kind doesn't have.
 pub fn note_text(kind: Kind, note: Note, buf: &mut LineBuf)
     requires { length buf.old + 64 ≤ 256 }
-    ensures { buf.new ≡ buf.old ++ note_text kind note }
+    ensures text { buf.new ≡ buf.old ++ note_text kind note }
+    ensures short { length buf.new ≤ length buf.old + 64 }
 {
     match kind {
         Kind::I2c => dec_i2c::text(note, buf),
