@@ -1,10 +1,11 @@
 -- How a decoder is opened, and what it has consumed.
-use Rattle.std.specs.Prelude.{ℕ, ◌≡◌, List, [], Option, Some, None, Result, Ok, Err, if◌then◌else◌}
+use Rattle.std.specs.Prelude.{ℕ, ◌≡◌, Bool, false, not, List, [], Option, Some, None, Result, Ok, Err, if◌then◌else◌}
 use Rattle.decoder_core.specs.Inputs.{Item}
 use Rattle.decoder_core.specs.Driving.{Drives}
 use Rattle.decoder_core.specs.declared.driver.Driver.{Driver}
 use Rattle.decoder_core.specs.declared.faults.OptFault.{OptFault}
 use Rattle.decoder_core.specs.declared.faults.OptFault.TheVariants.{Range}
+use Rattle.decoder_core.specs.declared.faults.OptFault.TheVariants as fault
 use Rattle.dec_i2c.specs.Opening.{bus_of, StandsFor}
 use Rattle.dec_i2c.specs.Waits.{i2c_alts}
 use Rattle.dec_i2c.specs.declared.held.Bus.{Bus}
@@ -38,15 +39,17 @@ setup_of decoder = decoder.setup
 abbrev pub HasConsumed : AnyDecoder → List Item → Type 0
 HasConsumed decoder input = Consumed decoder.setup.kind decoder.setup.values.given decoder.machine input
 
--- why the options of a kind, each in its own range, can't be had at a rate
-abbrev pub rate_fault : Kind → List (Option ℕ) → Rate → Option OptFault
-rate_fault kind.I2c values rate = None
+-- whether a rate is too low for the options of a kind
+abbrev pub too_slow : Kind → List (Option ℕ) → Rate → Bool
+too_slow kind.I2c values rate = false
 
--- why a decoder can't be opened: Range where an option doesn't take its value; then what the rate forbids
+-- why a decoder can't be opened: Range where an option doesn't take its value, then Rate where the rate is too low
 abbrev pub open_fault : ℕ → Kind → List (Option ℕ) → Rate → Option OptFault
-open_fault bits kind values rate = if in_range bits kind values then rate_fault kind values rate else Some Range
+open_fault bits kind values rate = if not (in_range bits kind values) then Some Range
+    else if too_slow kind values rate then Some fault.Rate
+    else None
 
 -- a decoder of this kind, values and rate that has consumed nothing, or its fault
 abbrev pub Opens : ℕ → Kind → OptValues → Rate → Result AnyDecoder OptFault → Type 0
 Opens bits kind values rate (Ok decoder) = (open_fault bits kind values.given rate ≡ None) × (setup_of decoder ≡ record { kind = kind; values = values; rate = rate }) × HasConsumed decoder []
-Opens bits kind values rate (Err fault) = open_fault bits kind values.given rate ≡ Some fault
+Opens bits kind values rate (Err why) = open_fault bits kind values.given rate ≡ Some why

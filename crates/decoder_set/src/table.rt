@@ -79,8 +79,8 @@ pub fn options_of(kind: Kind) -> &'static [OptRow]
     row(kind).options
 }
 
-// Where the first of these words is that text.
-fn place_among(words: &[&str], text: &[u8]) -> Option<usize>
+/// The place of the first of these words that is a text.
+pub fn word_place(words: &[&str], text: &[u8]) -> Option<usize>
     ensures place { result ≡ position (λ word. bytes_eq word.now text.now) words.now }
     ensures within { IfSome result (λ place. place < length words.now) }
 {
@@ -91,7 +91,7 @@ fn place_among(words: &[&str], text: &[u8]) -> Option<usize>
 pub fn class_of(kind: Kind, name: &[u8]) -> Option<u16>
     ensures { result ≡ class_of kind name.now }
 {
-    match place_among(row(kind).classes, name) {
+    match word_place(row(kind).classes, name) {
         Some(place) => Some(place as u16),
         None => None,
     }

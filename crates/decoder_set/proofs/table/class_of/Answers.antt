@@ -8,9 +8,9 @@ use Rattle.decoder_set.proofs.table.class_of.Goals as goal
 pub returns-in-Some : goal.returns-in-Some
 returns-in-Some c =
     let text = c.args.name.now in
-    sym (ap (λ (row : Row). position (λ word. bytes_eq word text) row.classes) (sym c.row.ensures.row) ∙ position-map (λ word. bytes_eq word text) (λ word. word.now) c.row.result.classes.now ∙ sym c.place_among.ensures.place ∙ c.in-Some.is)
+    sym (ap (λ (row : Row). position (λ word. bytes_eq word text) row.classes) (sym c.row.ensures.row) ∙ position-map (λ word. bytes_eq word text) (λ word. word.now) c.row.result.classes.now ∙ sym c.word_place.ensures.place ∙ c.in-Some.is)
 
 pub returns-in-None : goal.returns-in-None
 returns-in-None c =
     let text = c.args.name.now in
-    sym (ap (λ (row : Row). position (λ word. bytes_eq word text) row.classes) (sym c.row.ensures.row) ∙ position-map (λ word. bytes_eq word text) (λ word. word.now) c.row.result.classes.now ∙ sym c.place_among.ensures.place ∙ c.in-None.is)
+    sym (ap (λ (row : Row). position (λ word. bytes_eq word text) row.classes) (sym c.row.ensures.row) ∙ position-map (λ word. bytes_eq word text) (λ word. word.now) c.row.result.classes.now ∙ sym c.word_place.ensures.place ∙ c.in-None.is)

@@ -1,0 +1,62 @@
+-- The stack that words make, or the first fault.
+use Rattle.std.specs.Prelude.{ℕ, ◌+◌, ◌==◌, Bool, true, List, [], length, min, slice_get, Option, Some, None, Result, Ok, Err, if◌then◌else◌, codes}
+use Rattle.std.specs.List.{before_first, after_first, list_any}
+use Rattle.std.specs.Str.{bytes_eq}
+use Rattle.text_parts.specs.Chains.{WordText}
+use Rattle.text_parts.specs.Places.{Placed, parts_between}
+use Rattle.text_parts.specs.Reading.{read_parts, then_read}
+use Rattle.decoder_set.specs.Kinds.{Text, class_of}
+use Rattle.stack_spec.specs.declared.faults.StackFault.{StackFault}
+use Rattle.stack_spec.specs.declared.faults.StackWhy.TheVariants as why
+use Rattle.stack_spec.specs.Instances.{Instance, place_named}
+use Rattle.stack_spec.specs.Options.{is_colon, fault}
+use Rattle.stack_spec.specs.Chains.{instances_of}
+
+-- a stack: its instances; the places of those that are shown, none for all; the instance and class whose binary data is wanted
+pub record Accepted : Type 0 where
+  pub instances : List Instance
+  pub shown : Option (List ℕ)
+  pub binary : Option (ℕ × ℕ)
+
+-- whether an instance is shown
+abbrev pub is_shown : Option (List ℕ) → ℕ → Bool
+is_shown None instance = true
+is_shown (Some places) instance = list_any (λ place. place == instance) places
+
+abbrev pub known : {X : Type 0} → ℕ → ℕ → Option X → Result X StackFault
+known word at None = fault word at why.Unknown
+known word at (Some x) = Ok x
+
+-- one name of those to be shown
+abbrev pub shown_at : List Instance → ℕ → List ℕ → Placed → Result ℕ StackFault
+shown_at instances word before part = known word part.0 (place_named instances part.1)
+
+-- the instances that are shown: all where no word says which, or the word is `all`; else those whose names stand between commas
+abbrev pub shown_of : List Instance → Option WordText → Result (Option (List ℕ)) StackFault
+shown_of instances None = Ok None
+shown_of instances (Some show) =
+    if bytes_eq show.text (codes "all") then Ok None
+    else then_read (read_parts (shown_at instances show.word) [] (parts_between 44 show.text)) (λ places. Ok (Some places))
+
+abbrev pub class_in : Option Instance → Text → Option ℕ
+class_in None name = None
+class_in (Some instance) name = class_of instance.kind name
+
+-- the class of an instance; its name begins behind the `:`, or at the end where there is none
+abbrev pub class_at : List Instance → WordText → ℕ → Result (Option (ℕ × ℕ)) StackFault
+class_at instances binary place = then_read
+    (known binary.word (min (length (before_first is_colon binary.text) + 1) (length binary.text)) (class_in (slice_get instances place) (after_first is_colon binary.text)))
+    (λ class. Ok (Some (place, class)))
+
+-- the binary data that is wanted: the name of an instance, `:` and the name of a class
+abbrev pub binary_of : List Instance → Option WordText → Result (Option (ℕ × ℕ)) StackFault
+binary_of instances None = Ok None
+binary_of instances (Some binary) = then_read (known binary.word 0 (place_named instances (before_first is_colon binary.text))) (class_at instances binary)
+
+-- the stack of chains, then what is shown, then the binary data; or the first fault in this order
+abbrev pub stack_of : List WordText → Option WordText → Option WordText → Result Accepted StackFault
+stack_of chains show binary =
+    then_read (instances_of chains) (λ instances.
+    then_read (shown_of instances show) (λ shown.
+    then_read (binary_of instances binary) (λ binary.
+    Ok (record { instances = instances; shown = shown; binary = binary }))))

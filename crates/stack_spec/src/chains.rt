@@ -1,0 +1,135 @@
+// Reading chains to instances.
+ghost use Rattle.std.specs.Prelude.{◌≡◌, ◌+◌, ◌<◌, ◌≤◌, ◌^◌, All, length, map, OnOk, vec_len};
+ghost use Rattle.std.specs.List.{list_any};
+ghost use Rattle.std.specs.String.{string_bytes};
+ghost use Rattle.text_parts.specs.Chains.{chain_of};
+ghost use Rattle.text_parts.specs.Reading.{Gives};
+ghost use Rattle.stack_spec.specs.Chains.{added_at, chain_by, head_at, is_dash, instance_at, instances_of, kind_text, part_at};
+ghost use Rattle.stack_spec.specs.Meaning.{fault_in, instance_of};
+ghost use Rattle.stack_spec.specs.Steps.{ChainStep, PartStep};
+
+use crate::errors::fault;
+use crate::instance::Instance;
+use crate::naming::{next_number, place_named};
+use crate::options::read_options;
+use crate::standing::why_not;
+use crate::{StackError, StackWhy};
+use decoder_set::{kind_of, options_of};
+use std::alloc::Global;
+use text_parts::{ChainWord, place_behind};
+
+// What stands before the first colon of an instance.
+fn kind_text(text: &str) -> &str
+    ensures { result.now ≡ kind_text text.entry.now }
+{
+    match text.split_once(':') {
+        Some((name, _)) => name,
+        None => text,
+    }
+}
+
+// Whether a text has a hyphen.
+fn has_dash(text: &str) -> bool
+    ensures { result ≡ list_any is_dash text.now }
+{
+    text.as_bytes().iter().any(|byte| *byte == b'-')
+}
+
+// A new instance on its parent, behind the instances before it.
+fn read_instance(
+    alloc: Global,
+    before: &[Instance],
+    parent: Option<u32>,
+    word: u32,
+    at: u32,
+    text: &str,
+) -> Result<Instance, StackError>
+    requires place { at + length text.now + 1 < 2 ^ 32 }
+    requires few { length before.now ≤ 24 }
+    ensures gives { Gives instance_of fault_in (instance_at (map instance_of before.now) parent word (at, text.now)) result }
+    ensures room { OnOk result (length before.now < 24) }
+{
+    let Some(kind) = kind_of(kind_text(text).as_bytes()) else {
+        return Err(fault(word, at, StackWhy::Unknown));
+    };
+    if let Some(why) = why_not(before, parent, kind) {
+        return Err(fault(word, at, why));
+    }
+    match read_options(alloc, options_of(kind), word, at, text) {
+        Ok(options) => Ok(Instance {
+            kind,
+            number: next_number(before, kind),
+            options,
+            parent,
+        }),
+        Err(error) => Err(error),
+    }
+}
+
+// Adds a new instance, and answers its place.
+fn add_instance(
+    alloc: Global,
+    instances: &mut Vec<Instance>,
+    parent: Option<u32>,
+    word: u32,
+    at: u32,
+    text: &str,
+) -> Result<u32, StackError>
+    requires place { at + length text.now + 1 < 2 ^ 32 }
+    requires few { vec_len instances.old ≤ 24 }
+    ensures step { PartStep (added_at (map instance_of instances.old.items) parent word (at, text.now)) (map instance_of instances.old.items) (map instance_of instances.new.items) result }
+    ensures few { OnOk result (vec_len instances.new ≤ 24) }
+{
+    let place = instances.len() as u32;
+    match read_instance(alloc, instances, parent, word, at, text) {
+        Ok(instance) => {
+            if instances.push(instance).is_err() {
+                return Err(StackError::NoMemory);
+            }
+            Ok(place)
+        }
+        Err(error) => Err(error),
+    }
+}
+
+// The head of a chain: the name of an earlier instance, or an instance on samples.
+fn read_head(
+    alloc: Global,
+    instances: &mut Vec<Instance>,
+    word: u32,
+    at: u32,
+    text: &str,
+) -> Result<u32, StackError>
+    requires place { at + length text.now + 1 < 2 ^ 32 }
+    requires few { vec_len instances.old ≤ 24 }
+    ensures step { PartStep (head_at (map instance_of instances.old.items) word (at, text.now)) (map instance_of instances.old.items) (map instance_of instances.new.items) result }
+    ensures few { OnOk result (vec_len instances.new ≤ 24) }
+{
+    if !has_dash(kind_text(text)) {
+        return add_instance(alloc, instances, None, word, at, text);
+    }
+    match place_named(instances, text.as_bytes()) {
+        Some(place) => Ok(place),
+        None => Err(fault(word, at, StackWhy::NoParent)),
+    }
+}
+
+// A part of a chain: its head, or an instance on that of the part before it.
+fn read_part(
+    alloc: Global,
+    instances: &mut Vec<Instance>,
+    parent: Option<u32>,
+    word: u32,
+    at: u32,
+    text: &str,
+) -> Result<u32, StackError>
+    requires place { at + length text.now + 1 < 2 ^ 32 }
+    requires few { vec_len instances.old ≤ 24 }
+    ensures step { PartStep (part_at (map instance_of instances.old.items) parent word (at, text.now)) (map instance_of instances.old.items) (map instance_of instances.new.items) result }
+    ensures few { OnOk result (vec_len instances.new ≤ 24) }
+{
+    match parent {
+        None => read_head(alloc, instances, word, at, text),
+        Some(_) => add_instance(alloc, instances, parent, word, at, text),
+    }
+}
