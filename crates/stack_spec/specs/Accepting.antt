@@ -31,27 +31,39 @@ known word at (Some x) = Ok x
 abbrev pub shown_at : List Instance → ℕ → List ℕ → Placed → Result ℕ StackFault
 shown_at instances word before part = known word part.0 (place_named instances part.1)
 
+-- the places of the instances whose names stand between commas
+abbrev pub names_of : List Instance → ℕ → Text → Result (List ℕ) StackFault
+names_of instances word text = read_parts (shown_at instances word) [] (parts_between 44 text)
+
+abbrev pub some_of : {X : Type 0} → Result X StackFault → Result (Option X) StackFault
+some_of (Ok x) = Ok (Some x)
+some_of (Err fault) = Err fault
+
 -- the instances that are shown: all where no word says which, or the word is `all`; else those whose names stand between commas
 abbrev pub shown_of : List Instance → Option WordText → Result (Option (List ℕ)) StackFault
 shown_of instances None = Ok None
-shown_of instances (Some show) =
-    if bytes_eq show.text (codes "all") then Ok None
-    else then_read (read_parts (shown_at instances show.word) [] (parts_between 44 show.text)) (λ places. Ok (Some places))
+shown_of instances (Some show) = if bytes_eq show.text (codes "all") then Ok None else some_of (names_of instances show.word show.text)
 
 abbrev pub class_in : Option Instance → Text → Option ℕ
 class_in None name = None
 class_in (Some instance) name = class_of instance.kind name
 
--- the class of an instance; its name begins behind the `:`, or at the end where there is none
-abbrev pub class_at : List Instance → WordText → ℕ → Result (Option (ℕ × ℕ)) StackFault
-class_at instances binary place = then_read
-    (known binary.word (min (length (before_first is_colon binary.text) + 1) (length binary.text)) (class_in (slice_get instances place) (after_first is_colon binary.text)))
-    (λ class. Ok (Some (place, class)))
+-- the place of a class's name: behind the `:`, or the end where there is none
+abbrev pub class_place : Text → ℕ
+class_place text = min (length (before_first is_colon text) + 1) (length text)
 
--- the binary data that is wanted: the name of an instance, `:` and the name of a class
+-- the class that a text names of the instance at a place
+abbrev pub class_at : List Instance → ℕ → Text → ℕ → Result (ℕ × ℕ) StackFault
+class_at instances word text place = then_read (known word (class_place text) (class_in (slice_get instances place) (after_first is_colon text))) (λ class. Ok (place, class))
+
+-- an instance and one of its classes, by their names with `:` between them
+abbrev pub class_of_name : List Instance → ℕ → Text → Result (ℕ × ℕ) StackFault
+class_of_name instances word text = then_read (known word 0 (place_named instances (before_first is_colon text))) (class_at instances word text)
+
+-- the binary data that is wanted, if any is
 abbrev pub binary_of : List Instance → Option WordText → Result (Option (ℕ × ℕ)) StackFault
 binary_of instances None = Ok None
-binary_of instances (Some binary) = then_read (known binary.word 0 (place_named instances (before_first is_colon binary.text))) (class_at instances binary)
+binary_of instances (Some binary) = some_of (class_of_name instances binary.word binary.text)
 
 -- the stack of chains, then what is shown, then the binary data; or the first fault in this order
 abbrev pub stack_of : List WordText → Option WordText → Option WordText → Result Accepted StackFault

@@ -4,4 +4,6 @@ pub mod Chains
 pub mod Accepting
 pub mod Meaning
 pub mod Steps
+pub mod Sound
+pub mod Stacks
 pub mod Rows

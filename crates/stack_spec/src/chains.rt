@@ -1,5 +1,5 @@
 // Reading chains to instances.
-ghost use Rattle.std.specs.Prelude.{◌≡◌, ◌+◌, ◌<◌, ◌≤◌, ◌^◌, All, length, map, OnOk, vec_len};
+ghost use Rattle.std.specs.Prelude.{◌≡◌, ◌+◌, ◌<◌, ◌≤◌, ◌^◌, All, length, map, IfOk, OnOk, vec_len};
 ghost use Rattle.std.specs.List.{list_any};
 ghost use Rattle.std.specs.String.{string_bytes};
 ghost use Rattle.text_parts.specs.Chains.{chain_of};
@@ -132,4 +132,44 @@ fn read_part(
         None => read_head(alloc, instances, word, at, text),
         Some(_) => add_instance(alloc, instances, parent, word, at, text),
     }
+}
+
+// The parts of a chain, one behind another. Its new instances join those of earlier chains.
+fn read_chain(
+    alloc: Global,
+    instances: &mut Vec<Instance>,
+    word: u32,
+    text: &str,
+) -> Result<(), StackError>
+    requires short { length text.now ≤ 4096 }
+    requires few { vec_len instances.old ≤ 24 }
+    ensures step { ChainStep (chain_by (map instance_of instances.old.items) (record { word = word; text = text.now })) (map instance_of instances.old.items) (map instance_of instances.new.items) result }
+    ensures few { OnOk result (vec_len instances.new ≤ 24) }
+{
+    let mut parent = None;
+    let mut at: u32 = 0;
+    for part in text.split(',') {
+        match read_part(alloc, instances, parent, word, at, part) {
+            Ok(place) => parent = Some(place),
+            Err(error) => return Err(error),
+        }
+        at = place_behind(at, part);
+    }
+    Ok(())
+}
+
+/// The instances of chains, or the first fault.
+pub fn read_chains(alloc: Global, chains: &[ChainWord]) -> Result<Vec<Instance>, StackError>
+    requires { All (λ chain. length (string_bytes chain.text) ≤ 4096) chains.now }
+    ensures gives { Gives (λ v. map instance_of v.items) fault_in (instances_of (map chain_of chains.now)) result }
+    ensures few { IfOk result (λ v. vec_len v ≤ 24) }
+{
+    let mut instances = Vec::new(alloc);
+    for chain in chains {
+        match read_chain(alloc, &mut instances, chain.word, chain.text.as_str()) {
+            Ok(()) => {}
+            Err(error) => return Err(error),
+        }
+    }
+    Ok(instances)
 }

@@ -7,6 +7,11 @@ mod faults;
 mod instance;
 mod naming;
 mod options;
+mod read;
+mod shown;
+mod stack;
 mod standing;
 
 pub use faults::{BindError, BindFault, StackError, StackFault, StackWhy};
+pub use read::read_stack;
+pub use stack::Stack;

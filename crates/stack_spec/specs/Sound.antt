@@ -1,0 +1,53 @@
+-- What holds of the instances of every stack that is read.
+use Rattle.std.specs.Prelude.{ℕ, ◌≡◌, ◌<◌, ◌≤◌, Bool, true, false, not, ◌&&◌, nat_le, nat_lt, List, [], ◌∷◌, ◌++◌, length, slice_get, Option, Some, None}
+use Rattle.std.specs.List.{list_all, enumerate_from}
+use Rattle.la_base.specs.declared.wires.Wire.TheVariants.{Logic}
+use Rattle.decoder_set.specs.Kinds.{Form, OptionRow, Pin, Number, Choice, kind_row}
+use Rattle.decoder_set.specs.declared.kinds.Kind.{Kind}
+use Rattle.stack_spec.specs.Instances.{Value, Channel, Given, Instance, same_wire, output_at, stands_on, most_instances}
+use Rattle.stack_spec.specs.Instances as value
+use Rattle.stack_spec.specs.Options.{given_at}
+
+-- an option takes what it is given, or nothing
+abbrev pub fits : Form → Option Value → Bool
+fits (Pin required) None = not required
+fits (Pin required) (Some (Channel reference)) = true
+fits (Pin required) (Some (value.Number number)) = false
+fits (Number least most usual) None = true
+fits (Number least most usual) (Some (Channel reference)) = false
+fits (Number least most usual) (Some (value.Number number)) = nat_le least number && nat_le number most
+fits (Choice words) None = true
+fits (Choice words) (Some (Channel reference)) = false
+fits (Choice words) (Some (value.Number place)) = nat_lt place (length words)
+
+-- each option of a kind takes what it is given
+abbrev pub options_fit : List OptionRow → List Given → Bool
+options_fit rows given = list_all (λ p. fits p.1.form (given_at given p.0)) (enumerate_from 0 rows)
+
+-- a kind stands on an instance before it, which gives what it wants; or it reads samples
+abbrev pub parent_fits : List Instance → Kind → Option ℕ → Bool
+parent_fits before kind None = same_wire Logic (kind_row kind).input
+parent_fits before kind (Some parent) = nat_lt parent (length before) && stands_on before parent kind
+
+-- an instance is right behind those before it
+abbrev pub is_right : List Instance → Instance → Bool
+is_right before instance = parent_fits before instance.kind instance.parent && options_fit (kind_row instance.kind).options instance.options
+
+-- each instance is right behind those before it
+abbrev pub right_from : List Instance → List Instance → Bool
+right_from before [] = true
+right_from before (instance ∷ rest) = is_right before instance && right_from (before ++ instance ∷ []) rest
+
+-- there are no more than `most_instances`, and each is right
+abbrev pub is_sound : List Instance → Bool
+is_sound instances = nat_le (length instances) most_instances && right_from [] instances
+
+-- an instance at a place stands on none and reads samples, or on an earlier one that gives what it wants
+abbrev pub HasParent : List Instance → ℕ → Instance → Option ℕ → Type 0
+HasParent instances place instance None = (kind_row instance.kind).input ≡ Logic
+HasParent instances place instance (Some parent) = (parent < place) × (output_at instances parent ≡ (kind_row instance.kind).input)
+
+-- instances as a forest: no more than `most_instances`, and each behind its parent
+pub record IsForest (instances : List Instance) : Type 0 where
+  pub few : length instances ≤ most_instances
+  pub parents : (place : ℕ) (instance : Instance) → slice_get instances place ≡ Some instance → HasParent instances place instance instance.parent

@@ -1,0 +1,17 @@
+-- What a stack means.
+use Rattle.std.specs.Prelude.{ℕ, ◌≡◌, ◌<◌, List, length, map, slice_get, Option, Some, option_map}
+use Rattle.stack_spec.specs.Accepting.{Accepted}
+use Rattle.stack_spec.specs.Instances.{Instance}
+use Rattle.stack_spec.specs.Meaning.{instance_of}
+use Rattle.stack_spec.specs.declared.stack.Stack.{Stack}
+
+-- its instances, what is shown, and the binary data that is wanted
+abbrev pub stack_meaning : Stack → Accepted
+stack_meaning stack = record {
+  instances = map instance_of stack.instances.items;
+  shown = option_map (λ places. places.items) stack.shown;
+  binary = option_map (λ b. (b.0, b.1)) stack.binary;
+}
+
+abbrev pub instances_in : Stack → List Instance
+instances_in stack = (stack_meaning stack).instances
