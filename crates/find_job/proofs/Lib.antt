@@ -1,0 +1,5 @@
+pub mod Members
+pub mod Fronts
+pub mod Going
+pub mod Searching
+pub mod Handing

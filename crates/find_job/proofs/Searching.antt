@@ -1,0 +1,81 @@
+-- The search for all stops, as it goes on.
+use Rattle.std.proofs.Common.{◌≡◌, ℕ, List, [], ◌++◌, Option, Some, Ok, sym, subst}
+use Rattle.std.specs.Io.KnownBytes.{Appends}
+use Rattle.la_base.specs.Samples.{samples}
+use Rattle.la_base.specs.declared.samples.Run.{Run}
+use Rattle.la_io.specs.Causes.{AppendsFront}
+use Rattle.la_io.specs.Grown.{appends_nothing, appends_on}
+use Rattle.wait_cond.specs.Stops.{Stop, Chain, AreStops}
+use Rattle.wait_cond.specs.Waiting.{Waits, alts_of, wait_from}
+use Rattle.wait_cond.specs.declared.alt.Alt.{Alt}
+use Rattle.wait_cond.specs.declared.scan.Waiter.{Waiter}
+use Rattle.wait_cond.proofs.ChainLemmas.{chain_longer, waits_stops}
+use Rattle.capture_any.specs.Reading.{Stands, Next}
+use Rattle.capture_any.specs.declared.capture.Capture.{Capture}
+use Rattle.capture_any.proofs.ListingLemmas.{Gave, gave_nothing, gave_run}
+use Rattle.find_job.specs.Listing.{lines_of}
+use Rattle.find_job.specs.Stopping.{RunWritten, RunCutOff}
+use Rattle.find_job.specs.Finding.{WholeListing, ListingFront}
+use Rattle.find_job.proofs.Fronts.{lines_append, front_on, front_whole}
+
+-- the capture has given samples of the bytes that were taken, and the lines of their stops are written
+pub record Searching (capture : Capture) (waiter : Waiter) (before : List ℕ) (left_old left_now old now : Option (List ℕ)) : Type 0 where
+  pub given : List ℕ
+  pub stops : List Stop
+  pub gave : Gave capture before left_old left_now given
+  pub waits : Waits waiter given
+  pub chain : Chain given (alts_of waiter) 0 stops (wait_from waiter)
+  pub written : Appends old now (lines_of stops)
+
+pub searching_starts : (capture : Capture) (waiter : Waiter) (before : List ℕ) (left old : Option (List ℕ)) → Stands capture before [] → Waits waiter [] → wait_from waiter ≡ 0
+    → Searching capture waiter before left left old old
+searching_starts capture waiter before left old stands waits from = record {
+  given = [];
+  stops = [];
+  gave = gave_nothing capture before left stands;
+  waits = waits;
+  chain = sym from;
+  written = appends_nothing old;
+}
+
+module _ (capture : Capture) (waiter : Waiter) (before : List ℕ) (left_old left_now old now : Option (List ℕ)) (so_far : Searching capture waiter before left_old left_now old now) where
+  -- a run, whose stops are written
+  pub searching_on : (next : Capture) (left_new : Option (List ℕ)) (run : Run) (after : Waiter) (new : Option (List ℕ)) → Next capture next left_now left_new (Ok (Some run)) → alts_of after ≡ alts_of waiter
+      → RunWritten after (alts_of waiter) (so_far.given ++ samples run) so_far.stops now new → Searching next after before left_old left_new old new
+  searching_on next left_new run after new answer alts written = record {
+    given = so_far.given ++ samples run;
+    stops = so_far.stops ++ written.more;
+    gave = gave_run capture next before left_old left_now left_new so_far.given run so_far.gave answer;
+    waits = written.waits;
+    chain = subst (λ (a : List Alt). Chain (so_far.given ++ samples run) a 0 (so_far.stops ++ written.more) (wait_from after)) (sym alts) written.chain;
+    written = appends_on old now new (lines_of so_far.stops) (lines_of written.more) (lines_of (so_far.stops ++ written.more)) so_far.written written.written (sym (lines_append so_far.stops written.more));
+  }
+
+  module _ (alts : List Alt) (same : alts_of waiter ≡ alts) where
+    -- the listing of the samples that were given is whole
+    pub whole_so_far : WholeListing so_far.given alts old now
+    whole_so_far = record {
+      stops = so_far.stops;
+      all = subst (λ (a : List Alt). AreStops so_far.given a so_far.stops) same (waits_stops waiter so_far.given so_far.stops so_far.waits so_far.chain);
+      written = so_far.written;
+    }
+
+    -- a write failed: a front of the listing of these samples and any more was appended
+    pub front_of_more : (run : Run) (new : Option (List ℕ)) → RunCutOff (alts_of waiter) (so_far.given ++ samples run) so_far.stops now new
+        → (rest : List ℕ) → ListingFront (so_far.given ++ samples run ++ rest) alts old new
+    front_of_more run new cut rest = record {
+      stops = so_far.stops ++ cut.more;
+      to = cut.to;
+      first = subst (λ (a : List Alt). Chain (so_far.given ++ samples run ++ rest) a 0 (so_far.stops ++ cut.more) cut.to) same
+          (chain_longer (so_far.given ++ samples run) rest (alts_of waiter) 0 cut.to (so_far.stops ++ cut.more) cut.chain);
+      written = subst (λ (l : List ℕ). AppendsFront old new l) (sym (lines_append so_far.stops cut.more)) (front_on old now new (lines_of so_far.stops) (lines_of cut.more) so_far.written cut.written);
+    }
+
+-- what was appended whole is also a front
+pub whole_is_front : (samples : List ℕ) (alts : List Alt) (old new : Option (List ℕ)) → WholeListing samples alts old new → ListingFront samples alts old new
+whole_is_front samples alts old new whole = record {
+  stops = whole.stops;
+  to = whole.all.to;
+  first = whole.all.chain;
+  written = front_whole old new (lines_of whole.stops) whole.written;
+}

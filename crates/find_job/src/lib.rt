@@ -1,0 +1,11 @@
+//! The job find: a line for each stop of a condition in a capture.
+#![tactic(auto)]
+
+mod listing;
+mod search;
+mod stops;
+#[cfg(test)]
+mod tests;
+
+pub use capture_any::ListingEnd as FindEnd;
+pub use search::{find, find_buffered};

@@ -1,0 +1,77 @@
+// The search for all stops of a capture.
+ghost use Rattle.std.specs.Prelude.{◌≡◌, ◌≢◌, List, ℕ, [], true};
+ghost use Rattle.wait_cond.specs.Conds.{cond_alts};
+ghost use Rattle.capture_any.specs.Captures.{TakesNoMemory};
+ghost use Rattle.capture_any.specs.Listings.{Lists, ReadCause, WriteCause};
+ghost use Rattle.capture_any.specs.Reading.{Stands, capture_by, form_of, is_open_of, pins_of};
+ghost use Rattle.find_job.specs.Finding.{WholeListing, ListingFront};
+
+use crate::FindEnd;
+use crate::stops::write_stops;
+use capture_any::Capture;
+use la_io::{Buffered, CaptureError, Failed, Sink, Source};
+use wait_cond::{Cond, Waiter};
+
+/// Waits again and again for the condition, and writes for each stop the line `AT: I,J`: the number
+/// of its sample, and the alternatives that are met there, rising. No sample was given yet.
+pub fn find<S: Source, K: Sink>(
+    capture: &mut Capture,
+    cond: Cond,
+    source: &mut S,
+    sink: &mut K,
+) -> FindEnd
+    requires { is_open_of capture.old ≡ true }
+    // What the end says of the bytes that were taken and of what was written.
+    ensures finds { (before : List ℕ) → Stands capture.old before []
+        → Lists (capture_by capture.old) (λ samples. WholeListing samples (cond_alts cond) (K.written sink.old) (K.written sink.new))
+        (λ samples. ListingFront samples (cond_alts cond) (K.written sink.old) (K.written sink.new)) before (S.left source.old) (S.left source.new) result }
+    // Read comes only where the source failed.
+    ensures read { ReadCause (S.faults source.old) (S.faults source.new) result }
+    // Write comes exactly where the sink failed.
+    ensures write { WriteCause (K.faults sink.old) (K.faults sink.new) result }
+    ensures memory { TakesNoMemory (form_of capture.old) → result ≢ FindEnd.NoMemory }
+    ensures goes_on { K.goes_on sink.old sink.new }
+    ensures form { form_of capture.new ≡ form_of capture.old }
+    ensures pins { pins_of capture.new ≡ pins_of capture.old }
+{
+    let mut waiter = Waiter::new(cond);
+    loop {
+        match capture.next(source) {
+            Ok(Some(run)) => match write_stops(&mut waiter, run, sink) {
+                Ok(()) => {}
+                Err(Failed) => return FindEnd::Write,
+            },
+            Ok(None) => return FindEnd::Done,
+            Err(CaptureError::Fault(fault)) => return FindEnd::Fault(fault),
+            Err(CaptureError::Read) => return FindEnd::Read,
+            Err(CaptureError::NoMemory) => return FindEnd::NoMemory,
+        }
+    }
+}
+
+/// The same through a buffer before the sink, which hands all on before it answers.
+pub fn find_buffered<S: Source, K: Sink>(
+    capture: &mut Capture,
+    cond: Cond,
+    source: &mut S,
+    sink: &mut K,
+) -> FindEnd
+    requires { is_open_of capture.old ≡ true }
+    ensures finds { (before : List ℕ) → Stands capture.old before []
+        → Lists (capture_by capture.old) (λ samples. WholeListing samples (cond_alts cond) (K.written sink.old) (K.written sink.new))
+        (λ samples. ListingFront samples (cond_alts cond) (K.written sink.old) (K.written sink.new)) before (S.left source.old) (S.left source.new) result }
+    ensures read { ReadCause (S.faults source.old) (S.faults source.new) result }
+    ensures write { WriteCause (K.faults sink.old) (K.faults sink.new) result }
+    ensures memory { TakesNoMemory (form_of capture.old) → result ≢ FindEnd.NoMemory }
+    ensures form { form_of capture.new ≡ form_of capture.old }
+    ensures pins { pins_of capture.new ≡ pins_of capture.old }
+{
+    let mut buffered = Buffered::new(sink);
+    match find(capture, cond, source, &mut buffered) {
+        FindEnd::Write => FindEnd::Write,
+        end => match buffered.flush() {
+            Ok(()) => end,
+            Err(Failed) => FindEnd::Write,
+        },
+    }
+}
