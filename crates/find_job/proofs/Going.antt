@@ -14,7 +14,8 @@ use Rattle.wait_cond.specs.declared.scan.Scan.TheVariants.{Met, Through}
 use Rattle.wait_cond.proofs.ChainLemmas.{chain_longer, chain_more}
 use Rattle.find_job.specs.Listing.{line_of, lines_of}
 use Rattle.find_job.specs.Stopping.{RunWritten, RunCutOff}
-use Rattle.find_job.proofs.Fronts.{lines_more, front_on}
+use Rattle.la_io.proofs.Fronts.{front_on}
+use Rattle.find_job.proofs.Fronts.{lines_more}
 
 -- of all these samples, what is left of the run is still to be scanned; the stops before it are written
 pub record Going (alts : List Alt) (all : List ℕ) (stops : List Stop) (waiter : Waiter) (rest : Option Run) (old now : Option (List ℕ)) : Type 0 where

@@ -16,7 +16,8 @@ use Rattle.capture_any.proofs.ListingLemmas.{Gave, gave_nothing, gave_run}
 use Rattle.find_job.specs.Listing.{lines_of}
 use Rattle.find_job.specs.Stopping.{RunWritten, RunCutOff}
 use Rattle.find_job.specs.Finding.{WholeListing, ListingFront}
-use Rattle.find_job.proofs.Fronts.{lines_append, front_on, front_whole}
+use Rattle.la_io.proofs.Fronts.{front_on, front_whole}
+use Rattle.find_job.proofs.Fronts.{lines_append}
 
 -- the capture has given samples of the bytes that were taken, and the lines of their stops are written
 pub record Searching (capture : Capture) (waiter : Waiter) (before : List ℕ) (left_old left_now old now : Option (List ℕ)) : Type 0 where

@@ -1,4 +1,5 @@
 pub mod Buffering
 pub mod Bytes
+pub mod Fronts
 mod Filling
 mod Pieces

@@ -92,7 +92,11 @@ found_at {X} p n (y ∷ ys) k x e = by (p (n, y)) e (found_at p (n + 1) ys k x)
   where
     by : (b : Bool) → cond {A = Option (ℕ × X)} b (Some (n, y)) (find p (enumerate_from (n + 1) ys)) ≡ Some (k, x) → (find p (enumerate_from (n + 1) ys) ≡ Some (k, x) → (j : ℕ) × (k ≡ n + 1 + j) × (slice_get ys j ≡ Some x))
         → (j : ℕ) × (k ≡ n + j) × (slice_get (y ∷ ys) j ≡ Some x)
-    by true e more = let at : n ≡ k = cc in let is : y ≡ x = cc in (0, sym at ∙ sym (add-zero n), ap (λ (z : X). Some z) is)
+    by true e more =
+        let same : (n, y) ≡ (k, x) = cc in
+        let at : n ≡ k = ap (λ (q : ℕ × X). q.0) same in
+        let is : y ≡ x = ap (λ (q : ℕ × X). q.1) same in
+        (0, sym at ∙ sym (add-zero n), ap (λ (z : X). Some z) is)
     by false e more = let m = more e in (suc m.0, (let at : k ≡ n + 1 + m.0 = m.1 in omega arith), m.2)
 
 option_good : (rows : List OptionRow) (before : List Given) (text : Text) (given : Given) → option_of rows before text ≡ Ok given → GoodOption rows given

@@ -1,9 +1,8 @@
-use Rattle.std.proofs.Common.{List, ℕ, rules}
-use Rattle.la_io.specs.Buffer.{behind, got_by}
-use Rattle.la_io.specs.Causes.{AppendsFront}
+use Rattle.std.proofs.Common.{rules}
+use Rattle.la_io.specs.Buffer.{behind}
 use Rattle.la_io.proofs.Buffering.{front_through, front_handed}
 use Rattle.capture_any.proofs.ListingLemmas.{lists_cut}
-use Rattle.find_job.proofs.Fronts.{front_whole}
+use Rattle.la_io.proofs.Fronts.{front_whole}
 use Rattle.find_job.proofs.Handing.{fails_through, read_later, write_kept, front_over, cut_over}
 use Rattle.find_job.proofs.search.find_buffered.Goals as goal
 
