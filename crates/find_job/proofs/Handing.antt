@@ -9,14 +9,6 @@ use Rattle.capture_any.specs.declared.end.ListingEnd.TheVariants.{Done, Read, Wr
 use Rattle.find_job.specs.Finding.{ListingFront, WholeListing}
 
 module _ (alts : List Alt) (old mid from new : Option (List ℕ)) where
-  -- what went to the buffer whole went over whole
-  pub whole_over : ((bytes : List ℕ) → Appends old mid bytes → Appends from new bytes) → (samples : List ℕ) → WholeListing samples alts old mid → WholeListing samples alts from new
-  whole_over over samples whole = record {
-    stops = whole.stops;
-    all = whole.all;
-    written = over _ whole.written;
-  }
-
   -- of what went to the buffer whole a front went over
   pub cut_over : ((bytes : List ℕ) → Appends old mid bytes → AppendsFront from new bytes) → (samples : List ℕ) → WholeListing samples alts old mid → ListingFront samples alts from new
   cut_over over samples whole = record {
@@ -50,14 +42,6 @@ write_kept before now Read other c = c
 write_kept before now Write other c = absurd (other refl)
 write_kept before now (Fault fault) other c = c
 write_kept before now NoMemory other c = c
-
--- and where it stayed, the end may be the same
-pub write_still : (before now : ℕ) (end : ListingEnd) → end ≢ Write → now ≡ before → WriteCause before now end
-write_still before now Done other c = c
-write_still before now Read other c = c
-write_still before now Write other c = absurd (other refl)
-write_still before now (Fault fault) other c = c
-write_still before now NoMemory other c = c
 
 -- a count that stayed, and then rose
 pub fails_through : {K : Type 0} (faults : K → ℕ) (old first mid last new : K) → first ≡ old → faults mid ≡ faults first → faults mid ≤ faults last → Rose (faults mid) (faults last) → last ≡ new → Fails (faults old) (faults new)

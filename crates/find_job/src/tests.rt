@@ -1,6 +1,5 @@
 // Searches through the public calls, worked out by hand.
-ghost use Rattle.std.specs.Prelude.{◌≡◌, ◌≤◌, List, ℕ, length, true, []};
-ghost use Rattle.capture_any.specs.Reading.{Stands, names_of, is_open_of};
+ghost use Rattle.std.specs.Prelude.{◌≤◌, length};
 ghost use Rattle.wait_cond.specs.Binding.{AllBelow, Distinct};
 
 use crate::{FindEnd, find, find_buffered};
