@@ -21,6 +21,7 @@ pub use options::{MOST_RING, Name, OPTIONS, OptionRow, Takes};
 pub use read::read_words;
 pub use settings::Settings;
 pub use text_parts::ChainWord;
+pub use values::{MOST_RATE_DEN, MOST_RATE_NUM};
 
 #[cfg(test)]
 mod tests;

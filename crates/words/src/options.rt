@@ -3,7 +3,7 @@ ghost use Rattle.std.specs.Prelude.{◌≡◌};
 ghost use Rattle.words.specs.Options.{name_of, row};
 ghost use Rattle.words.specs.Rows.{row_of};
 
-use crate::values::{MOST_DEN, MOST_NUM};
+use crate::values::{MOST_RATE_DEN, MOST_RATE_NUM};
 use la_base::MOST_PINS;
 use std::fmt;
 
@@ -45,7 +45,10 @@ impl fmt::Display for Takes {
                 Ok(())
             }
             Takes::Number { least, most } => write!(f, "{least} to {most}"),
-            Takes::Rate => write!(f, "N or N/D, N 1 to {MOST_NUM}, D 1 to {MOST_DEN}"),
+            Takes::Rate => write!(
+                f,
+                "N or N/D, N 1 to {MOST_RATE_NUM}, D 1 to {MOST_RATE_DEN}"
+            ),
             Takes::Text => f.write_str("text"),
         }
     }

@@ -2,7 +2,7 @@
 ghost use Rattle.std.specs.Prelude.{◌≤◌};
 ghost use Rattle.la_base.specs.declared.samples.TheConstants.{MOST_PINS};
 ghost use Rattle.words.specs.declared.options.TheConstants.{MOST_RING};
-ghost use Rattle.words.specs.declared.values.TheConstants.{MOST_NUM, MOST_DEN};
+ghost use Rattle.words.specs.declared.values.TheConstants.{MOST_RATE_NUM, MOST_RATE_DEN};
 
 use crate::{Format, Job};
 use la_base::Rate;
@@ -27,6 +27,6 @@ pub struct Settings {
     /// The chains of decoders, or the alternatives of a condition.
     pub chains: Vec<ChainWord>,
     ghost channels_fit: { (1 ≤ channels) × (channels ≤ MOST_PINS) },
-    ghost rate_fits: { (rate.num ≤ MOST_NUM) × (rate.den ≤ MOST_DEN) },
+    ghost rate_fits: { (rate.num ≤ MOST_RATE_NUM) × (rate.den ≤ MOST_RATE_DEN) },
     ghost ring_fits: { (1 ≤ ring) × (ring ≤ MOST_RING) },
 }

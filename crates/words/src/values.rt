@@ -17,10 +17,10 @@ use la_base::Rate;
 use text_parts::{NumberWhy, number_in};
 
 /// The most that stands before the `/` of a rate.
-pub const MOST_NUM: u64 = 1_000_000_000_000_000;
+pub const MOST_RATE_NUM: u64 = 1_000_000_000_000_000;
 
 /// The most that stands behind it.
-pub const MOST_DEN: u64 = 1_000_000_000;
+pub const MOST_RATE_DEN: u64 = 1_000_000_000;
 
 // Whether a value is one of the choices.
 fn is_choice(choices: &[&str], value: &str) -> bool
@@ -35,7 +35,7 @@ fn den_in(text: Option<&str>) -> Result<u64, NumberWhy>
     ensures within { IfOk result (λ den. (1 ≤ den) × (den ≤ most_den)) }
 {
     match text {
-        Some(text) => number_in(text, 1, MOST_DEN),
+        Some(text) => number_in(text, 1, MOST_RATE_DEN),
         None => Ok(1),
     }
 }
@@ -46,7 +46,7 @@ fn rate_in(text: &str) -> Result<Rate, NumberWhy>
     ensures within { IfOk result (λ rate. (rate.num ≤ most_num) × (rate.den ≤ most_den)) }
 {
     let (above, below) = cut_at_slash(text);
-    let num = match number_in(above, 1, MOST_NUM) {
+    let num = match number_in(above, 1, MOST_RATE_NUM) {
         Ok(num) => num,
         Err(why) => return Err(why),
     };
@@ -98,7 +98,7 @@ pub fn number(text: &str, least: u64, most: u64) -> u64
 pub fn rate(text: &str) -> Rate
     requires { why_value Ratio text.now ≡ None }
     ensures numbers { numbers_of result ≡ rate_written text.now }
-    ensures within { (result.num ≤ MOST_NUM) × (result.den ≤ MOST_DEN) }
+    ensures within { (result.num ≤ MOST_RATE_NUM) × (result.den ≤ MOST_RATE_DEN) }
 {
     match rate_in(text) {
         Ok(rate) => rate,
