@@ -6,6 +6,7 @@ use Rattle.words.specs.declared.kinds.WordFault.{WordFault}
 use Rattle.words.specs.declared.kinds.WordsError.{WordsError}
 use Rattle.words.specs.declared.kinds.WordsError.TheVariants as error
 
+-- a use, as the code has it
 abbrev pub used_of : Given → Used
 used_of given = record { name = given.name; word = given.word; text = given.text.now }
 

@@ -2,6 +2,7 @@
 use Rattle.std.specs.Prelude.{ℕ, Bool, false, ◌==◌, List, [], ◌∷◌, Option, Some, None, if◌then◌else◌, option_and_then}
 use Rattle.std.specs.List.{list_any, before_first, after_first}
 
+-- a text, by its bytes
 abbrev pub Text : Type 0
 Text = List ℕ
 

@@ -1,4 +1,4 @@
--- What good words hold: at least one word that is no option, not too many, and for find each can be read.
+-- What good words hold: the words that are no options.
 use Rattle.std.specs.Prelude.{◌≡◌, ◌<◌, ◌≤◌, List, length, All, IsOk}
 use Rattle.std.specs.String.{string_bytes}
 use Rattle.text_parts.specs.declared.chain.ChainWord.{ChainWord}
@@ -7,9 +7,11 @@ use Rattle.words.specs.Settings.{most_chains}
 use Rattle.words.specs.declared.kinds.Job.{Job}
 use Rattle.words.specs.declared.kinds.Job.TheVariants.{Find}
 
+-- its text has at most 4,096 bytes
 abbrev pub IsShort : ChainWord → Type 0
 IsShort chain = length (string_bytes chain.text) ≤ 4096
 
+-- of a job, these are at least one and not too many, and find can read each of them
 pub record IsReadable (job : Job) (chains : List ChainWord) : Type 0 where
   pub some : 0 < length chains
   pub few : length chains ≤ most_chains job

@@ -5,11 +5,13 @@ use Rattle.words.specs.declared.options.OptionRow.{OptionRow}
 use Rattle.words.specs.declared.options.Takes.{Takes}
 use Rattle.words.specs.declared.options.Takes.TheVariants as takes
 
+-- the values that an option takes, as the code has them
 abbrev pub kind_of : Takes → Kind
 kind_of (takes.OneOf choices) = OneOf (map (λ choice. choice.now) choices.now)
 kind_of (takes.Number least most) = Number least most
 kind_of takes.Rate = Ratio
 kind_of takes.Text = Free
 
+-- a row of the table, as the code has it
 abbrev pub row_of : OptionRow → Row
 row_of r = record { name = r.name.now; takes = kind_of r.takes; usual = r.usual.now }

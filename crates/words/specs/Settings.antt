@@ -32,6 +32,7 @@ pub record Values : Type 0 where
   pub show : Option WordText
   pub chains : List WordText
 
+-- the number and the text of a use
 abbrev pub word_text : Used → WordText
 word_text u = record { word = u.word; text = u.text }
 
@@ -47,12 +48,15 @@ value_of name uses = unwrap_or (option_map (λ u. u.text) (use_of name uses)) (r
 abbrev pub AreGood : List Used → Type 0
 AreGood uses = (name : Name) → why_value (row name).takes (value_of name uses) ≡ None
 
+-- the job that a good value names
 abbrev pub job_named : Text → Job
 job_named text = if bytes_eq text (codes "find") then Find else Decode
 
+-- the form of capture that a good value names: there is one
 abbrev pub format_named : Text → Format
 format_named text = Raw
 
+-- a good value is `yes` or `no`
 abbrev pub is_yes : Text → Bool
 is_yes text = bytes_eq text (codes "yes")
 
@@ -60,6 +64,7 @@ is_yes text = bytes_eq text (codes "yes")
 abbrev pub unless_all : Used → Option WordText
 unless_all u = if bytes_eq u.text (codes "all") then None else Some (word_text u)
 
+-- what uses set
 abbrev pub values_of : List Used → Values
 values_of uses = record {
   job = job_named (value_of name.Job uses);
@@ -92,6 +97,7 @@ abbrev pub fault_of : ℕ → Result (List Meaning) CondFault → Option WordFau
 fault_of word (Ok terms) = None
 fault_of word (Err fault) = Some (record { word = word; at = fault.at; why = why.Cond })
 
+-- the first of two faults that there is
 abbrev pub or_else : Option WordFault → Option WordFault → Option WordFault
 or_else (Some fault) other = Some fault
 or_else None other = other
@@ -110,6 +116,7 @@ job_fault Find chains = cond_fault chains
 abbrev pub fault_behind : ℕ → Job → List WordText → Option WordFault
 fault_behind count job chains = or_else (few_or_many (most_chains job) count chains) (job_fault job chains)
 
+-- the values, unless there is a fault
 abbrev pub unless_fault : Option WordFault → Values → Result Values WordFault
 unless_fault None values = Ok values
 unless_fault (Some fault) values = Err fault

@@ -26,6 +26,7 @@ waits_for None = false
 waits_for (Some (name, None)) = true
 waits_for (Some (name, Some value)) = false
 
+-- its value is the next word, as long as that is no option
 abbrev pub takes_next : Text → Text → Bool
 takes_next word next = waits_for (long_of word) && not (begins_option next)
 
@@ -42,6 +43,7 @@ abbrev pub value_behind : Text → List Text → Option Text × List Text
 value_behind word [] = (None, [])
 value_behind word (next ∷ rest) = if takes_next word next then (Some next, rest) else (None, next ∷ rest)
 
+-- the number of the first word behind a word and its value
 abbrev pub number_behind : ℕ → Option Text → ℕ
 number_behind number None = number + 1
 number_behind number (Some next) = number + 2
@@ -57,12 +59,15 @@ abbrev pub is_of : Name → Option Name → Bool
 is_of name None = false
 is_of name (Some other) = bytes_eq (row other).name (row name).name
 
+-- the option is among the uses
 abbrev pub is_given : Name → List Used → Bool
 is_given name uses = list_any (λ u. is_of name u.name) uses
 
+-- a fault of a word, at its first byte
 abbrev pub fault : {X : Type 0} → ℕ → WordWhy → Result X WordFault
 fault number why = Err (record { word = number; at = 0; why = why })
 
+-- the fault, if there is one
 abbrev pub or_fault : {X : Type 0} → ℕ → Option WordWhy → Result X WordFault → Result X WordFault
 or_fault number None good = good
 or_fault number (Some why) good = fault number why
@@ -87,18 +92,22 @@ why_value (Number least most) value = why_number (number_in least most value)
 why_value Ratio value = why_number (rate_in value)
 why_value Free value = None
 
+-- a value, if it keeps to the rules of its option, with the number of the word that holds it
 abbrev pub judged : Name → ℕ → Text → Result Used WordFault
 judged name number value = or_fault number (why_value (row name).takes value) (Ok (record { name = Some name; word = number; text = value }))
 
+-- the value of an option, behind its `=` or in the next word
 abbrev pub value_at : Name → ℕ → Option Text → Option Text → Result Used WordFault
 value_at name number (Some value) next = if length value == 0 then fault number why.Empty else judged name number value
 value_at name number None None = fault number why.NoValue
 value_at name number None (Some next) = or_fault (number + 1) (why_word (number + 1) next) (judged name (number + 1) next)
 
+-- the option that a word names, if it wasn't given before
 abbrev pub named_at : List Used → Part → Option Name → Option Text → Result Used WordFault
 named_at before part None value = fault part.number why.Unknown
 named_at before part (Some name) value = if is_given name before then fault part.number why.Repeat else value_at name part.number value part.next
 
+-- a word that begins with a hyphen
 abbrev pub option_at : List Used → Part → Option (Text × Option Text) → Result Used WordFault
 option_at before part None = fault part.number why.Unknown
 option_at before part (Some p) = named_at before part (name_of p.0) p.1
