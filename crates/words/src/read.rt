@@ -63,7 +63,7 @@ fn settings(alloc: Global, matches: &ArgMatches, uses: &[Given]) -> Result<Setti
 
 /// The settings that the words make, or the first fault of the words, counted from the left: the
 /// rules for each word and its value come first, then how many chains or alternatives there are, then
-/// the alternatives themselves.
+/// the alternatives themselves. `NoMemory` comes only for want of memory.
 pub fn read_words(alloc: Global, words: &[String]) -> Result<Settings, WordsError>
     ensures gives { Gives meaning_of fault_in (settings_of (map string_bytes words.now)) result }
     ensures readable { IfOk result (λ settings. IsReadable settings.job settings.chains.items) }
