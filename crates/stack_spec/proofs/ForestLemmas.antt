@@ -1,12 +1,11 @@
 -- Sound instances stand behind their parents, on what they want.
-use Rattle.std.proofs.Common.{◌≡◌, ℕ, zero, suc, ◌+◌, ◌<◌, ◌≤◌, Bool, true, ◌&&◌, List, [], ◌∷◌, ◌++◌, length, slice_get, Option, Some, None, refl, sym, ◌∙◌, ap, subst, arith, append_assoc, length-append}
+use Rattle.std.proofs.Common.{◌≡◌, ℕ, zero, suc, ◌+◌, ◌<◌, true, List, [], ◌∷◌, ◌++◌, length, slice_get, Option, Some, None, refl, sym, ◌∙◌, ap, subst, arith, append_assoc}
 use Rattle.std.specs.Prelude.{nat_lt, nat_le}
 use Rattle.std.proofs.lemmas.Bool.Decides.{nat_tests}
 use Rattle.std.proofs.lemmas.List.{length_push}
 use Rattle.la_base.specs.declared.wires.Wire.{Wire}
 use Rattle.la_base.specs.declared.wires.Wire.TheVariants.{Logic, I2c, Spi, Uart, OwLink, OwNet, Nothing}
 use Rattle.decoder_set.specs.Kinds.{kind_row}
-use Rattle.decoder_set.specs.declared.kinds.Kind.{Kind}
 use Rattle.stack_spec.specs.Instances.{Instance, same_wire, output_of, output_at, stands_on}
 use Rattle.stack_spec.specs.Sound.{options_fit, parent_fits, is_right, right_from, is_sound, HasParent, IsForest}
 use Rattle.stack_spec.proofs.OptionLemmas.{both}

@@ -4,3 +4,6 @@ pub mod LinkLemmas
 pub mod OptionLemmas
 pub mod SoundLemmas
 pub mod ForestLemmas
+pub mod BindLemmas
+pub mod RowLemmas
+pub mod BoundLemmas

@@ -1,10 +1,9 @@
 -- Chains that are read part by part.
-use Rattle.std.proofs.Common.{◌≡◌, ℕ, zero, suc, ◌+◌, ◌<◌, ◌≤◌, List, [], ◌∷◌, ◌++◌, map, length, drop, get_or, Option, Some, None, Result, Ok, Err, refl, sym, ◌∙◌, ap, arith, append_assoc}
+use Rattle.std.proofs.Common.{◌≡◌, ℕ, zero, suc, ◌+◌, ◌<◌, ◌≤◌, List, [], ◌∷◌, ◌++◌, map, length, drop, get_or, Option, Some, Result, Ok, Err, refl, sym, ◌∙◌, ap, arith, append_assoc}
 use Rattle.std.specs.List.{flat_map}
-use Rattle.std.specs.Option.{IfSome}
 use Rattle.std.proofs.lemmas.List.{append-nil, at_drop_more, at_drop_all}
 use Rattle.text_parts.specs.Chains.{WordText}
-use Rattle.text_parts.specs.Places.{Placed, placed_from, parts_between}
+use Rattle.text_parts.specs.Places.{placed_from}
 use Rattle.text_parts.specs.Reading.{read_parts, then_read}
 use Rattle.text_parts.proofs.ReadLemmas.{read_more, read_stops, read_ends}
 use Rattle.stack_spec.specs.declared.faults.StackFault.{StackFault}

@@ -1,5 +1,5 @@
 -- Options that are read fit their kind.
-use Rattle.std.proofs.Common.{◌≡◌, ℕ, zero, suc, ◌+◌, ◌<◌, ◌≤◌, ◌⊎◌, inl, inr, Bool, true, false, not, ◌&&◌, ◌||◌, ◌==◌, cond, if◌then◌else◌, List, [], ◌∷◌, ◌++◌, length, slice_get, Option, Some, None, is_some, option_map, Result, Ok, Err, refl, sym, ◌∙◌, ap, subst, arith, add-zero}
+use Rattle.std.proofs.Common.{◌≡◌, ℕ, suc, ◌+◌, ◌<◌, Bool, true, false, not, ◌&&◌, ◌||◌, ◌==◌, cond, if◌then◌else◌, List, [], ◌∷◌, ◌++◌, length, slice_get, Option, Some, None, is_some, option_map, Result, Ok, Err, refl, sym, ◌∙◌, ap, subst, arith, add-zero}
 use Rattle.std.specs.Prelude.{nat_lt, nat_le}
 use Rattle.std.specs.List.{find, list_all, enumerate_from, position, position_or_len, before_first, after_first, slice_split}
 use Rattle.std.specs.Str.{bytes_eq}
@@ -8,7 +8,6 @@ use Rattle.std.proofs.lemmas.List.Quantifiers.{position-Some}
 use Rattle.text_parts.specs.Numbers.{number_in, number_after, is_number}
 use Rattle.text_parts.specs.Places.{Placed, placed_from}
 use Rattle.text_parts.specs.Reading.{read_parts, then_read}
-use Rattle.text_parts.specs.declared.numbers.NumberWhy.{NumberWhy}
 use Rattle.text_parts.specs.declared.numbers.NumberWhy.TheVariants as number
 use Rattle.decoder_set.specs.Kinds.{Text, Form, OptionRow, Pin, Number, Choice}
 use Rattle.stack_spec.specs.declared.faults.StackFault.{StackFault}
@@ -16,7 +15,7 @@ use Rattle.stack_spec.specs.declared.faults.StackWhy.{StackWhy}
 use Rattle.stack_spec.specs.declared.faults.StackWhy.TheVariants as why
 use Rattle.stack_spec.specs.Instances.{Value, Channel, Given}
 use Rattle.stack_spec.specs.Instances as value
-use Rattle.stack_spec.specs.Options.{is_colon, is_equals, at_place, numeric, chosen, read_channel, value_of, given_at, option_named, with_row, row_at, named_at, option_of, option_at, option_list, options_behind, needs, is_missing, unless_missing, options_at}
+use Rattle.stack_spec.specs.Options.{is_colon, is_equals, at_place, numeric, chosen, read_channel, value_of, given_at, option_named, with_row, named_at, option_of, option_at, option_list, options_behind, needs, is_missing, unless_missing, options_at}
 use Rattle.stack_spec.specs.Sound.{fits, options_fit}
 
 -- what was read keeps what each part keeps
@@ -92,11 +91,7 @@ found_at {X} p n (y ∷ ys) k x e = by (p (n, y)) e (found_at p (n + 1) ys k x)
   where
     by : (b : Bool) → cond {A = Option (ℕ × X)} b (Some (n, y)) (find p (enumerate_from (n + 1) ys)) ≡ Some (k, x) → (find p (enumerate_from (n + 1) ys) ≡ Some (k, x) → (j : ℕ) × (k ≡ n + 1 + j) × (slice_get ys j ≡ Some x))
         → (j : ℕ) × (k ≡ n + j) × (slice_get (y ∷ ys) j ≡ Some x)
-    by true e more =
-        let same : (n, y) ≡ (k, x) = cc in
-        let at : n ≡ k = ap (λ (q : ℕ × X). q.0) same in
-        let is : y ≡ x = ap (λ (q : ℕ × X). q.1) same in
-        (0, sym at ∙ sym (add-zero n), ap (λ (z : X). Some z) is)
+    by true e more = let pair : ◌≡◌ {A = ℕ × X} (n, y) (k, x) = cc in (0, sym (ap (λ (p : ℕ × X). p.0) pair) ∙ sym (add-zero n), ap (λ (p : ℕ × X). Some p.1) pair)
     by false e more = let m = more e in (suc m.0, (let at : k ≡ n + 1 + m.0 = m.1 in omega arith), m.2)
 
 option_good : (rows : List OptionRow) (before : List Given) (text : Text) (given : Given) → option_of rows before text ≡ Ok given → GoodOption rows given

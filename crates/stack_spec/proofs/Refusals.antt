@@ -2,7 +2,6 @@
 use Rattle.std.proofs.Common.{◌≡◌, ℕ, Option, Some, None, option_map, Result, Err, ap}
 use Rattle.std.specs.Option.{IfSome}
 use Rattle.stack_spec.specs.Options.{at_place}
-use Rattle.stack_spec.specs.declared.faults.StackFault.{StackFault}
 use Rattle.stack_spec.specs.declared.faults.StackWhy.{StackWhy}
 
 -- a reason, at its place

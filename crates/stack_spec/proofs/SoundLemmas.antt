@@ -1,5 +1,5 @@
 -- The instances of a stack that is read are sound.
-use Rattle.std.proofs.Common.{◌≡◌, ℕ, zero, suc, ◌+◌, ◌<◌, ◌≤◌, Bool, true, false, not, cond, ◌&&◌, if◌then◌else◌, List, [], ◌∷◌, ◌++◌, length, slice_get, Option, Some, None, Result, Ok, Err, refl, sym, ◌∙◌, ap, subst, arith, append_assoc, length-append}
+use Rattle.std.proofs.Common.{◌≡◌, ℕ, ◌<◌, Bool, true, false, cond, ◌&&◌, if◌then◌else◌, List, [], ◌∷◌, ◌++◌, length, Option, Some, None, Result, Ok, Err, refl, sym, ◌∙◌, ap, subst, arith, append_assoc, length-append}
 use Rattle.std.specs.Prelude.{nat_lt, nat_le}
 use Rattle.std.specs.List.{position, position_or_len, list_any}
 use Rattle.std.specs.Option.{IfSome}
@@ -10,12 +10,12 @@ use Rattle.text_parts.specs.Chains.{WordText}
 use Rattle.text_parts.specs.Places.{Placed, parts_between}
 use Rattle.text_parts.specs.Reading.{read_parts, then_read}
 use Rattle.la_base.specs.declared.wires.Wire.TheVariants.{Logic}
-use Rattle.decoder_set.specs.Kinds.{Text, kind_row, kind_of}
+use Rattle.decoder_set.specs.Kinds.{kind_row, kind_of}
 use Rattle.decoder_set.specs.declared.kinds.Kind.{Kind}
 use Rattle.stack_spec.specs.declared.faults.StackFault.{StackFault}
 use Rattle.stack_spec.specs.declared.faults.StackWhy.{StackWhy}
 use Rattle.stack_spec.specs.declared.faults.StackWhy.TheVariants as why
-use Rattle.stack_spec.specs.Chains.{Link, news, last_place, kind_text, instance_by, placed_by, kind_at, instance_at, added_at, earlier_at, is_dash, head_at, part_at, link_at, chain_by, all_of, chain_at, instances_of}
+use Rattle.stack_spec.specs.Chains.{Link, news, last_place, kind_text, instance_by, placed_by, kind_at, instance_at, added_at, earlier_at, is_dash, part_at, link_at, all_of, chain_at, instances_of}
 use Rattle.stack_spec.specs.Instances.{Instance, Given, name_of, place_named, same_wire, stands_on, unless_full, why_not}
 use Rattle.stack_spec.specs.Options.{fault, options_at}
 use Rattle.stack_spec.specs.Sound.{options_fit, parent_fits, is_right, right_from, is_sound}
@@ -137,7 +137,7 @@ chain_sound earlier word parts links sound e = read_keeps (link_at earlier word)
     step : (before : List Link) (part : Placed) (link : Link) → LinksSound earlier before → KeepsSound (earlier ++ news before) link → LinksSound earlier (before ++ link ∷ [])
     step before part link keeps new =
         let grown : (earlier ++ news before) ++ link.new ≡ earlier ++ news (before ++ link ∷ [])
-          = append_assoc earlier (news before) link.new ∙ ap (λ (l : List Instance). earlier ++ l) (sym (flat_map-append (λ l. l.new) before (link ∷ []) ∙ ap (λ (l : List Instance). news before ++ l) (append-nil link.new))) in
+        = append_assoc earlier (news before) link.new ∙ ap (λ (l : List Instance). earlier ++ l) (sym (flat_map-append (λ l. l.new) before (link ∷ []) ∙ ap (λ (l : List Instance). news before ++ l) (append-nil link.new))) in
         record {
           sound = subst (λ (l : List Instance). is_sound l ≡ true) grown new.sound;
           last = subst (λ (o : Option ℕ). IfSome o (λ p. p < length (earlier ++ news (before ++ link ∷ [])))) (sym (last_place-push before link)) (subst (λ (l : List Instance). link.place < length l) grown new.within);

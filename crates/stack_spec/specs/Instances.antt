@@ -1,5 +1,5 @@
 -- Instances of decoders, their names, and what they stand on.
-use Rattle.std.specs.Prelude.{ℕ, ◌+◌, ◌<◌, Bool, true, false, not, List, [], ◌∷◌, ◌++◌, length, slice_get, nat_le, Option, Some, None, if◌then◌else◌, codes, count_by}
+use Rattle.std.specs.Prelude.{ℕ, ◌+◌, Bool, true, false, List, ◌++◌, length, slice_get, nat_le, Option, Some, None, if◌then◌else◌, codes, count_by}
 use Rattle.std.specs.Fmt.{decimal}
 use Rattle.std.specs.List.{position}
 use Rattle.std.specs.Str.{bytes_eq}

@@ -6,4 +6,6 @@ pub mod Meaning
 pub mod Steps
 pub mod Sound
 pub mod Stacks
+pub mod Binding
+pub mod BindSteps
 pub mod Rows

@@ -1,5 +1,5 @@
 -- What the values of the code mean.
-use Rattle.std.specs.Prelude.{List, map, Option, Some, None}
+use Rattle.std.specs.Prelude.{map, Option, Some, None}
 use Rattle.std.specs.String.{string_bytes}
 use Rattle.stack_spec.specs.Instances.{Value, Given, Instance}
 use Rattle.stack_spec.specs.Instances as value

@@ -1,6 +1,6 @@
 -- The options of an instance.
-use Rattle.std.specs.Prelude.{ℕ, ◌+◌, ◌==◌, ◌||◌, Bool, true, false, not, List, [], ◌∷◌, length, Option, Some, None, is_some, option_map, Result, Ok, Err, if◌then◌else◌}
-use Rattle.std.specs.List.{position, position_or_len, before_first, after_first, slice_split, list_any, list_all, enumerate_from, find}
+use Rattle.std.specs.Prelude.{ℕ, ◌+◌, ◌==◌, ◌||◌, Bool, false, not, List, [], length, Option, Some, None, is_some, option_map, Result, Ok, Err, if◌then◌else◌}
+use Rattle.std.specs.List.{position, position_or_len, before_first, after_first, slice_split, list_all, enumerate_from, find}
 use Rattle.std.specs.Str.{bytes_eq}
 use Rattle.text_parts.specs.Numbers.{number_in}
 use Rattle.text_parts.specs.Places.{Placed, placed_from}

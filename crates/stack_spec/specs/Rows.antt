@@ -1,14 +1,13 @@
 -- Chains whose stacks and faults are worked by hand.
-use Rattle.std.specs.Prelude.{ℕ, ◌≡◌, List, [], ◌∷◌, Option, Some, None, Result, Ok, codes}
+use Rattle.std.specs.Prelude.{ℕ, ◌≡◌, List, [], ◌∷◌, Some, None, Ok, codes}
 use Rattle.std.proofs.Common.{refl}
 use Rattle.std.specs.Fmt.{digits}
 use Rattle.text_parts.specs.Chains.{WordText}
 use Rattle.decoder_set.specs.declared.kinds.Kind.TheVariants.{I2c}
-use Rattle.stack_spec.specs.declared.faults.StackFault.{StackFault}
 use Rattle.stack_spec.specs.declared.faults.StackWhy.TheVariants as why
 use Rattle.stack_spec.specs.Instances.{Instance, Channel}
 use Rattle.stack_spec.specs.Options.{fault}
-use Rattle.stack_spec.specs.Accepting.{Accepted, stack_of}
+use Rattle.stack_spec.specs.Accepting.{stack_of}
 
 abbrev word : ℕ → List ℕ → WordText
 word number text = record { word = number; text = text }

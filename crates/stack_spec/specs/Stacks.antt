@@ -1,5 +1,5 @@
 -- What a stack means.
-use Rattle.std.specs.Prelude.{ℕ, ◌≡◌, ◌<◌, List, length, map, slice_get, Option, Some, option_map}
+use Rattle.std.specs.Prelude.{List, map, option_map}
 use Rattle.stack_spec.specs.Accepting.{Accepted}
 use Rattle.stack_spec.specs.Instances.{Instance}
 use Rattle.stack_spec.specs.Meaning.{instance_of}

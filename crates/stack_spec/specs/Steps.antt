@@ -1,9 +1,6 @@
 -- What reading a part or a chain does to the instances that were read before.
-use Rattle.std.specs.Prelude.{ℕ, ◌≡◌, List, [], ◌++◌, Option, Result, Ok, Err, IfSome}
-use Rattle.text_parts.specs.Chains.{WordText}
-use Rattle.text_parts.specs.Places.{parts_between}
-use Rattle.text_parts.specs.Reading.{read_parts, then_read}
-use Rattle.stack_spec.specs.Chains.{Link, link_at, news}
+use Rattle.std.specs.Prelude.{ℕ, ◌≡◌, List, ◌++◌, Result, Ok, Err, IfSome}
+use Rattle.stack_spec.specs.Chains.{Link}
 use Rattle.stack_spec.specs.Instances.{Instance}
 use Rattle.stack_spec.specs.Meaning.{fault_in}
 use Rattle.stack_spec.specs.declared.faults.StackError.{StackError}

@@ -67,4 +67,3 @@ pub enum BindError {
     #[error("there is no memory")]
     NoMemory,
 }
-

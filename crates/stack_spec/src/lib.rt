@@ -1,6 +1,8 @@
 //! Stacks of decoders: the grammar of their words, and their binding to channels.
 #![tactic(auto)]
 
+mod binding;
+mod bound;
 mod chains;
 mod errors;
 mod faults;
@@ -12,6 +14,8 @@ mod shown;
 mod stack;
 mod standing;
 
+pub use binding::bind;
+pub use bound::Bound;
 pub use faults::{BindError, BindFault, StackError, StackFault, StackWhy};
 pub use read::read_stack;
 pub use stack::Stack;

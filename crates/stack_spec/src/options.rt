@@ -67,6 +67,16 @@ fn given_for(options: &[GivenOption], row: usize) -> Option<&GivenOption>
     options.iter().find(|given| given.row == row)
 }
 
+/// The value that a row is given.
+pub fn value_at(options: &[GivenOption], row: usize) -> Option<&GivenValue>
+    ensures { option_map (λ value. meaning_of value.now) result ≡ given_at (map given_of options.entry.now) row }
+{
+    match given_for(options, row) {
+        Some(given) => Some(&given.value),
+        None => None,
+    }
+}
+
 // Whether a row is given anything.
 fn is_given(options: &[GivenOption], row: usize) -> bool
     ensures { result ≡ is_some (given_at (map given_of options.now) row) }
@@ -199,9 +209,7 @@ fn needs(form: OptForm) -> bool
 fn have_all(rows: &[OptRow], given: &[GivenOption]) -> bool
     ensures { result ≡ list_all (λ p. not (needs (form_of p.1.form)) || is_some (given_at (map given_of given.now) p.0)) (enumerate_from 0 rows.now) }
 {
-    rows.iter()
-        .enumerate()
-        .all(|(row, option)| !needs(option.form) || is_given(given, row))
+    rows.iter().enumerate().all(|(row, option)| !needs(option.form) || is_given(given, row))
 }
 
 // Whether a channel that is required isn't given.

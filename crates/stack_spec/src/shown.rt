@@ -17,12 +17,7 @@ use std::alloc::Global;
 use text_parts::{ChainWord, place_behind};
 
 // The place of the instance of a name.
-fn read_name(
-    instances: &[Instance],
-    word: u32,
-    at: u32,
-    name: &str,
-) -> Result<u32, StackError>
+fn read_name(instances: &[Instance], word: u32, at: u32, name: &str) -> Result<u32, StackError>
     requires { length instances.now ≤ 24 }
     ensures { Gives (λ place. place) fault_in (shown_at (map instance_of instances.now) word [] (at, name.now)) result }
 {
@@ -106,11 +101,7 @@ fn cut(text: &str) -> (&str, &str)
 }
 
 // An instance and one of its classes, by their names.
-fn read_class(
-    instances: &[Instance],
-    word: u32,
-    text: &str,
-) -> Result<(u32, u16), StackError>
+fn read_class(instances: &[Instance], word: u32, text: &str) -> Result<(u32, u16), StackError>
     requires few { length instances.now ≤ 24 }
     requires short { length text.now ≤ 4096 }
     ensures gives { Gives (λ p. (p.0, p.1)) fault_in (class_of_name (map instance_of instances.now) word text.now) result }

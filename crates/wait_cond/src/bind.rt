@@ -34,8 +34,9 @@ fn place_among(pins: &[u32], channel: u32) -> Option<usize>
     pins.iter().position(|pin| *pin == channel)
 }
 
-// The place of a channel among the pins, which it joins if it isn't one; or none where they are full.
-fn place_of(pins: &mut Pins, channel: u32) -> Option<u32>
+/// The place of a channel among the pins, which it joins behind if it isn't one; or none where there is
+/// no place left, and then the pins stay as they were.
+pub fn place_of(pins: &mut Pins, channel: u32) -> Option<u32>
     ensures { Placed MOST_PINS pins.old.items pins.new.items channel result }
 {
     if let Some(place) = place_among(pins, channel) {

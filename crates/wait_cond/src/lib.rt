@@ -13,7 +13,7 @@ mod scan;
 mod words;
 
 pub use alt::{Alt, Cond};
-pub use bind::bind_alt;
+pub use bind::{bind_alt, place_of};
 pub use faults::{BindWhy, ItemFault};
 pub use laws::{
     a_wait_has_one_stop, bound_terms_are_what_is_met, samples_have_one_list_of_stops,

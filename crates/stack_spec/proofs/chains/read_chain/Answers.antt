@@ -1,4 +1,4 @@
-use Rattle.std.proofs.Common.{◌≡◌, ◌+◌, ℕ, [], length, map, Some, arith, refl, sym, subst, lit<}
+use Rattle.std.proofs.Common.{[], length, map, arith, refl, sym, lit<}
 use Rattle.std.specs.Prelude.{◌==◌}
 use Rattle.std.specs.List.{slice_split}
 use Rattle.std.proofs.lemmas.Option.{IfSome_then}
@@ -7,7 +7,7 @@ use Rattle.std.proofs.lemmas.Iterator.Splits.{YieldsList-from_str_split}
 use Rattle.std.proofs.lemmas.Iterator.Consumers.{YieldsList-turn, YieldsList-end}
 use Rattle.text_parts.proofs.ReadLemmas.{width_split, width_more}
 use Rattle.stack_spec.specs.Meaning.{fault_in, instance_of}
-use Rattle.stack_spec.proofs.LinkLemmas.{ChainSoFar, chain_more, chain_stops, chain_ends}
+use Rattle.stack_spec.proofs.LinkLemmas.{chain_more, chain_stops, chain_ends}
 use Rattle.stack_spec.proofs.chains.read_chain.Goals as goal
 
 pub loop-part-init : goal.loop-part-init

@@ -1,7 +1,7 @@
-use Rattle.std.proofs.Common.{◌≡◌, ◌<◌, ◌∙◌, ℕ, List, Result, Ok, Err, length, map, sym, ap, subst, arith}
+use Rattle.std.proofs.Common.{◌≡◌, ◌<◌, ◌∙◌, ℕ, List, Result, length, map, sym, ap, subst, arith}
 use Rattle.std.proofs.lemmas.Option.{IfSome_then}
 use Rattle.std.proofs.lemmas.List.{length-map}
-use Rattle.text_parts.specs.Chains.{WordText, chain_of}
+use Rattle.text_parts.specs.Chains.{chain_of}
 use Rattle.stack_spec.specs.Chains.{chain_by}
 use Rattle.stack_spec.specs.Instances.{Instance}
 use Rattle.stack_spec.specs.Meaning.{fault_in, instance_of}

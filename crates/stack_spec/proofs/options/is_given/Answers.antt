@@ -1,4 +1,4 @@
-use Rattle.std.proofs.Common.{◌≡◌, ◌∙◌, sym, ap, Option, map, is_some, ◌==◌}
+use Rattle.std.proofs.Common.{◌∙◌, sym, ap, Option, map, is_some, ◌==◌}
 use Rattle.std.specs.List.{find}
 use Rattle.stack_spec.specs.Instances.{Given}
 use Rattle.stack_spec.specs.Meaning.{given_of}

@@ -1,4 +1,4 @@
-use Rattle.std.proofs.Common.{◌≡◌, ◌∙◌, ◌||◌, not, sym, ap, map, is_some, Bool}
+use Rattle.std.proofs.Common.{◌∙◌, ◌||◌, not, sym, ap, map, is_some}
 use Rattle.decoder_set.specs.Kinds.{opt_row}
 use Rattle.stack_spec.specs.Meaning.{given_of}
 use Rattle.stack_spec.specs.Options.{needs, given_at}

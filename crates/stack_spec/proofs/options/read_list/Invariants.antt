@@ -1,4 +1,4 @@
-use Rattle.std.proofs.Common.{◌≡◌, ◌+◌, [], length, drop, map}
+use Rattle.std.proofs.Common.{◌≡◌, ◌+◌, length, drop, map}
 use Rattle.std.specs.List.{slice_split}
 use Rattle.text_parts.specs.Reading.{read_parts}
 use Rattle.text_parts.specs.Places.{placed_from, width}

@@ -1,4 +1,4 @@
-use Rattle.std.proofs.Common.{◌≡◌, ◌∙◌, ℕ, List, Option, option_map, Result, map, Bor, sym, ap}
+use Rattle.std.proofs.Common.{◌∙◌, ℕ, List, Option, option_map, map, Bor, sym, ap}
 use Rattle.std.proofs.lemmas.Option.{IfSome_then}
 use Rattle.text_parts.specs.Chains.{chain_of}
 use Rattle.text_parts.specs.declared.chain.ChainWord.{ChainWord}
