@@ -19,3 +19,6 @@ pub use bound::Bound;
 pub use faults::{BindError, BindFault, StackError, StackFault, StackWhy};
 pub use read::read_stack;
 pub use stack::Stack;
+
+#[cfg(test)]
+mod tests;
