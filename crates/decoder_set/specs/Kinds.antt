@@ -11,6 +11,7 @@ use Rattle.decoder_set.specs.declared.kinds.OptForm.TheVariants as form
 use Rattle.decoder_set.specs.declared.kinds.OptRow.{OptRow}
 use Rattle.decoder_set.specs.declared.kinds.KindRow.{KindRow}
 
+-- a text, by its bytes
 abbrev pub Text : Type 0
 Text = List ℕ
 
@@ -55,14 +56,17 @@ kind_of name = find (λ kind. bytes_eq (kind_row kind).name name) kinds
 abbrev pub class_of : Kind → Text → Option ℕ
 class_of kind name = position (λ class. bytes_eq class name) (kind_row kind).classes
 
+-- the form of an option in the code
 abbrev pub form_of : OptForm → Form
 form_of (form.Pin required) = Pin required
 form_of (form.Number least most usual) = Number least most usual
 form_of (form.Choice words) = Choice (map (λ word. word.now) words.now)
 
+-- an option in the code
 abbrev pub opt_row : OptRow → OptionRow
 opt_row row = record { name = row.name.now; form = form_of row.form }
 
+-- a row of the table in the code
 abbrev pub row_of : KindRow → Row
 row_of row = record {
   name = row.name.now;

@@ -10,6 +10,7 @@ use Rattle.decoder_set.specs.declared.kinds.Kind.TheVariants.{I2c}
 use Rattle.decoder_set.specs.declared.setup.Setup.{Setup}
 use Rattle.decoder_set.specs.Kinds.{Text}
 
+-- the number, 0 where there is none
 abbrev pub or_zero : Option (Option ℕ) → ℕ
 or_zero (Some (Some number)) = number
 or_zero (Some None) = 0
@@ -19,6 +20,7 @@ or_zero None = 0
 abbrev pub value_at : List (Option ℕ) → ℕ → ℕ
 value_at values place = or_zero (slice_get values place)
 
+-- what a kind gives with these values on a whole input
 abbrev pub outs_by : Kind → List (Option ℕ) → List Item → List Out
 outs_by I2c values input = i2c_outs (value_at values 0) (value_at values 1) (counted input)
 
@@ -26,6 +28,7 @@ outs_by I2c values input = i2c_outs (value_at values 0) (value_at values 1) (cou
 abbrev pub outs_of : Setup → List Item → List Out
 outs_of setup input = outs_by setup.kind setup.values.given input
 
+-- where what has begun and isn't given yet starts, for a kind with these values
 abbrev pub near_by : Kind → List (Option ℕ) → List Item → ℕ
 near_by I2c values input = i2c_near (value_at values 0) (value_at values 1) (counted input)
 

@@ -11,7 +11,7 @@ mod values;
 pub use any::AnyDecoder;
 pub use kinds::{Kind, OptForm, OptRow};
 pub use setup::{MOST_OPTIONS, OptValues, Setup};
-pub use table::{class_of, input_of, kind_name, kind_of, options_of, output_of, word_place};
+pub use table::{KINDS, class_of, input_of, kind_name, kind_of, options_of, output_of, word_place};
 pub use texts::note_text;
 
 #[cfg(test)]

@@ -7,7 +7,8 @@ ghost use Rattle.decoder_set.specs.Kinds.{kind_row, row_of, opt_row, kind_of, cl
 use crate::kinds::{Kind, KindRow, OptForm, OptRow};
 use la_base::Wire;
 
-const KINDS: [Kind; 1] = [Kind::I2c];
+/// The kinds, in the order in which they are told.
+pub const KINDS: [Kind; 1] = [Kind::I2c];
 
 // I2C, by UM10204.
 const I2C: KindRow = KindRow {

@@ -23,6 +23,7 @@ abbrev pub is_shown : Option (List ℕ) → ℕ → Bool
 is_shown None instance = true
 is_shown (Some places) instance = list_any (λ place. place == instance) places
 
+-- what a name stands for, or Unknown at its place
 abbrev pub known : {X : Type 0} → ℕ → ℕ → Option X → Result X StackFault
 known word at None = fault word at why.Unknown
 known word at (Some x) = Ok x
@@ -35,6 +36,7 @@ shown_at instances word before part = known word part.0 (place_named instances p
 abbrev pub names_of : List Instance → ℕ → Text → Result (List ℕ) StackFault
 names_of instances word text = read_parts (shown_at instances word) [] (parts_between 44 text)
 
+-- what was read, as something that is there
 abbrev pub some_of : {X : Type 0} → Result X StackFault → Result (Option X) StackFault
 some_of (Ok x) = Ok (Some x)
 some_of (Err fault) = Err fault
@@ -44,6 +46,7 @@ abbrev pub shown_of : List Instance → Option WordText → Result (Option (List
 shown_of instances None = Ok None
 shown_of instances (Some show) = if bytes_eq show.text (codes "all") then Ok None else some_of (names_of instances show.word show.text)
 
+-- the class of this name that an instance has
 abbrev pub class_in : Option Instance → Text → Option ℕ
 class_in None name = None
 class_in (Some instance) name = class_of instance.kind name

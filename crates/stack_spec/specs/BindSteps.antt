@@ -33,6 +33,7 @@ pub record BindsRow (read : Result RowBound BindWhy) (old new : List ℕ) (value
   pub pins : new ≡ pins_behind old row
   pub value_is : value ≡ value_of row
 
+-- what binding a row answers
 abbrev pub RowStep : Result RowBound BindWhy → List ℕ → List ℕ → Result (Option ℕ) BindWhy → Type 0
 RowStep read old new (Ok value) = BindsRow read old new value
 RowStep read old new (Err why) = read ≡ Err why
@@ -44,6 +45,7 @@ pub record BindsRows (read : Result (List RowBound) BindFault) (old new : List �
   pub pins : new ≡ with_channels old (channels rows)
   pub values_are : values ≡ values_of rows
 
+-- what binding all rows answers
 abbrev pub RowsStep : Result (List RowBound) BindFault → List ℕ → List ℕ → Result OptValues BindFault → Type 0
 RowsStep read old new (Ok values) = BindsRows read old new values.given
 RowsStep read old new (Err fault) = read ≡ Err fault
@@ -56,6 +58,7 @@ pub record BindsInstance (read : Result BoundInstance BindFault) (old new : List
   pub setup : setup_in decoder ≡ instance.setup
   pub consumed : HasConsumed decoder []
 
+-- what binding an instance answers
 abbrev pub InstanceStep : Result BoundInstance BindFault → List ℕ → List ℕ → Result AnyDecoder BindFault → Type 0
 InstanceStep read old new (Ok decoder) = BindsInstance read old new decoder
 InstanceStep read old new (Err fault) = read ≡ Err fault

@@ -31,9 +31,11 @@ channels (On channel bit ∷ rows) = channel ∷ channels rows
 abbrev pub with_channels : List ℕ → List ℕ → List ℕ
 with_channels pins channels = pins ++ first_uses pins channels
 
+-- a fault of an instance at a row
 abbrev pub fault : {X : Type 0} → ℕ → ℕ → BindWhy → Result X BindFault
 fault entry item why = Err (record { entry = entry; item = item; why = why })
 
+-- what was judged, with its fault at a row of an instance
 abbrev pub at_item : {X : Type 0} → ℕ → ℕ → Result X BindWhy → Result X BindFault
 at_item entry item (Ok x) = Ok x
 at_item entry item (Err why) = fault entry item why
@@ -84,6 +86,7 @@ pub record BoundInstance : Type 0 where
 abbrev pub pins_of : List BoundInstance → List ℕ
 pins_of instances = with_channels [] (flat_map (λ instance. instance.uses) instances)
 
+-- the setup of an instance whose rows are bound
 abbrev pub setup_of : Rate → Instance → List RowBound → Setup
 setup_of rate instance rows = record { kind = instance.kind; values = record { given = values_of rows }; rate = rate }
 

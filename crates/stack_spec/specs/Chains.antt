@@ -32,13 +32,16 @@ last_place (link ∷ next ∷ links) = last_place (next ∷ links)
 abbrev pub kind_text : Text → Text
 kind_text text = before_first is_colon text
 
+-- a new instance, with the next number of its kind
 abbrev pub instance_by : List Instance → Option ℕ → Kind → List Given → Instance
 instance_by before parent kind options = record { kind = kind; number = next_number before kind; options = options; parent = parent }
 
+-- an instance of a kind: why it can't stand here, else its options
 abbrev pub placed_by : List Instance → Option ℕ → Kind → ℕ → Placed → Option StackWhy → Result Instance StackFault
 placed_by before parent kind word part (Some why) = fault word part.0 why
 placed_by before parent kind word part None = then_read (options_at (kind_row kind).options word part) (λ options. Ok (instance_by before parent kind options))
 
+-- an instance of the kind that was found, if one was
 abbrev pub kind_at : List Instance → Option ℕ → ℕ → Placed → Option Kind → Result Instance StackFault
 kind_at before parent word part None = fault word part.0 why.Unknown
 kind_at before parent word part (Some kind) = placed_by before parent kind word part (why_not before parent kind)
@@ -47,13 +50,16 @@ kind_at before parent word part (Some kind) = placed_by before parent kind word 
 abbrev pub instance_at : List Instance → Option ℕ → ℕ → Placed → Result Instance StackFault
 instance_at before parent word part = kind_at before parent word part (kind_of (kind_text part.1))
 
+-- a new instance as a link: it gets the next place
 abbrev pub added_at : List Instance → Option ℕ → ℕ → Placed → Result Link StackFault
 added_at before parent word part = then_read (instance_at before parent word part) (λ instance. Ok (record { place = length before; new = instance ∷ [] }))
 
+-- an earlier instance as a link, if there is one
 abbrev pub earlier_at : ℕ → Placed → Option ℕ → Result Link StackFault
 earlier_at word part None = fault word part.0 why.NoParent
 earlier_at word part (Some place) = Ok (record { place = place; new = [] })
 
+-- a hyphen
 abbrev pub is_dash : ℕ → Bool
 is_dash byte = byte == 45
 
@@ -61,6 +67,7 @@ is_dash byte = byte == 45
 abbrev pub head_at : List Instance → ℕ → Placed → Result Link StackFault
 head_at before word part = if list_any is_dash (kind_text part.1) then earlier_at word part (place_named before part.1) else added_at before None word part
 
+-- a part of a chain: its head, or an instance on a parent
 abbrev pub part_at : List Instance → Option ℕ → ℕ → Placed → Result Link StackFault
 part_at before None word part = head_at before word part
 part_at before (Some parent) word part = added_at before (Some parent) word part
@@ -73,9 +80,11 @@ link_at earlier word links part = part_at (earlier ++ news links) (last_place li
 abbrev pub chain_by : List Instance → WordText → Result (List Instance) StackFault
 chain_by earlier chain = then_read (read_parts (link_at earlier chain.word) [] (parts_between 44 chain.text)) (λ links. Ok (news links))
 
+-- the instances of chains, one chain behind another
 abbrev pub all_of : List (List Instance) → List Instance
 all_of lists = flat_map (λ list. list) lists
 
+-- a chain behind others
 abbrev pub chain_at : List (List Instance) → WordText → Result (List Instance) StackFault
 chain_at before chain = chain_by (all_of before) chain
 

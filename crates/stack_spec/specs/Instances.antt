@@ -35,6 +35,7 @@ name_of instance = (kind_row instance.kind).name ++ codes "-" ++ decimal instanc
 abbrev pub place_named : List Instance → Text → Option ℕ
 place_named instances name = position (λ instance. bytes_eq (name_of instance) name) instances
 
+-- two kinds have one name
 abbrev pub same_kind : Kind → Kind → Bool
 same_kind one other = bytes_eq (kind_row one).name (kind_row other).name
 
@@ -42,6 +43,7 @@ same_kind one other = bytes_eq (kind_row one).name (kind_row other).name
 abbrev pub next_number : List Instance → Kind → ℕ
 next_number before kind = count_by (λ instance. same_kind instance.kind kind) before + 1
 
+-- two wires are the same
 abbrev pub same_wire : Wire → Wire → Bool
 same_wire Logic Logic = true
 same_wire I2c I2c = true
@@ -52,6 +54,7 @@ same_wire OwNet OwNet = true
 same_wire Nothing Nothing = true
 same_wire one other = false
 
+-- the wire that an instance gives, if there is one
 abbrev pub output_of : Option Instance → Wire
 output_of None = Nothing
 output_of (Some instance) = (kind_row instance.kind).output
@@ -68,6 +71,7 @@ stands_on before parent kind = same_wire (output_at before parent) (kind_row kin
 abbrev pub most_instances : ℕ
 most_instances = 24
 
+-- Many where there are already `most_instances`, else what follows
 abbrev pub unless_full : List Instance → Option StackWhy → Option StackWhy
 unless_full before next = if nat_le most_instances (length before) then Some why.Many else next
 

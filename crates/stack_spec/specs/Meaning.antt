@@ -14,13 +14,16 @@ use Rattle.stack_spec.specs.declared.instance.Instance as code
 use Rattle.stack_spec.specs.declared.instance.Refused.{Refused}
 use Rattle.stack_spec.specs.declared.instance.Refused.TheVariants as refused
 
+-- the value of an option in the code
 abbrev pub meaning_of : GivenValue → Value
 meaning_of (given.Channel reference) = value.Channel (string_bytes reference)
 meaning_of (given.Number number) = value.Number number
 
+-- an option that is given, in the code
 abbrev pub given_of : GivenOption → Given
 given_of option = record { row = option.row; value = meaning_of option.value }
 
+-- an instance in the code
 abbrev pub instance_of : code.Instance → Instance
 instance_of instance = record { kind = instance.kind; number = instance.number; options = map given_of instance.options.items; parent = instance.parent }
 
@@ -29,6 +32,7 @@ abbrev pub fault_in : StackError → Option StackFault
 fault_in (error.Fault fault) = Some fault
 fault_in error.NoMemory = None
 
+-- the reason that a refusal tells; want of memory tells none
 abbrev pub why_in : Refused → Option StackWhy
 why_in (refused.Why why) = Some why
 why_in refused.NoMemory = None

@@ -14,9 +14,11 @@ use Rattle.stack_spec.specs.declared.faults.StackWhy.TheVariants as why
 use Rattle.stack_spec.specs.Instances.{Given, Value}
 use Rattle.stack_spec.specs.Instances as value
 
+-- what stands between the name of an option and its value
 abbrev pub is_equals : ℕ → Bool
 is_equals byte = byte == 61
 
+-- what stands between options
 abbrev pub is_colon : ℕ → Bool
 is_colon byte = byte == 58
 
@@ -29,15 +31,18 @@ abbrev pub at_place : {X : Type 0} → ℕ → ℕ → Result X StackWhy → Res
 at_place word at (Ok x) = Ok x
 at_place word at (Err why) = fault word at why
 
+-- a number in its range, or why it is none
 abbrev pub numeric : Result ℕ NumberWhy → Result Value StackWhy
 numeric (Ok n) = Ok (value.Number n)
 numeric (Err number.Value) = Err why.Value
 numeric (Err number.Range) = Err why.Range
 
+-- the place of a word, if there is one
 abbrev pub chosen : Option ℕ → Result Value StackWhy
 chosen (Some place) = Ok (value.Number place)
 chosen None = Err why.Value
 
+-- the reference of a channel
 abbrev pub read_channel : Text → Result Value StackWhy
 read_channel text = if length text == 0 then Err why.Value else Ok (value.Channel text)
 
@@ -55,13 +60,16 @@ given_at options row = option_map (λ given. given.value) (find (λ given. given
 abbrev pub option_named : List OptionRow → Text → Option (ℕ × OptionRow)
 option_named rows name = find (λ p. bytes_eq p.1.name name) (enumerate_from 0 rows)
 
+-- a value, with its row
 abbrev pub with_row : ℕ → Result Value StackWhy → Result Given StackWhy
 with_row row (Ok value) = Ok (record { row = row; value = value })
 with_row row (Err why) = Err why
 
+-- a value for a row that wasn't given one before
 abbrev pub row_at : List Given → ℕ → Form → Text → Result Given StackWhy
 row_at before row form text = if is_some (given_at before row) then Err why.Repeat else with_row row (value_of form text)
 
+-- a value for the option that was found, if one was
 abbrev pub named_at : List Given → Option (ℕ × OptionRow) → Text → Result Given StackWhy
 named_at before None text = Err why.Unknown
 named_at before (Some p) text = row_at before p.0 p.1.form text
@@ -72,6 +80,7 @@ option_of rows before text =
     if position_or_len is_equals text == length text then Err why.Value
     else named_at before (option_named rows (before_first is_equals text)) (after_first is_equals text)
 
+-- an option at its place
 abbrev pub option_at : List OptionRow → ℕ → List Given → Placed → Result Given StackFault
 option_at rows word before part = at_place word part.0 (option_of rows before part.1)
 
@@ -85,6 +94,7 @@ options_behind rows word at text =
     if position_or_len is_colon text == length text then Ok []
     else option_list rows word (at + length (before_first is_colon text) + 1) (after_first is_colon text)
 
+-- whether an option has to be given
 abbrev pub needs : Form → Bool
 needs (Pin required) = required
 needs (Number least most usual) = false
@@ -94,6 +104,7 @@ needs (Choice words) = false
 abbrev pub is_missing : List OptionRow → List Given → Bool
 is_missing rows given = not (list_all (λ p. not (needs p.1.form) || is_some (given_at given p.0)) (enumerate_from 0 rows))
 
+-- options, none of which is missing
 abbrev pub unless_missing : List OptionRow → ℕ → ℕ → List Given → Result (List Given) StackFault
 unless_missing rows word at given = if is_missing rows given then fault word at why.Missing else Ok given
 

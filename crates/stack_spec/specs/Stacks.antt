@@ -13,5 +13,6 @@ stack_meaning stack = record {
   binary = option_map (λ b. (b.0, b.1)) stack.binary;
 }
 
+-- the instances of a stack
 abbrev pub instances_in : Stack → List Instance
 instances_in stack = (stack_meaning stack).instances

@@ -403,6 +403,8 @@ fn finds_first_faults_of_binding(rt: HostRuntime) -> Result<(), Fail> {
     Ok(())
 }
 
+fn is_send<T: Send>(_: &T) {}
+
 #[test]
 fn channels_have_one_pin_each_in_the_order_of_their_use(rt: HostRuntime) -> Result<(), Fail> {
     let alloc = rt.alloc();
@@ -421,6 +423,7 @@ fn channels_have_one_pin_each_in_the_order_of_their_use(rt: HostRuntime) -> Resu
                 assert_eq!(rt; bound.pins.as_slice(), pins, "{line}");
                 assert_eq!(rt; bound.machines.len(), bound.parents.len());
                 assert!(rt; bound.parents.iter().all(|parent| parent.is_none()));
+                is_send(&bound);
             }
             Err(_) => assert!(rt; false, "{line}"),
         }
