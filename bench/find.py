@@ -49,7 +49,7 @@ def seconds(command):
 
 def main():
     megabytes = int(sys.argv[1]) if len(sys.argv) > 1 else 64
-    subprocess.run([LDECODE, "D0=h"], stdin=subprocess.DEVNULL, check=True)
+    subprocess.run([LDECODE, "--job", "find", "D0=h"], stdin=subprocess.DEVNULL, check=True)
     with tempfile.TemporaryDirectory() as folder:
         for kind, word in (("runs", "D0=r"), ("others", "D7=h"), ("noise", "D0=s")):
             path = os.path.join(folder, kind)

@@ -1,8 +1,9 @@
-pub mod Members
-pub mod Fronts
-pub mod Going
-pub mod Searching
-pub mod Naming
+pub mod NoteLemmas
+pub mod FeedingAll
+pub mod Collecting
+pub mod NoteLines
 pub mod Choosing
-pub mod Handing
+pub mod Working
+pub mod Asked
+pub mod Stacked
 pub mod Running

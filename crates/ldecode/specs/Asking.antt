@@ -1,37 +1,43 @@
--- What the words of `find` ask for: alternatives, bound to the channels of the capture.
-use Rattle.std.specs.Prelude.{ℕ, ◌≡◌, ◌+◌, List, [], ◌∷◌, map, Result, Ok, Err}
+-- What good words ask for: the form of the capture, and for each job what is bound to its channels.
+use Rattle.std.specs.Prelude.{ℕ, ◌≡◌, ◌+◌, ◌⊎◌, List, [], ◌∷◌, map, None, Result, Ok, Err}
 use Rattle.la_base.specs.declared.samples.Rate.{Rate}
 use Rattle.la_base.specs.declared.samples.TheConstants.{MOST_PINS}
-use Rattle.la_io.specs.Capture.{Stop as Told, Captured}
+use Rattle.la_io.specs.Capture.{Stop as Told, Good}
 use Rattle.text_parts.specs.Reading.{then_read}
-use Rattle.capture_raw.specs.Raw.{raw_capture, raw_names}
+use Rattle.capture_any.specs.Captures.{capture_of}
+use Rattle.capture_any.specs.declared.form.Form.{Form}
+use Rattle.capture_any.specs.declared.form.Form.TheVariants.{Raw}
 use Rattle.wait_cond.specs.Binding.{Bound, Asks, bind_terms, pins_after}
 use Rattle.wait_cond.specs.Grammar.{terms_of}
 use Rattle.wait_cond.specs.Words.{Meaning}
 use Rattle.wait_cond.specs.declared.alt.Alt.{Alt}
 use Rattle.wait_cond.specs.declared.faults.ItemFault.{ItemFault}
-use Rattle.words.specs.Lexer.{Text}
-use Rattle.words.specs.Settings.{Values, settings_of}
-use Rattle.ldecode.specs.declared.status.BindFault.{BindFault}
+use Rattle.words.specs.Rates.{numbers_of}
+use Rattle.words.specs.Settings.{Values}
+use Rattle.words.specs.declared.kinds.Format.TheVariants as format
+use Rattle.words.specs.declared.kinds.Job.TheVariants.{Decode, Find}
+use Rattle.stack_spec.specs.Accepting.{Accepted, stack_of}
+use Rattle.stack_spec.specs.Binding.{BoundInstance, bound_of}
+use Rattle.stack_spec.specs.Binding as binding
+use Rattle.stack_spec.specs.Instances.{Instance}
+use Rattle.stack_spec.specs.declared.faults.BindFault.{BindFault}
+use Rattle.stack_spec.specs.declared.faults.StackFault.{StackFault}
+use Rattle.ldecode.specs.Decoding.{Node}
 
--- a capture has so many channels
-abbrev pub channel_count : ℕ
-channel_count = 8
+-- the values name this form of capture
+abbrev pub IsFormOf : Values → Form → Type 0
+IsFormOf values (Raw channels rate) = (values.format ≡ format.Raw) × (channels ≡ values.channels) × (numbers_of rate ≡ values.rate)
 
--- the samples come so often: a million times a second
-abbrev pub IsUsual : Rate → Type 0
-IsUsual rate = (rate.num ≡ 1000000) × (rate.den ≡ 1)
-
--- what the bytes of the capture give, at this rate and these pins
-abbrev pub capture_at : Rate → List ℕ → List ℕ → Told → Captured
-capture_at rate pins bytes told = raw_capture channel_count rate pins bytes told
+-- in this form the bytes have a head, with these names of channels and this rate
+abbrev pub HasHead : Form → List ℕ → Told → List (List ℕ) → Rate → Type 0
+HasHead form bytes told names rate = (capture_of form [] bytes told).head ≡ Good names rate
 
 -- the fault of an item, in this entry
 abbrev pub in_entry : ℕ → Result (List Bound) ItemFault → Result (List Bound) BindFault
 in_entry entry (Ok bounds) = Ok bounds
 in_entry entry (Err fault) = Err (record { entry = entry; item = fault.item; why = fault.why })
 
--- the alternatives are bound in order, each to the pins of those before it and its own; or the first fault
+-- alternatives are bound in their order, each to the pins of those before it and its own; or the first fault
 abbrev pub bind_all : List (List ℕ) → ℕ → List ℕ → List (List Meaning) → Result (List (List Bound)) BindFault
 bind_all names entry pins [] = Ok []
 bind_all names entry pins (terms ∷ more) = then_read (in_entry entry (bind_terms MOST_PINS names pins terms))
@@ -42,34 +48,87 @@ abbrev pub pins_of : List ℕ → List (List Bound) → List ℕ
 pins_of pins [] = pins
 pins_of pins (bounds ∷ more) = pins_of (pins_after pins bounds) more
 
--- each alternative asks its terms of the pins
+-- each alternative asks its terms of the pins up to and with its own; those of later ones stand behind them
 abbrev pub EachAsks : List ℕ → List (List Bound) → List Alt → Type 0
 EachAsks pins [] [] = Unit {0}
 EachAsks pins [] (alt ∷ alts) = ⊥
 EachAsks pins (bounds ∷ more) [] = ⊥
-EachAsks pins (bounds ∷ more) (alt ∷ alts) = Asks pins bounds alt × EachAsks pins more alts
+EachAsks pins (bounds ∷ more) (alt ∷ alts) = Asks (pins_after pins bounds) bounds alt × EachAsks (pins_after pins bounds) more alts
 
--- the words are good, and these are the terms of their alternatives
-pub record Means (words : List Text) (alternatives : List (List Meaning)) : Type 0 where
-  pub values : Values
-  pub good : settings_of words ≡ Ok values
+-- the values are those of a search, and these are the terms of its alternatives
+pub record Searches (values : Values) (alternatives : List (List Meaning)) : Type 0 where
+  pub job : values.job ≡ Find
   pub terms : map (λ chain. terms_of chain.text) values.chains ≡ map (λ terms. Ok terms) alternatives
 
--- the words are good, and one of their channels can't be bound
-pub record CannotBind (words : List Text) (fault : BindFault) : Type 0 where
-  pub alternatives : List (List Meaning)
-  pub means : Means words alternatives
-  pub refused : bind_all (raw_names channel_count) 0 [] alternatives ≡ Err fault
+-- the values are those of a decoding, and this is its stack
+pub record Stacks (values : Values) (accepted : Accepted) : Type 0 where
+  pub job : values.job ≡ Decode
+  pub stack : stack_of values.chains values.show None ≡ Ok accepted
 
--- the words are good, and their channels can be bound
-pub record CanBind (words : List Text) : Type 0 where
+-- the values are those of a decoding, and its stack has this first fault
+pub record HasStackFault (values : Values) (fault : StackFault) : Type 0 where
+  pub job : values.job ≡ Decode
+  pub stack : stack_of values.chains values.show None ≡ Err fault
+
+-- where the channels have these names, an alternative of a search has this first fault
+pub record SearchRefused (values : Values) (names : List (List ℕ)) (fault : BindFault) : Type 0 where
   pub alternatives : List (List Meaning)
-  pub means : Means words alternatives
+  pub searches : Searches values alternatives
+  pub refused : bind_all names 0 [] alternatives ≡ Err fault
+
+-- where the channels have these names, an instance of a stack has this first fault
+pub record StackRefused (values : Values) (names : List (List ℕ)) (rate : Rate) (fault : BindFault) : Type 0 where
+  pub accepted : Accepted
+  pub stacks : Stacks values accepted
+  pub refused : bound_of MOST_PINS names rate accepted.instances ≡ Err fault
+
+-- the alternatives of a search can be bound
+pub record SearchBound (values : Values) (names : List (List ℕ)) : Type 0 where
+  pub alternatives : List (List Meaning)
+  pub searches : Searches values alternatives
   pub bounds : List (List Bound)
-  pub bound : bind_all (raw_names channel_count) 0 [] alternatives ≡ Ok bounds
+  pub bound : bind_all names 0 [] alternatives ≡ Ok bounds
 
--- the words ask for these alternatives at these pins
-pub record AsksFor (words : List Text) (pins : List ℕ) (alts : List Alt) : Type 0 where
-  pub can : CanBind words
-  pub pins_are : pins ≡ pins_of [] can.bounds
-  pub asks : EachAsks pins can.bounds alts
+-- the instances of a stack can be bound
+pub record StackBound (values : Values) (names : List (List ℕ)) (rate : Rate) : Type 0 where
+  pub accepted : Accepted
+  pub stacks : Stacks values accepted
+  pub bounds : List BoundInstance
+  pub bound : bound_of MOST_PINS names rate accepted.instances ≡ Ok bounds
+
+-- the head of these bytes is good, and a channel isn't there, is one too many, or the rate is too low
+pub record CannotBind (values : Values) (bytes : List ℕ) (told : Told) (fault : BindFault) : Type 0 where
+  pub form : Form
+  pub names : List (List ℕ)
+  pub rate : Rate
+  pub form_is : IsFormOf values form
+  pub head : HasHead form bytes told names rate
+  pub refused : SearchRefused values names fault ⊎ StackRefused values names rate fault
+
+-- the head of these bytes is good, and all is bound
+pub record CanBind (values : Values) (bytes : List ℕ) (told : Told) : Type 0 where
+  pub form : Form
+  pub names : List (List ℕ)
+  pub rate : Rate
+  pub form_is : IsFormOf values form
+  pub head : HasHead form bytes told names rate
+  pub bound : SearchBound values names ⊎ StackBound values names rate
+
+-- the values ask for these alternatives at these pins
+pub record AsksFor (values : Values) (names : List (List ℕ)) (pins : List ℕ) (alts : List Alt) : Type 0 where
+  pub search : SearchBound values names
+  pub pins_are : pins ≡ pins_of [] search.bounds
+  pub asks : EachAsks [] search.bounds alts
+
+-- the decoders of instances that are bound
+abbrev pub nodes_of : List Instance → List BoundInstance → List Node
+nodes_of [] bounds = []
+nodes_of (instance ∷ instances) [] = []
+nodes_of (instance ∷ instances) (bound ∷ bounds) = record { setup = bound.setup; parent = instance.parent } ∷ nodes_of instances bounds
+
+-- the values ask for this stack, with these decoders at these pins
+pub record AsksStack (values : Values) (names : List (List ℕ)) (rate : Rate) (pins : List ℕ) (accepted : Accepted) (nodes : List Node) : Type 0 where
+  pub stack : StackBound values names rate
+  pub accepted_is : accepted ≡ stack.accepted
+  pub pins_are : pins ≡ binding.pins_of stack.bounds
+  pub nodes_are : nodes ≡ nodes_of stack.accepted.instances stack.bounds

@@ -1,42 +1,95 @@
 -- What a run does: the status that its words, its capture and its failures give, and what is written with it.
-use Rattle.std.specs.Prelude.{ℕ, ◌≡◌, ◌≤◌, ◌⊎◌, List, [], Option, Err}
+use Rattle.std.specs.Prelude.{ℕ, ◌≡◌, ◌≤◌, ◌⊎◌, List, [], Option, Ok, Err}
 use Rattle.std.specs.Io.KnownBytes.{Appends, Consumes, IsAtEnd}
 use Rattle.la_base.specs.declared.samples.Rate.{Rate}
-use Rattle.la_io.specs.Capture.{Stop as Told, AtEnd}
+use Rattle.la_io.specs.Capture.{Stop as Told, AtEnd, Cut, Head, Bad, Unread}
 use Rattle.la_io.specs.Causes.{AppendsFront, Rose}
+use Rattle.capture_any.specs.Captures.{capture_of}
+use Rattle.capture_any.specs.Listings.{Fails, Says}
+use Rattle.capture_any.specs.declared.end.ListingEnd.{ListingEnd}
+use Rattle.capture_any.specs.declared.end.ListingEnd.TheVariants as end
+use Rattle.capture_any.specs.declared.form.Form.{Form}
+use Rattle.find_job.specs.Finding.{WholeListing, ListingFront}
 use Rattle.wait_cond.specs.declared.alt.Alt.{Alt}
 use Rattle.words.specs.Lexer.{Text}
-use Rattle.words.specs.Settings.{settings_of}
-use Rattle.ldecode.specs.Asking.{AsksFor, IsUsual, CannotBind, capture_at}
-use Rattle.ldecode.specs.Finding.{Fails, Says}
+use Rattle.words.specs.Settings.{Values, settings_of}
+use Rattle.stack_spec.specs.Accepting.{Accepted, is_shown}
+use Rattle.ldecode.specs.Asking.{AsksFor, AsksStack, CannotBind, HasHead, HasStackFault, IsFormOf}
+use Rattle.ldecode.specs.Decoding.{Node, decode_listing}
 use Rattle.ldecode.specs.Notices.{notice_of}
-use Rattle.ldecode.specs.declared.find.FindEnd.{FindEnd}
-use Rattle.ldecode.specs.declared.find.FindEnd.TheVariants as end
 use Rattle.ldecode.specs.declared.status.Status.{Status}
-use Rattle.ldecode.specs.declared.status.Status.TheVariants.{Done, Words, Bind, ReadFault, Capture, WriteFault, NoMemory}
+use Rattle.ldecode.specs.declared.status.Status.TheVariants.{Done, Words, Stack, Bind, ReadFault, Capture, WriteFault, NoMemory}
 
--- nothing was taken, and nothing written
-abbrev pub Nothing : List ℕ → Option (List ℕ) → Option (List ℕ) → Type 0
-Nothing bytes old new = (bytes ≡ []) × Appends old new []
-
--- the search that the words ask for came to this end
-pub record Searched (words : List Text) (bytes : List ℕ) (told : Told) (old new : Option (List ℕ)) (end : FindEnd) : Type 0 where
+-- the search that the values ask for came to this end
+pub record Searched (values : Values) (bytes : List ℕ) (told : Told) (old new : Option (List ℕ)) (end : ListingEnd) : Type 0 where
+  pub form : Form
+  pub names : List (List ℕ)
   pub rate : Rate
-  pub usual : IsUsual rate
+  pub form_is : IsFormOf values form
+  pub head : HasHead form bytes told names rate
   pub pins : List ℕ
   pub alts : List Alt
-  pub asks : AsksFor words pins alts
-  pub says : Says (capture_at rate pins) alts bytes told old new end
+  pub asks : AsksFor values names pins alts
+  pub says : Says (capture_of form pins) (λ samples. WholeListing samples alts old new) (λ samples. ListingFront samples alts old new) bytes told end
+
+-- the decoding that the values ask for came to this end
+pub record Decoded (values : Values) (bytes : List ℕ) (told : Told) (old new : Option (List ℕ)) (end : ListingEnd) : Type 0 where
+  pub form : Form
+  pub names : List (List ℕ)
+  pub rate : Rate
+  pub form_is : IsFormOf values form
+  pub head : HasHead form bytes told names rate
+  pub pins : List ℕ
+  pub accepted : Accepted
+  pub nodes : List Node
+  pub asks : AsksStack values names rate pins accepted nodes
+  pub says : Says (capture_of form pins) (λ samples. Appends old new (decode_listing accepted.instances (is_shown accepted.shown) nodes samples))
+      (λ samples. AppendsFront old new (decode_listing accepted.instances (is_shown accepted.shown) nodes samples)) bytes told end
+
+-- the work that the values ask for came to this end
+abbrev pub Worked : Values → List ℕ → Told → Option (List ℕ) → Option (List ℕ) → ListingEnd → Type 0
+Worked values bytes told old new end = Searched values bytes told old new end ⊎ Decoded values bytes told old new end
+
+-- the head of these bytes is no good one, and nothing was written
+pub record HeadEnds (values : Values) (bytes : List ℕ) (told : Told) (head : Head) (old new : Option (List ℕ)) : Type 0 where
+  pub form : Form
+  pub form_is : IsFormOf values form
+  pub head_is : (capture_of form [] bytes told).head ≡ head
+  pub unwritten : Appends old new []
+
+-- what a status says of good words, the bytes that were taken and what was written
+abbrev pub Works : Values → List ℕ → Told → Option (List ℕ) → Option (List ℕ) → Status → Type 0
+Works values bytes told old new Done = Worked values bytes told old new end.Done
+Works values bytes told old new (Words fault) = ⊥
+Works values bytes told old new (Stack fault) = HasStackFault values fault × (bytes ≡ []) × Appends old new []
+Works values bytes told old new (Bind fault) = CannotBind values bytes told fault × Appends old new []
+Works values bytes told old new ReadFault = (told ≡ Cut) × (Worked values bytes told old new end.Read ⊎ HeadEnds values bytes told Unread old new)
+Works values bytes told old new (Capture fault) = Worked values bytes told old new (end.Fault fault) ⊎ HeadEnds values bytes told (Bad fault) old new
+Works values bytes told old new WriteFault = Worked values bytes told old new end.Write
+Works values bytes told old new NoMemory = Worked values bytes told old new end.NoMemory ⊎ Appends old new []
+
+-- the same of a run that took these bytes of its source, whose end it was told or not
+pub record WorksOn (values : Values) (left_old left_new old new : Option (List ℕ)) (status : Status) : Type 0 where
+  pub bytes : List ℕ
+  pub told : Told
+  pub taken : Consumes left_old left_new bytes
+  pub at_end : told ≡ AtEnd → IsAtEnd left_new
+  pub works : Works values bytes told old new status
+
+-- the words are good, and this holds of their values
+abbrev pub Good : List Text → (Values → Type 0) → Type 0
+Good words Holds = (values : Values) × (settings_of words ≡ Ok values) × Holds values
 
 -- what a status says of the words, the bytes that were taken and what was written
 abbrev pub Tells : List Text → List ℕ → Told → Option (List ℕ) → Option (List ℕ) → Status → Type 0
-Tells words bytes told old new Done = Searched words bytes told old new end.Done
-Tells words bytes told old new (Words fault) = (settings_of words ≡ Err fault) × Nothing bytes old new
-Tells words bytes told old new (Bind fault) = CannotBind words fault × Nothing bytes old new
-Tells words bytes told old new ReadFault = Searched words bytes told old new end.Read
-Tells words bytes told old new (Capture fault) = Searched words bytes told old new (end.Fault fault)
-Tells words bytes told old new WriteFault = Searched words bytes told old new end.Write
-Tells words bytes told old new NoMemory = Nothing bytes old new
+Tells words bytes told old new Done = Good words (λ values. Works values bytes told old new Done)
+Tells words bytes told old new (Words fault) = (settings_of words ≡ Err fault) × (bytes ≡ []) × Appends old new []
+Tells words bytes told old new (Stack fault) = Good words (λ values. Works values bytes told old new (Stack fault))
+Tells words bytes told old new (Bind fault) = Good words (λ values. Works values bytes told old new (Bind fault))
+Tells words bytes told old new ReadFault = Good words (λ values. Works values bytes told old new ReadFault)
+Tells words bytes told old new (Capture fault) = Good words (λ values. Works values bytes told old new (Capture fault))
+Tells words bytes told old new WriteFault = Good words (λ values. Works values bytes told old new WriteFault)
+Tells words bytes told old new NoMemory = Good words (λ values. Works values bytes told old new NoMemory) ⊎ Appends old new []
 
 -- a run took these bytes of its source, whose end it was told or not, and its status says what it says of them
 pub record Runs (words : List Text) (left_old left_new old new : Option (List ℕ)) (status : Status) : Type 0 where
@@ -50,6 +103,7 @@ pub record Runs (words : List Text) (left_old left_new old new : Option (List �
 abbrev pub SourceCause : ℕ → ℕ → Status → Type 0
 SourceCause before now Done = now ≡ before
 SourceCause before now (Words fault) = now ≡ before
+SourceCause before now (Stack fault) = now ≡ before
 SourceCause before now (Bind fault) = now ≡ before
 SourceCause before now ReadFault = Fails before now
 SourceCause before now (Capture fault) = now ≡ before
@@ -60,6 +114,7 @@ SourceCause before now NoMemory = before ≤ now
 abbrev pub SinkCause : ℕ → ℕ → Status → Type 0
 SinkCause before now Done = now ≡ before
 SinkCause before now (Words fault) = now ≡ before
+SinkCause before now (Stack fault) = now ≡ before
 SinkCause before now (Bind fault) = now ≡ before
 SinkCause before now ReadFault = now ≡ before
 SinkCause before now (Capture fault) = now ≡ before
@@ -70,10 +125,11 @@ SinkCause before now NoMemory = now ≡ before
 abbrev pub OrNoMemory : Status → Status → Type 0
 OrNoMemory expected status = (status ≡ expected) ⊎ (status ≡ NoMemory)
 
--- where words and channels are good and nothing failed, a run is done, or its capture has a fault, or memory lacks
+-- where words, stack and channels are good and nothing failed, a run is done, or its capture has a fault, or memory lacks
 abbrev pub Completes : Status → Type 0
 Completes Done = Unit {0}
 Completes (Words fault) = ⊥
+Completes (Stack fault) = ⊥
 Completes (Bind fault) = ⊥
 Completes ReadFault = ⊥
 Completes (Capture fault) = Unit {0}
@@ -84,6 +140,7 @@ Completes NoMemory = Unit {0}
 abbrev pub OnRefusal : Status → Type 0 → Type 0
 OnRefusal Done P = Unit {0}
 OnRefusal (Words fault) P = P
+OnRefusal (Stack fault) P = P
 OnRefusal (Bind fault) P = P
 OnRefusal ReadFault P = Unit {0}
 OnRefusal (Capture fault) P = Unit {0}

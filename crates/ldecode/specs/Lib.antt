@@ -1,7 +1,6 @@
-pub mod Notices
-pub mod Listing
-pub mod Stopping
-pub mod Finding
+pub mod Decoding
+pub mod Feeding
 pub mod Asking
 pub mod Chosen
+pub mod Notices
 pub mod Headline

@@ -1,28 +1,40 @@
 -- What a run's status tells its user: the exit status, and one line of text.
 use Rattle.std.specs.Prelude.{ℕ, List, [], ◌++◌, codes}
 use Rattle.std.specs.Fmt.{decimal}
+use Rattle.la_io.specs.declared.fault.CaptureError.{CaptureError}
+use Rattle.la_io.specs.declared.fault.CaptureError.TheVariants as error
 use Rattle.la_io.specs.declared.fault.CaptureFault.{CaptureFault}
 use Rattle.la_io.specs.declared.fault.CaptureFault.TheVariants as capture
 use Rattle.wait_cond.specs.declared.faults.BindWhy.{BindWhy}
 use Rattle.wait_cond.specs.declared.faults.BindWhy.TheVariants as binding
 use Rattle.words.specs.declared.kinds.WordWhy.{WordWhy}
 use Rattle.words.specs.declared.kinds.WordWhy.TheVariants as word
-use Rattle.ldecode.specs.declared.find.FindEnd.{FindEnd}
-use Rattle.ldecode.specs.declared.find.FindEnd.TheVariants as end
+use Rattle.stack_spec.specs.declared.faults.StackWhy.{StackWhy}
+use Rattle.stack_spec.specs.declared.faults.StackWhy.TheVariants as stack
+use Rattle.capture_any.specs.declared.end.ListingEnd.{ListingEnd}
+use Rattle.capture_any.specs.declared.end.ListingEnd.TheVariants as end
 use Rattle.ldecode.specs.declared.status.Status.{Status}
-use Rattle.ldecode.specs.declared.status.Status.TheVariants.{Done, Words, Bind, ReadFault, Capture, WriteFault, NoMemory}
+use Rattle.ldecode.specs.declared.status.Status.TheVariants.{Done, Words, Stack, Bind, ReadFault, Capture, WriteFault, NoMemory}
 
--- the status of a search that ended so
-abbrev pub status_of : FindEnd → Status
+-- the status of a run whose work ended so
+abbrev pub status_of : ListingEnd → Status
 status_of end.Done = Done
 status_of end.Read = ReadFault
 status_of end.Write = WriteFault
 status_of (end.Fault fault) = Capture fault
+status_of end.NoMemory = NoMemory
+
+-- the status of a run whose capture can't be opened
+abbrev pub status_at_head : CaptureError → Status
+status_at_head (error.Fault fault) = Capture fault
+status_at_head error.Read = ReadFault
+status_at_head error.NoMemory = NoMemory
 
 -- the exit status
 abbrev pub code_of : Status → ℕ
 code_of Done = 0
 code_of (Words fault) = 1
+code_of (Stack fault) = 1
 code_of (Bind fault) = 1
 code_of ReadFault = 2
 code_of (Capture fault) = 3
@@ -42,6 +54,17 @@ word_why word.Extra = codes "Extra"
 word_why word.Few = codes "Few"
 word_why word.Many = codes "Many"
 word_why word.Cond = codes "Cond"
+
+-- why a stack is refused
+abbrev pub stack_why : StackWhy → List ℕ
+stack_why stack.Unknown = codes "Unknown"
+stack_why stack.Value = codes "Value"
+stack_why stack.Range = codes "Range"
+stack_why stack.Repeat = codes "Repeat"
+stack_why stack.NoParent = codes "NoParent"
+stack_why stack.Mismatch = codes "Mismatch"
+stack_why stack.Missing = codes "Missing"
+stack_why stack.Many = codes "Many"
 
 -- why a channel isn't bound
 abbrev pub bind_why : BindWhy → List ℕ
@@ -83,6 +106,7 @@ capture_at capture.Bytes = 0
 abbrev pub notice_of : Status → List ℕ
 notice_of Done = []
 notice_of (Words fault) = codes "ldecode: word " ++ decimal fault.word ++ codes " at " ++ decimal fault.at ++ codes ": " ++ word_why fault.why ++ codes "\n"
+notice_of (Stack fault) = codes "ldecode: stack word " ++ decimal fault.word ++ codes " at " ++ decimal fault.at ++ codes ": " ++ stack_why fault.why ++ codes "\n"
 notice_of (Bind fault) = codes "ldecode: entry " ++ decimal fault.entry ++ codes " item " ++ decimal fault.item ++ codes ": " ++ bind_why fault.why ++ codes "\n"
 notice_of ReadFault = codes "ldecode: read fault\n"
 notice_of (Capture fault) = codes "ldecode: capture at " ++ decimal (capture_at fault) ++ codes ": " ++ capture_why fault ++ codes "\n"

@@ -1,11 +1,21 @@
-// The form of a capture.
-use la_base::Rate;
+// The form of the capture that the words name.
+ghost use Rattle.capture_any.specs.Captures.{IsForm, HasNoHead};
+ghost use Rattle.words.specs.Settings.{meaning_of};
+ghost use Rattle.ldecode.specs.Asking.{IsFormOf};
 
-/// How many channels a capture has.
-pub const CHANNELS: u32 = 8;
+use capture_any::Form;
+use words::{Format, Settings};
 
-/// The rate of its samples.
-pub const RATE: Rate = Rate {
-    num: 1_000_000,
-    den: 1,
-};
+/// The form of the capture that the settings name.
+pub fn form_of(settings: &Settings) -> Form
+    ensures named { IsFormOf (meaning_of settings.now) result }
+    ensures fits { IsForm result }
+    ensures no_head { HasNoHead result }
+{
+    match settings.format {
+        Format::Raw => Form::Raw {
+            channels: settings.channels,
+            rate: settings.rate,
+        },
+    }
+}

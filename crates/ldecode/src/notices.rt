@@ -1,11 +1,13 @@
 // The line that tells of a status.
-ghost use Rattle.std.specs.Prelude.{◌≡◌, ◌≤◌, length};
-ghost use Rattle.ldecode.specs.Notices.{word_why, bind_why, capture_why, capture_at, notice_of};
+ghost use Rattle.std.specs.Prelude.{◌≡◌, ◌≤◌, ◌++◌, [], codes, length};
+ghost use Rattle.std.specs.Fmt.{decimal};
+ghost use Rattle.ldecode.specs.Notices.{word_why, stack_why, bind_why, capture_why, capture_at, notice_of};
 
 use crate::status::Status;
 use crate::text::{number, text};
 use la_io::CaptureFault;
 use line_text::LineBuf;
+use stack_spec::StackWhy;
 use wait_cond::BindWhy;
 use words::WordWhy;
 
@@ -26,6 +28,23 @@ fn word_why(why: WordWhy) -> &'static str
         WordWhy::Few => "Few",
         WordWhy::Many => "Many",
         WordWhy::Cond => "Cond",
+    }
+}
+
+// Why a stack is refused.
+fn stack_why(why: StackWhy) -> &'static str
+    ensures text { result.now ≡ stack_why why }
+    ensures short { length result.now ≤ 20 }
+{
+    match why {
+        StackWhy::Unknown => "Unknown",
+        StackWhy::Value => "Value",
+        StackWhy::Range => "Range",
+        StackWhy::Repeat => "Repeat",
+        StackWhy::NoParent => "NoParent",
+        StackWhy::Mismatch => "Mismatch",
+        StackWhy::Missing => "Missing",
+        StackWhy::Many => "Many",
     }
 }
 
@@ -80,6 +99,22 @@ fn capture_at(fault: CaptureFault) -> u64
     }
 }
 
+// What is wrong with a word, and at which byte.
+fn at_word(line: &mut LineBuf, what: &str, word: u32, at: u32, why: &str)
+    requires empty { line.old ≡ [] }
+    requires what { length what.now ≤ 20 }
+    requires why { length why.now ≤ 20 }
+    ensures { line.new ≡ what.now ++ decimal word ++ codes " at " ++ decimal at ++ codes ": " ++ why.now ++ codes "\n" }
+{
+    text(line, what);
+    number(line, u64::from(word));
+    text(line, " at ");
+    number(line, u64::from(at));
+    text(line, ": ");
+    text(line, why);
+    text(line, "\n");
+}
+
 /// The line that tells of a status.
 pub fn notice(status: &Status) -> LineBuf
     ensures { result ≡ notice_of status.now }
@@ -88,13 +123,22 @@ pub fn notice(status: &Status) -> LineBuf
     match *status {
         Status::Done => {}
         Status::Words(fault) => {
-            text(&mut line, "ldecode: word ");
-            number(&mut line, u64::from(fault.word));
-            text(&mut line, " at ");
-            number(&mut line, u64::from(fault.at));
-            text(&mut line, ": ");
-            text(&mut line, word_why(fault.why));
-            text(&mut line, "\n");
+            at_word(
+                &mut line,
+                "ldecode: word ",
+                fault.word,
+                fault.at,
+                word_why(fault.why),
+            );
+        }
+        Status::Stack(fault) => {
+            at_word(
+                &mut line,
+                "ldecode: stack word ",
+                fault.word,
+                fault.at,
+                stack_why(fault.why),
+            );
         }
         Status::Bind(fault) => {
             text(&mut line, "ldecode: entry ");

@@ -1,20 +1,11 @@
 // How a run ends.
 ghost use Rattle.std.specs.Prelude.{◌≡◌};
-ghost use Rattle.ldecode.specs.Notices.{code_of};
+ghost use Rattle.ldecode.specs.Notices.{code_of, status_at_head};
 
-use crate::find::FindEnd;
-use la_io::CaptureFault;
-use wait_cond::BindWhy;
+use capture_any::ListingEnd;
+use la_io::{CaptureError, CaptureFault};
+use stack_spec::{BindFault, StackFault};
 use words::WordFault;
-
-/// A channel that can't be bound: `entry` is the number of the alternative and `item` that of its
-/// term, each counted from 0.
-#[derive(Clone, Copy, Debug, PartialEq, Eq)]
-pub struct BindFault {
-    pub entry: u32,
-    pub item: u32,
-    pub why: BindWhy,
-}
 
 /// How a run ends.
 #[derive(Clone, Copy, Debug, PartialEq, Eq)]
@@ -23,7 +14,9 @@ pub enum Status {
     Done,
     /// The words have a fault. Nothing was read, and nothing written.
     Words(WordFault),
-    /// A channel isn't there, or is one too many. Nothing was read, and nothing written.
+    /// The stack of decoders has a fault. Nothing was read, and nothing written.
+    Stack(StackFault),
+    /// A channel isn't there, or is one too many, or the rate is too low. Nothing was written.
     Bind(BindFault),
     /// The source failed. The listing of the samples that came before is whole.
     ReadFault,
@@ -41,7 +34,7 @@ pub fn exit_code(status: &Status) -> u8
 {
     match status {
         Status::Done => 0,
-        Status::Words(_) | Status::Bind(_) => 1,
+        Status::Words(_) | Status::Stack(_) | Status::Bind(_) => 1,
         Status::ReadFault => 2,
         Status::Capture(_) => 3,
         Status::WriteFault => 4,
@@ -49,17 +42,29 @@ pub fn exit_code(status: &Status) -> u8
     }
 }
 
-impl From<FindEnd> for Status {
+/// The status of a run whose capture can't be opened.
+pub fn status_of(error: CaptureError) -> Status
+    ensures { result ≡ status_at_head error }
+{
+    match error {
+        CaptureError::Fault(fault) => Status::Capture(fault),
+        CaptureError::Read => Status::ReadFault,
+        CaptureError::NoMemory => Status::NoMemory,
+    }
+}
+
+impl From<ListingEnd> for Status {
     ghost use Rattle.ldecode.specs.Notices.{status_of};
 
     ghost from_gives = { λ end status. status ≡ status_of end };
 
-    fn from(end: FindEnd) -> Status {
+    fn from(end: ListingEnd) -> Status {
         match end {
-            FindEnd::Done => Status::Done,
-            FindEnd::Read => Status::ReadFault,
-            FindEnd::Write => Status::WriteFault,
-            FindEnd::Fault(fault) => Status::Capture(fault),
+            ListingEnd::Done => Status::Done,
+            ListingEnd::Read => Status::ReadFault,
+            ListingEnd::Write => Status::WriteFault,
+            ListingEnd::Fault(fault) => Status::Capture(fault),
+            ListingEnd::NoMemory => Status::NoMemory,
         }
     }
 }

@@ -6,7 +6,7 @@ use line_text::LineBuf;
 
 /// Appends a short text.
 pub fn text(line: &mut LineBuf, text: &str)
-    requires short { length text.now ≤ 25 }
+    requires short { length text.now ≤ 32 }
     requires room { length line.old ≤ 200 }
     ensures line { line.new ≡ line.old ++ text.now }
     ensures grows { length line.new ≡ length line.old + length text.now }

@@ -1,0 +1,204 @@
+-- The gathering of all notes of a capture, as it goes on.
+use Rattle.std.proofs.Common.{◌≡◌, ℕ, ◌+◌, ◌==◌, ◌<◌, Bool, true, false, cond, List, [], ◌∷◌, ◌++◌, length, map, Option, Some, Ok, refl, sym, ◌∙◌, ap, ap₂, subst, append_assoc, arith, suc, inl, inr, ◌⊎◌}
+use Rattle.std.specs.List.{filter}
+use Rattle.std.proofs.lemmas.Bool.Decides.{nat_tests}
+use Rattle.std.proofs.lemmas.List.{append-nil, map-append}
+use Rattle.std.proofs.lemmas.List.Elements.{filter-append}
+use Rattle.la_base.specs.Samples.{samples}
+use Rattle.la_base.specs.declared.samples.Run.{Run}
+use Rattle.la_base.specs.declared.wires.Out.{Out}
+use Rattle.la_base.specs.declared.wires.Note.{Note}
+use Rattle.decoder_core.specs.Inputs.{Item, Sample}
+use Rattle.note_order.specs.Order.{entries_from, entry_of, in_order, is_of}
+use Rattle.note_order.specs.declared.entry.Entry.{Entry}
+use Rattle.capture_any.specs.Reading.{Stands, Next}
+use Rattle.capture_any.specs.declared.capture.Capture.{Capture}
+use Rattle.capture_any.proofs.ListingLemmas.{Gave, gave_nothing, gave_run}
+use Rattle.la_io.specs.Grown.{appends_nothing}
+use Rattle.la_io.specs.Capture.{Stop, Captured}
+use Rattle.capture_any.specs.Listings.{Lists}
+use Rattle.capture_any.specs.declared.end.ListingEnd.TheVariants.{NoMemory, Write}
+use Rattle.note_order.proofs.Entries.{instances_make_listing}
+use Rattle.stack_spec.specs.Instances.{Instance}
+use Rattle.ldecode.specs.Decoding.{note_lines, notes_of, shown_from, where_shown}
+use Rattle.ldecode.specs.Feeding.{Consumed, FedAll, FedEach, Gathered, ListedFront, notes_on, samples_listing}
+use Rattle.ldecode.proofs.NoteLemmas.{none_shown, shown-append}
+
+-- more notes of each instance
+abbrev both : List (List Note) → List (List Note) → List (List Note)
+both [] added = []
+both (some ∷ given) [] = []
+both (some ∷ given) (notes ∷ added) = (some ++ notes) ∷ both given added
+
+-- entries of another instance
+none_here : (i k : ℕ) → (k == i) ≡ false → (notes : List Note) → filter (is_of i) (map (entry_of k) notes) ≡ []
+none_here i k other [] = refl
+none_here i k other (note ∷ notes) = ap (λ (b : Bool). cond b (entry_of k note ∷ filter (is_of i) (map (entry_of k) notes)) (filter (is_of i) (map (entry_of k) notes))) other ∙ none_here i k other notes
+
+-- entries of later instances
+none_later : (i k : ℕ) → i < k → (given : List (List Note)) → filter (is_of i) (entries_from k given) ≡ []
+none_later i k later [] = refl
+none_later i k later (notes ∷ given) =
+    let other : (k == i) ≡ false = grind (arith, nat_tests) in
+    filter-append (is_of i) (map (entry_of k) notes) (entries_from (k + 1) given)
+    ∙ ap (λ (l : List Entry). l ++ filter (is_of i) (entries_from (k + 1) given)) (none_here i k other notes)
+    ∙ none_later i (k + 1) (omega (arith, later)) given
+
+-- four parts, of which one of the middle ones is nothing
+crossed : {X : Type 0} (a b c d : List X) → (b ≡ []) ⊎ (c ≡ []) → (a ++ b) ++ (c ++ d) ≡ (a ++ c) ++ (b ++ d)
+crossed {X} a b c d (inl none) = ap (λ (l : List X). (a ++ l) ++ (c ++ d)) none ∙ ap (λ (l : List X). l ++ (c ++ d)) (append-nil a) ∙ sym (append_assoc a c d) ∙ sym (ap (λ (l : List X). (a ++ c) ++ (l ++ d)) none)
+crossed {X} a b c d (inr none) = ap (λ (l : List X). (a ++ b) ++ (l ++ d)) none ∙ append_assoc a b d ∙ sym (ap (λ (l : List X). l ++ (b ++ d)) (ap (λ (l : List X). a ++ l) none ∙ append-nil a))
+
+-- the entries of an instance, where more notes joined
+entries_both : (i k : ℕ) (shown : ℕ → Bool) (given added : List (List Note)) → length added ≡ length given
+    → filter (is_of i) (entries_from k (shown_from shown k (both given added))) ≡ filter (is_of i) (entries_from k (shown_from shown k given)) ++ filter (is_of i) (entries_from k (shown_from shown k added))
+entries_both i k shown [] [] count = refl
+entries_both i k shown [] (notes ∷ added) count = absurd (omega (arith, count))
+entries_both i k shown (some ∷ given) [] count = absurd (omega (arith, count))
+entries_both i k shown (some ∷ given) (notes ∷ added) count =
+    let here : List Note → List Entry = λ l. filter (is_of i) (map (entry_of k) (where_shown (shown k) l)) in
+    let later : List (List Note) → List Entry = λ l. filter (is_of i) (entries_from (k + 1) (shown_from shown (k + 1) l)) in
+    filter-append (is_of i) (map (entry_of k) (where_shown (shown k) (some ++ notes))) (entries_from (k + 1) (shown_from shown (k + 1) (both given added)))
+    ∙ ap (λ (l : List Entry). l ++ later (both given added)) (ap (λ (l : List Note). filter (is_of i) (map (entry_of k) l)) (shown-append (shown k) some notes)
+    ∙ ap (filter (is_of i)) (map-append (entry_of k) (where_shown (shown k) some) (where_shown (shown k) notes))
+    ∙ filter-append (is_of i) (map (entry_of k) (where_shown (shown k) some)) (map (entry_of k) (where_shown (shown k) notes)))
+    ∙ ap (λ (l : List Entry). (here some ++ here notes) ++ l) (entries_both i (k + 1) shown given added (omega (arith, count)))
+    ∙ crossed (here some) (here notes) (later given) (later added) (apart (k == i) refl)
+    ∙ sym (ap₂ (λ (a b : List Entry). a ++ b)
+    (filter-append (is_of i) (map (entry_of k) (where_shown (shown k) some)) (entries_from (k + 1) (shown_from shown (k + 1) given)))
+    (filter-append (is_of i) (map (entry_of k) (where_shown (shown k) notes)) (entries_from (k + 1) (shown_from shown (k + 1) added))))
+  where
+    apart : (b : Bool) → (k == i) ≡ b → (filter (is_of i) (map (entry_of k) (where_shown (shown k) notes)) ≡ []) ⊎ (filter (is_of i) (entries_from (k + 1) (shown_from shown (k + 1) given)) ≡ [])
+    apart true same = inr (none_later i (k + 1) (grind (arith, nat_tests)) (shown_from shown (k + 1) given))
+    apart false other = inl (none_here i k other (where_shown (shown k) notes))
+
+module _ {M S : Type 0} (setup : M → S) (consumed : M → List Item → Type 0) (outputs : S → List Item → List Out) where
+  -- setups stay
+  setups_stay : (items : List Item) (olds news : List M) (added : List (List Note)) → FedEach setup consumed outputs items olds news added → map setup news ≡ map setup olds
+  setups_stay items [] [] [] each = refl
+  setups_stay items [] [] (notes ∷ added) each = absurd each
+  setups_stay items [] (n ∷ news) added each = absurd each
+  setups_stay items (o ∷ olds) [] added each = absurd each
+  setups_stay items (o ∷ olds) (n ∷ news) [] each = absurd each
+  setups_stay items (o ∷ olds) (n ∷ news) (notes ∷ added) each = λ i. each.0.same i ∷ setups_stay items olds news added each.1 i
+
+  module _ (given more : List ℕ) where
+    joined : map Sample given ++ map Sample more ≡ map Sample (given ++ more)
+    joined = sym (map-append Sample given more)
+
+    -- more samples were consumed
+    consumed_on : (olds news : List M) (added : List (List Note)) → FedEach setup consumed outputs (map Sample more) olds news added → Consumed setup consumed outputs given olds → Consumed setup consumed outputs (given ++ more) news
+    consumed_on [] [] [] each stand = tt
+    consumed_on [] [] (notes ∷ added) each stand = absurd each
+    consumed_on [] (n ∷ news) added each stand = absurd each
+    consumed_on (o ∷ olds) [] added each stand = absurd each
+    consumed_on (o ∷ olds) (n ∷ news) [] each stand = absurd each
+    consumed_on (o ∷ olds) (n ∷ news) (notes ∷ added) each stand = (subst (consumed n) joined (each.0.consumes (map Sample given) stand.0), consumed_on olds news added each.1 stand.1)
+
+    -- and their notes joined
+    notes_on_more : (olds news : List M) (added : List (List Note)) → FedEach setup consumed outputs (map Sample more) olds news added → Consumed setup consumed outputs given olds
+        → notes_on outputs (map setup olds) (given ++ more) ≡ both (notes_on outputs (map setup olds) given) added
+    notes_on_more [] [] [] each stand = refl
+    notes_on_more [] [] (notes ∷ added) each stand = absurd each
+    notes_on_more [] (n ∷ news) added each stand = absurd each
+    notes_on_more (o ∷ olds) [] added each stand = absurd each
+    notes_on_more (o ∷ olds) (n ∷ news) [] each stand = absurd each
+    notes_on_more (o ∷ olds) (n ∷ news) (notes ∷ added) each stand =
+        let here = ap (λ (l : List Item). notes_of (outputs (setup o) l)) (sym joined) ∙ each.0.gives (map Sample given) stand.0 in
+        λ i. here i ∷ notes_on_more olds news added each.1 stand.1 i
+
+    each_as_many : (olds news : List M) (added : List (List Note)) → FedEach setup consumed outputs (map Sample more) olds news added → length added ≡ length (notes_on outputs (map setup olds) given)
+    each_as_many [] [] [] each = refl
+    each_as_many [] [] (notes ∷ added) each = absurd each
+    each_as_many [] (n ∷ news) added each = absurd each
+    each_as_many (o ∷ olds) [] added each = absurd each
+    each_as_many (o ∷ olds) (n ∷ news) [] each = absurd each
+    each_as_many (o ∷ olds) (n ∷ news) (notes ∷ added) each = ap suc (each_as_many olds news added each.1)
+
+    gathered_on : (shown : ℕ → Bool) (olds news : List M) (old new : List Entry) → FedAll setup consumed outputs (map Sample more) shown olds news old new → Consumed setup consumed outputs given olds
+        → Gathered outputs (map setup olds) shown old given → Gathered outputs (map setup olds) shown new (given ++ more)
+    gathered_on shown olds news old new fed stand gathered i =
+        ap (filter (is_of i)) fed.appended
+        ∙ filter-append (is_of i) old (entries_from 0 (shown_from shown 0 fed.added))
+        ∙ ap (λ (l : List Entry). l ++ filter (is_of i) (entries_from 0 (shown_from shown 0 fed.added))) (gathered i)
+        ∙ sym (entries_both i 0 shown (notes_on outputs (map setup olds) given) fed.added (each_as_many olds news fed.added fed.each))
+        ∙ ap (λ (l : List (List Note)). filter (is_of i) (entries_from 0 (shown_from shown 0 l))) (sym (notes_on_more olds news fed.added fed.each stand))
+
+  -- the samples given so far were consumed, and their notes are gathered
+  pub record Collecting (capture : Capture) (setups : List S) (shown : ℕ → Bool) (machines : List M) (before : List ℕ) (left_old left_now : Option (List ℕ)) (entries : List Entry) : Type 0 where
+    pub given : List ℕ
+    pub gave : Gave capture before left_old left_now given
+    pub same : map setup machines ≡ setups
+    pub stand : Consumed setup consumed outputs given machines
+    pub gathered : Gathered outputs setups shown entries given
+
+  nothing_yet : (shown : ℕ → Bool) (k i : ℕ) (machines : List M) → ((machine : M) → outputs (setup machine) [] ≡ []) → [] ≡ filter (is_of i) (entries_from k (shown_from shown k (notes_on outputs (map setup machines) [])))
+  nothing_yet shown k i [] nothing = refl
+  nothing_yet shown k i (machine ∷ machines) nothing =
+      nothing_yet shown (k + 1) i machines nothing
+      ∙ ap (λ (l : List Note). filter (is_of i) (map (entry_of k) l ++ entries_from (k + 1) (shown_from shown (k + 1) (notes_on outputs (map setup machines) []))))
+      (sym (ap (λ (l : List Out). where_shown (shown k) (notes_of l)) (nothing machine) ∙ none_shown (shown k)))
+
+  pub collecting_starts : (capture : Capture) (shown : ℕ → Bool) (machines : List M) (before : List ℕ) (left : Option (List ℕ)) (entries : List Entry) → ((machine : M) → outputs (setup machine) [] ≡ [])
+      → Stands capture before [] → Consumed setup consumed outputs [] machines → entries ≡ [] → Collecting capture (map setup machines) shown machines before left left entries
+  collecting_starts capture shown machines before left entries nothing stands fresh empty = record {
+    given = [];
+    gave = gave_nothing capture before left stands;
+    same = refl;
+    stand = fresh;
+    gathered = λ i. ap (filter (is_of i)) empty ∙ nothing_yet shown 0 i machines nothing;
+  }
+
+  pub collecting_on : (old new : Capture) (setups : List S) (shown : ℕ → Bool) (olds news : List M) (before : List ℕ) (left_old left_now left_new : Option (List ℕ)) (entries more : List Entry) (run : Run)
+      → Collecting old setups shown olds before left_old left_now entries → Next old new left_now left_new (Ok (Some run)) → FedAll setup consumed outputs (map Sample (samples run)) shown olds news entries more
+      → Collecting new setups shown news before left_old left_new more
+  collecting_on old new setups shown olds news before left_old left_now left_new entries more run so_far next fed = record {
+    given = so_far.given ++ samples run;
+    gave = gave_run old new before left_old left_now left_new so_far.given run so_far.gave next;
+    same = setups_stay (map Sample (samples run)) olds news fed.added fed.each ∙ so_far.same;
+    stand = consumed_on so_far.given (samples run) olds news fed.added fed.each so_far.stand;
+    gathered = subst (λ (l : List S). Gathered outputs l shown more (so_far.given ++ samples run)) so_far.same
+        (gathered_on so_far.given (samples run) shown olds news entries more fed so_far.stand (subst (λ (l : List S). Gathered outputs l shown entries so_far.given) (sym so_far.same) so_far.gathered));
+  }
+
+-- want of memory leaves what a failed write leaves: a front
+pub lists_no_room : (capture : List ℕ → Stop → Captured) (Whole Front : List ℕ → Type 0) (before : List ℕ) (left_old left_new : Option (List ℕ)) → Lists capture Whole Front before left_old left_new Write
+    → Lists capture Whole Front before left_old left_new NoMemory
+lists_no_room capture Whole Front before left_old left_new lists = record {
+  bytes = lists.bytes;
+  told = lists.told;
+  taken = lists.taken;
+  at_end = lists.at_end;
+  says = lists.says;
+}
+
+-- want of memory before anything was written
+pub lists_nothing : (capture : List ℕ → Stop → Captured) (Whole Front All More : List ℕ → Type 0) (before : List ℕ) (left_old left_new : Option (List ℕ)) → ((given : List ℕ) → More given)
+    → Lists capture Whole Front before left_old left_new NoMemory → Lists capture All More before left_old left_new NoMemory
+lists_nothing capture Whole Front All More before left_old left_new more lists = record {
+  bytes = lists.bytes;
+  told = lists.told;
+  taken = lists.taken;
+  at_end = lists.at_end;
+  says = let s = lists.says in record {
+    count = s.count;
+    within = s.within;
+    how = s.how;
+    cut = s.cut;
+    whole = s.whole;
+    front = more _;
+  };
+}
+
+-- the lines of the notes that were gathered, in order, are the listing
+pub gathered_listing : {S : Type 0} (outputs : S → List Item → List Out) (setups : List S) (instances : List Instance) (shown : ℕ → Bool) (entries sorted : List Entry) (given : List ℕ)
+    → sorted ≡ in_order entries → Gathered outputs setups shown entries given → note_lines instances sorted ≡ samples_listing outputs setups instances shown given
+gathered_listing outputs setups instances shown entries sorted given is gathered =
+    ap (note_lines instances) (is ∙ instances_make_listing entries (entries_from 0 (shown_from shown 0 (notes_on outputs setups given))) gathered)
+
+-- nothing is a front of every listing
+pub nothing_listed : {S : Type 0} (outputs : S → List Item → List Out) (setups : List S) (instances : List Instance) (shown : ℕ → Bool) (old : Option (List ℕ)) (given : List ℕ) → ListedFront outputs setups instances shown old old given
+nothing_listed outputs setups instances shown old given = record {
+  count = 0;
+  front = appends_nothing old;
+}

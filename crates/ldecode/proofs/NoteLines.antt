@@ -1,0 +1,61 @@
+-- Lines of notes that are written one after another.
+use Rattle.std.proofs.Common.{◌≡◌, ℕ, zero, suc, ◌+◌, ◌<◌, ◌≤◌, List, [], ◌∷◌, ◌++◌, length, take, drop, get_or, Option, Some, None, refl, sym, ◌∙◌, ap, subst, arith, take_all}
+use Rattle.std.specs.Io.KnownBytes.{Appends}
+use Rattle.std.proofs.lemmas.Grind.{flat_map-append}
+use Rattle.std.proofs.lemmas.List.{append-nil, take_more, take-append-drop}
+use Rattle.std.specs.Prelude.{option_map, slice_get}
+use Rattle.la_base.specs.declared.wires.Note.{Note}
+use Rattle.decoder_set.specs.declared.kinds.Kind.{Kind}
+use Rattle.la_io.specs.Causes.{AppendsFront}
+use Rattle.note_order.specs.declared.entry.Entry.{Entry}
+use Rattle.stack_spec.specs.Instances.{Instance}
+use Rattle.ldecode.specs.Decoding.{line_as, line_by, note_line, note_lines}
+use Rattle.la_io.proofs.Fronts.{front_longer, front_on, front_whole}
+
+module _ (instances : List Instance) where
+  abbrev lines : List Entry → List ℕ
+  lines entries = note_lines instances entries
+
+  abbrev line : Entry → List ℕ
+  line entry = note_line instances entry
+
+  -- one more line
+  pub lines_so_far : (entries : List Entry) (i : ℕ) (entry : Entry) → i < length entries → entry ≡ get_or entries i entry → lines (take (i + 1) entries) ≡ lines (take i entries) ++ line entry
+  lines_so_far entries i entry within is =
+      ap lines (take_more entries i entry within)
+      ∙ flat_map-append line (take i entries) (get_or entries i entry ∷ [])
+      ∙ ap (λ (e : Entry). lines (take i entries) ++ (line e ++ [])) (sym is)
+      ∙ ap (λ (l : List ℕ). lines (take i entries) ++ l) (append-nil (line entry))
+
+  -- a front of the lines: those of the first entries, and a front of the next
+  pub front_of_lines : (old mid new : Option (List ℕ)) (entries : List Entry) (i : ℕ) (entry : Entry) → i < length entries → entry ≡ get_or entries i entry
+      → Appends old mid (lines (take i entries)) → AppendsFront mid new (line entry) → AppendsFront old new (lines entries)
+  front_of_lines old mid new entries i entry within is so_far next =
+      let split : lines entries ≡ lines (take (i + 1) entries) ++ lines (drop (i + 1) entries) =
+      ap lines (sym (take-append-drop (i + 1) entries)) ∙ flat_map-append line (take (i + 1) entries) (drop (i + 1) entries) in
+      let whole = split ∙ ap (λ (l : List ℕ). l ++ lines (drop (i + 1) entries)) (lines_so_far entries i entry within is) in
+      subst (λ (l : List ℕ). AppendsFront old new l) (sym whole)
+      (front_longer old new (lines (take i entries) ++ line entry) (lines (drop (i + 1) entries)) (front_on old mid new (lines (take i entries)) (line entry) so_far next))
+
+  -- all lines
+  pub front_of_all : (old new : Option (List ℕ)) (entries : List Entry) (i : ℕ) → length entries ≤ i → Appends old new (lines (take i entries)) → AppendsFront old new (lines entries)
+  front_of_all old new entries i all so_far =
+      front_whole old new (lines entries) (subst (λ (l : List Entry). Appends old new (lines l)) (take_all i entries all) so_far)
+
+-- the line of an instance, by its kind and its number
+pub line_of_instance : (instances : List Instance) (place : ℕ) (kind : Kind) (number : ℕ) (note : Note) → option_map (λ i. i.kind) (slice_get instances place) ≡ Some kind → option_map (λ i. i.number) (slice_get instances place) ≡ Some number
+    → line_as kind number note ≡ line_by (slice_get instances place) note
+line_of_instance instances place kind number note of_kind numbered = by (slice_get instances place) of_kind numbered
+  where
+    by : (found : Option Instance) → option_map (λ (i : Instance). i.kind) found ≡ Some kind → option_map (λ (i : Instance). i.number) found ≡ Some number → line_as kind number note ≡ line_by found note
+    by None of_kind numbered = cc
+    by (Some instance) of_kind numbered =
+        let k : kind ≡ instance.kind = cc in
+        let n : number ≡ instance.number = cc in
+        λ i. line_as (k i) (n i) note
+
+-- there is no line where there is no instance
+pub no_instance : (instances : List Instance) (place : ℕ) (note : Note) → length instances ≤ place → [] ≡ line_by (slice_get instances place) note
+no_instance [] place note behind = refl
+no_instance (instance ∷ instances) zero note behind = absurd (omega (arith, behind))
+no_instance (instance ∷ instances) (suc place) note behind = no_instance instances place note (omega (arith, behind))

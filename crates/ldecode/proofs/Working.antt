@@ -1,0 +1,245 @@
+-- What a run's status says, from what its parts say.
+use Rattle.std.proofs.Common.{◌≡◌, ℕ, ◌≤◌, ◌⊎◌, inl, inr, List, [], ◌++◌, Option, Ok, Err, refl, sym, ◌∙◌, ap, subst, arith}
+use Rattle.std.specs.Io.KnownBytes.{Appends}
+use Rattle.std.proofs.KnownBytes.{Consumes-nil, Consumes-trans}
+use Rattle.std.proofs.Props.{props}
+use Rattle.la_base.specs.declared.samples.Rate.{Rate}
+use Rattle.la_io.specs.Capture.{Stop as Told, Cut, Bad, Unread, Good as GoodHead, Captured}
+use Rattle.la_io.specs.Causes.{AppendsFront, Rose}
+use Rattle.la_io.specs.Grown.{appends_nothing}
+use Rattle.la_io.specs.declared.fault.CaptureError.{CaptureError}
+use Rattle.la_io.specs.declared.fault.CaptureError.TheVariants as error
+use Rattle.capture_any.specs.Captures.{capture_of}
+use Rattle.capture_any.specs.Listings.{Lists, ReadCause, WriteCause}
+use Rattle.capture_any.specs.Reading.{CaptureCause, Opens, capture_by, form_of, names_of, pins_of, rate_of}
+use Rattle.capture_any.specs.declared.capture.Capture.{Capture}
+use Rattle.capture_any.specs.declared.end.ListingEnd.{ListingEnd}
+use Rattle.capture_any.specs.declared.end.ListingEnd.TheVariants as ends
+use Rattle.capture_any.specs.declared.form.Form.{Form}
+use Rattle.capture_any.specs.declared.form.Form.TheVariants.{Raw}
+use Rattle.capture_any.proofs.CaptureLaws.{head_stays}
+use Rattle.find_job.specs.Finding.{WholeListing, ListingFront}
+use Rattle.wait_cond.specs.declared.alt.Alt.{Alt}
+use Rattle.words.specs.Rates.{RateNumbers, numbers_of}
+use Rattle.words.specs.Settings.{Values}
+use Rattle.stack_spec.specs.Accepting.{Accepted, is_shown}
+use Rattle.ldecode.specs.Asking.{AsksFor, AsksStack, CanBind, CannotBind, HasHead, IsFormOf, SearchBound, SearchRefused, StackBound, StackRefused}
+use Rattle.ldecode.specs.Decoding.{Node, decode_listing}
+use Rattle.ldecode.specs.Headline.{Completes, Decoded, OnRefusal, OrNoMemory, Searched, SinkCause, SourceCause, Works, WorksOn}
+use Rattle.ldecode.specs.Notices.{status_at_head, status_of}
+use Rattle.ldecode.specs.declared.status.Status.TheVariants.{Bind, NoMemory}
+use Rattle.stack_spec.specs.declared.faults.BindFault.{BindFault}
+
+-- rates with the same numbers are one
+same_numbers : (num den : ℕ) (p q : (1 ≤ num) × (1 ≤ den)) → ◌≡◌ {A = Rate} (record { num = num; den = den; above_zero = p }) (record { num = num; den = den; above_zero = q })
+same_numbers num den p q = let prop : IsProp ((1 ≤ num) × (1 ≤ den)) = hlevel props in λ i. record { num = num; den = den; above_zero = prop p q i }
+
+pub one_rate : (a b : Rate) → a.num ≡ b.num → a.den ≡ b.den → a ≡ b
+one_rate a b num den =
+    subst (λ (n : ℕ). (q : (1 ≤ n) × (1 ≤ b.den)) → ◌≡◌ {A = Rate} a (record { num = n; den = b.den; above_zero = q })) num
+    (subst (λ (d : ℕ). (q : (1 ≤ a.num) × (1 ≤ d)) → ◌≡◌ {A = Rate} a (record { num = a.num; den = d; above_zero = q })) den (λ q. same_numbers a.num a.den a.above_zero q)) b.above_zero
+
+-- values name one form
+pub one_form : (values : Values) (a b : Form) → IsFormOf values a → IsFormOf values b → a ≡ b
+one_form values (Raw channels rate) (Raw others other) is also =
+    let same : numbers_of rate ≡ numbers_of other = is.2 ∙ sym also.2 in
+    let count : channels ≡ others = is.1 ∙ sym also.1 in
+    let rates : rate ≡ other = one_rate rate other (ap (λ (n : RateNumbers). n.num) same) (ap (λ (n : RateNumbers). n.den) same) in
+    λ i. Raw (count i) (rates i)
+
+-- what the head of no bytes names is what every head of this form names
+pub one_head : (values : Values) (form other : Form) (bytes : List ℕ) (told : Told) (names others : List (List ℕ)) (rate other_rate : Rate) → IsFormOf values form → IsFormOf values other
+    → HasHead form [] Cut names rate → HasHead other bytes told others other_rate → (names ≡ others) × (rate ≡ other_rate)
+one_head values form other bytes told names others rate other_rate is also head here =
+    let same = one_form values form other is also in
+    let stays : HasHead form bytes told names rate = head_stays.good form [] [] bytes told names rate head in
+    let both : GoodHead names rate ≡ GoodHead others other_rate = sym stays ∙ ap (λ (f : Form). (capture_of f [] bytes told).head) same ∙ here in
+    (cc, cc)
+
+-- what can be bound at the head of no bytes, or not, is so at every head
+module _ (values : Values) (names : List (List ℕ)) (rate : Rate) (form : Form) (named : IsFormOf values form) (bytes : List ℕ) (head : HasHead form bytes Cut names rate) where
+  pub at_head : (fault : BindFault) → CannotBind values [] Cut fault → SearchRefused values names fault ⊎ StackRefused values names rate fault
+  at_head fault c =
+      let same = one_head values c.form form bytes Cut c.names names c.rate rate c.form_is named c.head head in
+      subst (λ (n : List (List ℕ)). SearchRefused values n fault ⊎ StackRefused values n rate fault) same.0 (subst (λ (r : Rate). SearchRefused values c.names fault ⊎ StackRefused values c.names r fault) same.1 c.refused)
+
+  pub can_at_head : CanBind values [] Cut → SearchBound values names ⊎ StackBound values names rate
+  can_at_head c =
+      let same = one_head values c.form form bytes Cut c.names names c.rate rate c.form_is named c.head head in
+      subst (λ (n : List (List ℕ)). SearchBound values n ⊎ StackBound values n rate) same.0 (subst (λ (r : Rate). SearchBound values c.names ⊎ StackBound values c.names r) same.1 c.bound)
+
+module _ (values : Values) (form : Form) (named : IsFormOf values form) (left_old left_mid old : Option (List ℕ)) where
+  -- the capture can't be opened
+  pub opening_fails : (why : CaptureError) → Opens form left_old left_mid (Err why) → WorksOn values left_old left_mid old old (status_at_head why)
+  opening_fails (error.Fault fault) opens = record {
+    bytes = opens.bytes;
+    told = opens.opened.0;
+    taken = opens.consumed;
+    at_end = opens.opened.1;
+    works = inr (record { form = form; form_is = named; head_is = opens.opened.2; unwritten = appends_nothing old });
+  }
+  opening_fails error.Read opens = record {
+    bytes = opens.bytes;
+    told = Cut;
+    taken = opens.consumed;
+    at_end = λ e. cc;
+    works = (refl, inr (record { form = form; form_is = named; head_is = opens.opened; unwritten = appends_nothing old }));
+  }
+  opening_fails error.NoMemory opens = record {
+    bytes = opens.bytes;
+    told = Cut;
+    taken = opens.consumed;
+    at_end = λ e. cc;
+    works = inr (appends_nothing old);
+  }
+
+  -- where the head is no good one, no channel is refused
+  pub head_refuses_none : (why : CaptureError) → Opens form left_old left_mid (Err why) → (fault : BindFault) → CannotBind values [] Cut fault → OrNoMemory (Bind fault) (status_at_head why)
+  head_refuses_none (error.Fault problem) opens fault cannot =
+      let same = one_form values cannot.form form cannot.form_is named in
+      let stays = head_stays.good cannot.form [] [] opens.bytes opens.opened.0 cannot.names cannot.rate cannot.head in
+      let both : GoodHead cannot.names cannot.rate ≡ Bad problem = sym stays ∙ ap (λ (f : Form). (capture_of f [] opens.bytes opens.opened.0).head) same ∙ opens.opened.2 in
+      cc
+  head_refuses_none error.Read opens fault cannot =
+      let same = one_form values cannot.form form cannot.form_is named in
+      let stays = head_stays.good cannot.form [] [] opens.bytes Cut cannot.names cannot.rate cannot.head in
+      let both : GoodHead cannot.names cannot.rate ≡ Unread = sym stays ∙ ap (λ (f : Form). (capture_of f [] opens.bytes Cut).head) same ∙ opens.opened in
+      cc
+  head_refuses_none error.NoMemory opens fault cannot = inr refl
+
+  module _ (capture : Capture) (opens : Opens form left_old left_mid (Ok capture)) where
+    head_of : HasHead form opens.bytes Cut (names_of capture) (rate_of capture)
+    head_of = opens.opened.1
+
+    -- a channel isn't there
+    pub binding_fails : (fault : BindFault) → SearchRefused values (names_of capture) fault ⊎ StackRefused values (names_of capture) (rate_of capture) fault → WorksOn values left_old left_mid old old (Bind fault)
+    binding_fails fault refused = record {
+      bytes = opens.bytes;
+      told = Cut;
+      taken = opens.consumed;
+      at_end = λ e. cc;
+      works = (record { form = form; names = names_of capture; rate = rate_of capture; form_is = named; head = head_of; refused = refused }, appends_nothing old);
+    }
+
+    -- there was no memory to bind
+    pub no_room_to_bind : WorksOn values left_old left_mid old old NoMemory
+    no_room_to_bind = record {
+      bytes = opens.bytes;
+      told = Cut;
+      taken = opens.consumed;
+      at_end = λ e. cc;
+      works = inr (appends_nothing old);
+    }
+
+    module _ (now : Capture) (pins : List ℕ) (form_stays : form_of now ≡ form) (pins_are : pins_of now ≡ pins) (left_new new : Option (List ℕ)) where
+      head_on : (bytes : List ℕ) (told : Told) → HasHead form (opens.bytes ++ bytes) told (names_of capture) (rate_of capture)
+      head_on bytes told = head_stays.good form [] opens.bytes bytes told (names_of capture) (rate_of capture) head_of
+
+      as_opened : (Whole Front : List ℕ → Type 0) (end : ListingEnd) → Lists (capture_by now) Whole Front opens.bytes left_mid left_new end → Lists (capture_of form pins) Whole Front opens.bytes left_mid left_new end
+      as_opened Whole Front end lists = subst (λ (f : List ℕ → Told → Captured). Lists f Whole Front opens.bytes left_mid left_new end) (λ i bytes told. capture_of (form_stays i) (pins_are i) bytes told) lists
+
+      -- a search came to its end
+      pub search_ends : (alts : List Alt) (end : ListingEnd) → AsksFor values (names_of capture) pins alts
+          → Lists (capture_by now) (λ samples. WholeListing samples alts old new) (λ samples. ListingFront samples alts old new) opens.bytes left_mid left_new end → WorksOn values left_old left_new old new (status_of end)
+      search_ends alts end asks lists =
+          let l = as_opened (λ samples. WholeListing samples alts old new) (λ samples. ListingFront samples alts old new) end lists in
+          record {
+            bytes = opens.bytes ++ l.bytes;
+            told = l.told;
+            taken = Consumes-trans left_old left_mid left_new opens.bytes l.bytes opens.consumed l.taken;
+            at_end = l.at_end;
+            works = by end (record { form = form; names = names_of capture; rate = rate_of capture; form_is = named; head = head_on l.bytes l.told; pins = pins; alts = alts; asks = asks; says = l.says });
+          }
+        where
+          by : {bytes : List ℕ} {told : Told} (end : ListingEnd) → Searched values bytes told old new end → Works values bytes told old new (status_of end)
+          by ends.Done s = inl s
+          by ends.Read s = (s.says.0, inl (inl s))
+          by ends.Write s = inl s
+          by (ends.Fault fault) s = inl (inl s)
+          by ends.NoMemory s = inl (inl s)
+
+      -- a decoding came to its end
+      pub decoding_ends : (accepted : Accepted) (nodes : List Node) (end : ListingEnd) → AsksStack values (names_of capture) (rate_of capture) pins accepted nodes
+          → Lists (capture_by now) (λ samples. Appends old new (decode_listing accepted.instances (is_shown accepted.shown) nodes samples))
+          (λ samples. AppendsFront old new (decode_listing accepted.instances (is_shown accepted.shown) nodes samples)) opens.bytes left_mid left_new end → WorksOn values left_old left_new old new (status_of end)
+      decoding_ends accepted nodes end asks lists =
+          let l = as_opened (λ samples. Appends old new (decode_listing accepted.instances (is_shown accepted.shown) nodes samples)) (λ samples. AppendsFront old new (decode_listing accepted.instances (is_shown accepted.shown) nodes samples)) end lists in
+          record {
+            bytes = opens.bytes ++ l.bytes;
+            told = l.told;
+            taken = Consumes-trans left_old left_mid left_new opens.bytes l.bytes opens.consumed l.taken;
+            at_end = l.at_end;
+            works = by end (record { form = form; names = names_of capture; rate = rate_of capture; form_is = named; head = head_on l.bytes l.told; pins = pins; accepted = accepted; nodes = nodes; asks = asks; says = l.says });
+          }
+        where
+          by : {bytes : List ℕ} {told : Told} (end : ListingEnd) → Decoded values bytes told old new end → Works values bytes told old new (status_of end)
+          by ends.Done s = inr s
+          by ends.Read s = (s.says.0, inl (inr s))
+          by ends.Write s = inr s
+          by (ends.Fault fault) s = inl (inr s)
+          by ends.NoMemory s = inl (inr s)
+
+-- there was no memory before anything was read
+pub no_room : (values : Values) (left old : Option (List ℕ)) → WorksOn values left left old old NoMemory
+no_room values left old = record {
+  bytes = [];
+  told = Cut;
+  taken = Consumes-nil left;
+  at_end = λ e. cc;
+  works = inr (appends_nothing old);
+}
+
+-- what holds behind each end, and at a head that is no good one
+pub unread_at_end : (P : Type 0) (end : ListingEnd) → OnRefusal (status_of end) P
+unread_at_end P ends.Done = tt
+unread_at_end P ends.Read = tt
+unread_at_end P ends.Write = tt
+unread_at_end P (ends.Fault fault) = tt
+unread_at_end P ends.NoMemory = tt
+
+pub unread_at_head : (P : Type 0) (why : CaptureError) → OnRefusal (status_at_head why) P
+unread_at_head P (error.Fault fault) = tt
+unread_at_head P error.Read = tt
+unread_at_head P error.NoMemory = tt
+
+-- the causes of a run are those of its work
+pub source_cause : (before mid now : ℕ) (end : ListingEnd) → mid ≡ before → ReadCause mid now end → SourceCause before now (status_of end)
+source_cause before mid now end same cause = subst (λ (n : ℕ). SourceCause n now (status_of end)) same (by end cause)
+  where
+    by : (end : ListingEnd) → ReadCause mid now end → SourceCause mid now (status_of end)
+    by ends.Done c = c
+    by ends.Read c = c
+    by ends.Write c = c
+    by (ends.Fault fault) c = c
+    by ends.NoMemory c = c
+
+pub sink_cause : (before now : ℕ) (end : ListingEnd) → WriteCause before now end → SinkCause before now (status_of end)
+sink_cause before now ends.Done c = c
+sink_cause before now ends.Read c = c
+sink_cause before now ends.Write c = c
+sink_cause before now (ends.Fault fault) c = c
+sink_cause before now ends.NoMemory c = c
+
+pub head_source_cause : (T : Type 0) (before now : ℕ) (why : CaptureError) → CaptureCause {T = T} before now (Err why) → SourceCause before now (status_at_head why)
+head_source_cause T before now (error.Fault fault) c = c
+head_source_cause T before now error.Read c = c
+head_source_cause T before now error.NoMemory c = omega (arith, c)
+
+pub head_sink_cause : (count : ℕ) (why : CaptureError) → SinkCause count count (status_at_head why)
+head_sink_cause count (error.Fault fault) = refl
+head_sink_cause count error.Read = refl
+head_sink_cause count error.NoMemory = refl
+
+-- where nothing failed, the work came to an end of the capture
+pub completes : (read_before read_mid read_now write_before write_now : ℕ) (end : ListingEnd) → read_mid ≡ read_before → ReadCause read_mid read_now end → WriteCause write_before write_now end
+    → ¬ Rose read_before read_now → ¬ Rose write_before write_now → Completes (status_of end)
+completes read_before read_mid read_now write_before write_now ends.Done same r w no_read no_write = tt
+completes read_before read_mid read_now write_before write_now ends.Read same r w no_read no_write = no_read (subst (λ (n : ℕ). Rose n read_now) same r.1)
+completes read_before read_mid read_now write_before write_now ends.Write same r w no_read no_write = no_write w.1
+completes read_before read_mid read_now write_before write_now (ends.Fault fault) same r w no_read no_write = tt
+completes read_before read_mid read_now write_before write_now ends.NoMemory same r w no_read no_write = tt
+
+pub head_completes : (T : Type 0) (before now : ℕ) (why : CaptureError) → CaptureCause {T = T} before now (Err why) → ¬ Rose before now → Completes (status_at_head why)
+head_completes T before now (error.Fault fault) c no_read = tt
+head_completes T before now error.Read c no_read = no_read c.1
+head_completes T before now error.NoMemory c no_read = tt

@@ -1,0 +1,79 @@
+-- What `decode` writes: the notes of the instances in order, a line each.
+use Rattle.std.specs.Prelude.{ℕ, ◌+◌, Bool, if◌then◌else◌, List, [], ◌∷◌, ◌++◌, map, codes, slice_get, Option, Some, None}
+use Rattle.std.specs.Fmt.{decimal}
+use Rattle.std.specs.List.{flat_map}
+use Rattle.la_base.specs.declared.wires.Note.{Note}
+use Rattle.la_base.specs.declared.wires.Out.{Out}
+use Rattle.la_base.specs.declared.wires.Out.TheVariants.{Note as NoteOut, Piece as PieceOut, Packet as PacketOut}
+use Rattle.decoder_core.specs.Inputs.{Item, Sample, Pack}
+use Rattle.decoder_set.specs.Kinds.{kind_row}
+use Rattle.decoder_set.specs.declared.kinds.Kind.{Kind}
+use Rattle.decoder_set.specs.Setups.{note_text, outs_of}
+use Rattle.decoder_set.specs.declared.setup.Setup.{Setup}
+use Rattle.note_order.specs.Order.{listed}
+use Rattle.note_order.specs.declared.entry.Entry.{Entry}
+use Rattle.stack_spec.specs.Instances.{Instance}
+
+-- the notes among outputs
+abbrev pub notes_of : List Out → List Note
+notes_of [] = []
+notes_of (NoteOut note ∷ outs) = note ∷ notes_of outs
+notes_of (PieceOut piece ∷ outs) = notes_of outs
+notes_of (PacketOut packet ∷ outs) = notes_of outs
+
+-- the packets among outputs, as the input of what stands on them
+abbrev pub packets_of : List Out → List Item
+packets_of [] = []
+packets_of (NoteOut note ∷ outs) = packets_of outs
+packets_of (PieceOut piece ∷ outs) = packets_of outs
+packets_of (PacketOut packet ∷ outs) = Pack packet ∷ packets_of outs
+
+abbrev pub packets_in : Option (List Out) → List Item
+packets_in None = []
+packets_in (Some outs) = packets_of outs
+
+-- what an instance reads: the samples, or the packets of the instance that it stands on, of those before it
+abbrev pub input_of : List ℕ → List (List Out) → Option ℕ → List Item
+input_of samples before None = map Sample samples
+input_of samples before (Some parent) = packets_in (slice_get before parent)
+
+-- a decoder of a stack: its setup, and the place of the instance that it stands on
+pub record Node : Type 0 where
+  pub setup : Setup
+  pub parent : Option ℕ
+
+-- all outputs of decoders on samples, behind those of the decoders before them
+abbrev pub outputs_behind : List ℕ → List (List Out) → List Node → List (List Out)
+outputs_behind samples before [] = before
+outputs_behind samples before (node ∷ nodes) = outputs_behind samples (before ++ outs_of node.setup (input_of samples before node.parent) ∷ []) nodes
+
+-- all outputs of the decoders of a stack on samples
+abbrev pub given : List Node → List ℕ → List (List Out)
+given nodes samples = outputs_behind samples [] nodes
+
+-- notes, or none where they aren't shown
+abbrev pub where_shown : Bool → List Note → List Note
+where_shown shown notes = if shown then notes else []
+
+-- the notes of those instances that are shown, and none of the others; the first has this number
+abbrev pub shown_from : (ℕ → Bool) → ℕ → List (List Note) → List (List Note)
+shown_from shown instance [] = []
+shown_from shown instance (notes ∷ others) = where_shown (shown instance) notes ∷ shown_from shown (instance + 1) others
+
+-- a line of a listing: the places of a note, the name of its instance and its text
+abbrev pub line_as : Kind → ℕ → Note → List ℕ
+line_as kind number note = decimal note.start ++ codes "-" ++ decimal note.end ++ codes " " ++ ((kind_row kind).name ++ codes "-" ++ decimal number) ++ codes ": " ++ note_text kind note ++ codes "\n"
+
+abbrev pub line_by : Option Instance → Note → List ℕ
+line_by None note = []
+line_by (Some instance) note = line_as instance.kind instance.number note
+
+abbrev pub note_line : List Instance → Entry → List ℕ
+note_line instances entry = line_by (slice_get instances entry.instance) entry.note
+
+abbrev pub note_lines : List Instance → List Entry → List ℕ
+note_lines instances entries = flat_map (note_line instances) entries
+
+-- the listing of a stack: the notes of all instances that are shown, by start, then by instance, then as they were given
+abbrev pub decode_listing : List Instance → (ℕ → Bool) → List Node → List ℕ → List ℕ
+decode_listing instances shown nodes samples = note_lines instances (listed (shown_from shown 0 (map notes_of (given nodes samples))))

@@ -1,0 +1,98 @@
+// The job `decode`: gathering all notes, and writing them in order.
+ghost use Rattle.std.specs.Prelude.{◌≡◌, ◌≢◌, [], ℕ, List, length, map, true, OnOk};
+ghost use Rattle.std.specs.Io.KnownBytes.{Appends};
+ghost use Rattle.la_io.specs.Causes.{AppendsFront, HasCause};
+ghost use Rattle.capture_any.specs.Listings.{Lists, ReadCause, WriteCause};
+ghost use Rattle.capture_any.specs.Reading.{Stands, capture_by, is_open_of};
+ghost use Rattle.stack_spec.specs.Accepting.{is_shown};
+ghost use Rattle.stack_spec.specs.Stacks.{instances_in, stack_meaning};
+ghost use Rattle.ldecode.specs.Decoding.{note_lines};
+ghost use Rattle.ldecode.specs.Feeding.{Consumed, Gathered, Listed, ListedFront};
+
+use crate::feed_all::feed_all;
+use crate::note_lines::write_notes;
+use capture_any::{Capture, ListingEnd};
+use decoder_core::Machine;
+use la_base::NoMemory;
+use la_io::{Buffered, CaptureError, Failed, Sink, Source};
+use note_order::{Entry, sort_entries};
+use stack_spec::Stack;
+use std::alloc::Global;
+
+// Reads the capture to its end, and gathers the notes that the machines give.
+fn collect<S: Source, M: Machine>(
+    stack: &Stack,
+    capture: &mut Capture,
+    machines: &mut [M],
+    source: &mut S,
+    entries: &mut Vec<Entry>,
+) -> ListingEnd
+    requires is_open { is_open_of capture.old ≡ true }
+    requires each { length machines.old ≡ length (instances_in stack.now) }
+    requires empty { entries.old.items ≡ [] }
+    ensures gathers { (before : List ℕ) → Stands capture.old before [] → Consumed M.setup M.consumed M.outputs [] machines.old
+        → Lists (capture_by capture.old) (Gathered M.outputs (map M.setup machines.old) (is_shown (stack_meaning stack.now).shown) entries.new.items) (λ _. result ≡ ListingEnd.NoMemory) before (S.left source.old) (S.left source.new) result }
+    ensures read { ReadCause (S.faults source.old) (S.faults source.new) result }
+    ensures unwritten { result ≢ ListingEnd.Write }
+{
+    loop {
+        match capture.next(source) {
+            Ok(Some(run)) => match feed_all(stack, machines, run, entries) {
+                Ok(()) => {}
+                Err(NoMemory) => return ListingEnd::NoMemory,
+            },
+            Ok(None) => return ListingEnd::Done,
+            Err(CaptureError::Fault(fault)) => return ListingEnd::Fault(fault),
+            Err(CaptureError::Read) => return ListingEnd::Read,
+            Err(CaptureError::NoMemory) => return ListingEnd::NoMemory,
+        }
+    }
+}
+
+// Writes the lines of notes through a buffer before the sink.
+fn write_buffered<K: Sink>(stack: &Stack, entries: &[Entry], sink: &mut K) -> Result<(), Failed>
+    ensures whole { OnOk result (Appends (K.written sink.old) (K.written sink.new) (note_lines (instances_in stack.now) entries.now)) }
+    ensures front { AppendsFront (K.written sink.old) (K.written sink.new) (note_lines (instances_in stack.now) entries.now) }
+    ensures cause { HasCause (K.faults sink.old) (K.faults sink.new) result }
+{
+    let mut buffered = Buffered::new(sink);
+    match write_notes(stack, entries, &mut buffered) {
+        Ok(()) => match buffered.flush() {
+            Ok(()) => Ok(()),
+            Err(Failed) => Err(Failed),
+        },
+        Err(Failed) => Err(Failed),
+    }
+}
+
+/// Reads the capture to its end, and then writes the notes that the machines give, those of the
+/// instances that are shown, in the order of a listing. Each machine reads the samples.
+pub fn decode<S: Source, K: Sink, M: Machine + Drop>(
+    alloc: Global,
+    stack: &Stack,
+    capture: &mut Capture,
+    machines: Vec<M>,
+    source: &mut S,
+    sink: &mut K,
+) -> ListingEnd
+    requires is_open { is_open_of capture.old ≡ true }
+    requires each { length machines.items ≡ length (instances_in stack.now) }
+    ensures lists { (before : List ℕ) → Stands capture.old before [] → Consumed M.setup M.consumed M.outputs [] machines.items
+        → Lists (capture_by capture.old) (Listed M.outputs (map M.setup machines.items) (instances_in stack.now) (is_shown (stack_meaning stack.now).shown) (K.written sink.old) (K.written sink.new))
+        (ListedFront M.outputs (map M.setup machines.items) (instances_in stack.now) (is_shown (stack_meaning stack.now).shown) (K.written sink.old) (K.written sink.new)) before (S.left source.old) (S.left source.new) result }
+    ensures read { ReadCause (S.faults source.old) (S.faults source.new) result }
+    ensures write { WriteCause (K.faults sink.old) (K.faults sink.new) result }
+{
+    let mut machines = machines;
+    let mut entries = Vec::new(alloc);
+    match collect(stack, capture, &mut machines, source, &mut entries) {
+        ListingEnd::NoMemory => ListingEnd::NoMemory,
+        end => match sort_entries(&mut entries) {
+            Ok(()) => match write_buffered(stack, &entries, sink) {
+                Ok(()) => end,
+                Err(Failed) => ListingEnd::Write,
+            },
+            Err(NoMemory) => ListingEnd::NoMemory,
+        },
+    }
+}

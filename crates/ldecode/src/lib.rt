@@ -1,0 +1,22 @@
+//! `ldecode`: decodes recorded logic captures.
+#![tactic(auto)]
+
+mod alternatives;
+mod asking;
+mod decode;
+mod decoding;
+mod feed;
+mod feed_all;
+mod form;
+mod note_lines;
+mod notices;
+mod run;
+mod searching;
+mod status;
+mod text;
+
+pub use run::run_here;
+pub use status::{Status, exit_code};
+
+#[cfg(test)]
+mod tests;
