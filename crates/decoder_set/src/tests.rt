@@ -114,6 +114,8 @@ fn an_opened_decoder_takes_any_feed(rt: HostRuntime) {
             );
             outs.clear();
             assert_eq!(rt; decoder.step(Feed::Packet(packet), &mut outs), None);
+            assert!(rt; outs.list().is_empty());
+            outs.clear();
             assert_eq!(rt; decoder.step(Feed::End, &mut outs), None);
             assert!(rt; outs.list().is_empty());
             assert_eq!(rt; decoder.floor(), 3);

@@ -61,7 +61,8 @@ fn tell<E: Sink>(status: &Status, notices: &mut E)
 /// What is written is the listing of the words' stack, or of their condition, on the settled samples of
 /// the bytes that were taken; the status is what words and capture give. `ReadFault` comes only where
 /// the source failed, `WriteFault` exactly where the sink failed: a front of the listing is then
-/// written. `NoMemory` may come in place of any other status, for want of memory alone.
+/// written. `NoMemory`, for want of memory, may come in place of any status but `WriteFault`; a front
+/// of the listing, or nothing, is written then.
 pub fn run_here<S: Source, K: Sink, E: Sink>(
     alloc: Global,
     words: &[String],

@@ -20,6 +20,7 @@ pub fn tell_help(rt: &impl Print) -> io::Result<()> {
     for name in OPTIONS {
         tell_option(rt, name)?;
     }
+    println!(rt; "A run takes one thread so far: threads and ring change nothing of it.")?;
     println!(rt; "\nDecoders, and the options of each:")?;
     for kind in KINDS {
         tell_kind(rt, kind)?;
