@@ -1,5 +1,7 @@
 -- The gathering of all notes of a capture, as it goes on.
-use Rattle.std.proofs.Common.{◌≡◌, ℕ, ◌+◌, ◌==◌, ◌<◌, Bool, true, false, cond, List, [], ◌∷◌, ◌++◌, length, map, Option, Some, Ok, refl, sym, ◌∙◌, ap, ap₂, subst, append_assoc, arith, suc, inl, inr, ◌⊎◌}
+use Rattle.std.specs.Io.KnownBytes.{Appends}
+use Rattle.la_io.specs.Causes.{AppendsFront}
+use Rattle.std.proofs.Common.{◌≡◌, ◌≢◌, ℕ, ◌+◌, ◌==◌, ◌<◌, Bool, true, false, cond, List, [], ◌∷◌, ◌++◌, length, map, Option, Some, Ok, refl, sym, ◌∙◌, ap, ap₂, subst, append_assoc, arith, suc, inl, inr, ◌⊎◌}
 use Rattle.std.specs.List.{filter}
 use Rattle.std.proofs.lemmas.Bool.Decides.{nat_tests}
 use Rattle.std.proofs.lemmas.List.{append-nil, map-append}
@@ -16,12 +18,13 @@ use Rattle.capture_any.specs.declared.capture.Capture.{Capture}
 use Rattle.capture_any.proofs.ListingLemmas.{Gave, gave_nothing, gave_run}
 use Rattle.la_io.specs.Grown.{appends_nothing}
 use Rattle.la_io.specs.Capture.{Stop, Captured}
-use Rattle.capture_any.specs.Listings.{Lists}
-use Rattle.capture_any.specs.declared.end.ListingEnd.TheVariants.{NoMemory, Write}
+use Rattle.capture_any.specs.Listings.{Lists, Says}
+use Rattle.capture_any.specs.declared.end.ListingEnd.{ListingEnd}
+use Rattle.capture_any.specs.declared.end.ListingEnd.TheVariants.{Done, Fault, NoMemory, Read, Write}
 use Rattle.note_order.proofs.Entries.{instances_make_listing}
 use Rattle.stack_spec.specs.Instances.{Instance}
-use Rattle.ldecode.specs.Decoding.{note_lines, notes_of, shown_from, where_shown}
-use Rattle.ldecode.specs.Feeding.{Consumed, FedAll, FedEach, Gathered, ListedFront, notes_on, samples_listing}
+use Rattle.ldecode.specs.Decoding.{Decodes, DecodeSays, note_lines, notes_of, shown_from, where_shown}
+use Rattle.ldecode.specs.Feeding.{Consumed, FedAll, FedEach, Gathered, notes_on, samples_listing}
 use Rattle.ldecode.proofs.NoteLemmas.{none_shown, shown-append}
 
 -- more notes of each instance
@@ -172,33 +175,54 @@ lists_no_room capture Whole Front before left_old left_new lists = record {
   says = lists.says;
 }
 
--- want of memory before anything was written
-pub lists_nothing : (capture : List ℕ → Stop → Captured) (Whole Front All More : List ℕ → Type 0) (before : List ℕ) (left_old left_new : Option (List ℕ)) → ((given : List ℕ) → More given)
-    → Lists capture Whole Front before left_old left_new NoMemory → Lists capture All More before left_old left_new NoMemory
-lists_nothing capture Whole Front All More before left_old left_new more lists = record {
-  bytes = lists.bytes;
-  told = lists.told;
-  taken = lists.taken;
-  at_end = lists.at_end;
-  says = let s = lists.says in record {
-    count = s.count;
-    within = s.within;
-    how = s.how;
-    cut = s.cut;
-    whole = s.whole;
-    front = more _;
-  };
-}
-
 -- the lines of the notes that were gathered, in order, are the listing
 pub gathered_listing : {S : Type 0} (outputs : S → List Item → List Out) (setups : List S) (instances : List Instance) (shown : ℕ → Bool) (entries sorted : List Entry) (given : List ℕ)
     → sorted ≡ in_order entries → Gathered outputs setups shown entries given → note_lines instances sorted ≡ samples_listing outputs setups instances shown given
 gathered_listing outputs setups instances shown entries sorted given is gathered =
     ap (note_lines instances) (is ∙ instances_make_listing entries (entries_from 0 (shown_from shown 0 (notes_on outputs setups given))) gathered)
 
--- nothing is a front of every listing
-pub nothing_listed : {S : Type 0} (outputs : S → List Item → List Out) (setups : List S) (instances : List Instance) (shown : ℕ → Bool) (old : Option (List ℕ)) (given : List ℕ) → ListedFront outputs setups instances shown old old given
-nothing_listed outputs setups instances shown old given = record {
-  count = 0;
-  front = appends_nothing old;
+module _ (capture : List ℕ → Stop → Captured) (Whole Front : List ℕ → Type 0) (listing : List ℕ → List ℕ) (before : List ℕ) (left_old left_new old new : Option (List ℕ)) where
+  -- the work came to an end, and all that was gathered is written
+  pub decodes_whole : ((given : List ℕ) → Whole given → Appends old new (listing given)) → (ending : ListingEnd) → ending ≢ NoMemory → ending ≢ Write → Lists capture Whole Front before left_old left_new ending
+      → Decodes capture listing before left_old left_new old new ending
+  decodes_whole written ending room reads lists = record {
+    bytes = lists.bytes;
+    told = lists.told;
+    taken = lists.taken;
+    at_end = lists.at_end;
+    says = by (before ++ lists.bytes) lists.told ending room reads lists.says;
+  } where
+    by : (bytes : List ℕ) (told : Stop) (ending : ListingEnd) → ending ≢ NoMemory → ending ≢ Write → Says capture Whole Front bytes told ending → DecodeSays capture listing bytes told old new ending
+    by bytes told Done room reads s = (s.0, s.1, written _ s.2)
+    by bytes told Read room reads s = (s.0, written _ s.1)
+    by bytes told (Fault fault) room reads s = (s.0, written _ s.1)
+    by bytes told Write room reads s = absurd (reads refl)
+    by bytes told NoMemory room reads s = absurd (room refl)
+
+  -- a write failed then, and a front is written
+  pub decodes_front : ((given : List ℕ) → Whole given → AppendsFront old new (listing given)) → (ending : ListingEnd) → ending ≢ NoMemory → ending ≢ Write → Lists capture Whole Front before left_old left_new ending
+      → Decodes capture listing before left_old left_new old new Write
+  decodes_front written ending room reads lists = record {
+    bytes = lists.bytes;
+    told = lists.told;
+    taken = lists.taken;
+    at_end = lists.at_end;
+    says = by (before ++ lists.bytes) lists.told ending room reads lists.says;
+  } where
+    by : (bytes : List ℕ) (told : Stop) (ending : ListingEnd) → ending ≢ NoMemory → ending ≢ Write → Says capture Whole Front bytes told ending → DecodeSays capture listing bytes told old new Write
+    by bytes told Done room reads s = written _ s.2
+    by bytes told Read room reads s = written _ s.1
+    by bytes told (Fault fault) room reads s = written _ s.1
+    by bytes told Write room reads s = absurd (reads refl)
+    by bytes told NoMemory room reads s = absurd (room refl)
+
+-- there was no memory before anything was written
+pub decodes_nothing : (capture : List ℕ → Stop → Captured) (Whole Front : List ℕ → Type 0) (listing : List ℕ → List ℕ) (before : List ℕ) (left_old left_new old : Option (List ℕ)) (ending : ListingEnd)
+    → Lists capture Whole Front before left_old left_new ending → Decodes capture listing before left_old left_new old old NoMemory
+decodes_nothing capture Whole Front listing before left_old left_new old ending lists = record {
+  bytes = lists.bytes;
+  told = lists.told;
+  taken = lists.taken;
+  at_end = lists.at_end;
+  says = appends_nothing old;
 }

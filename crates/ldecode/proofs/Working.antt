@@ -1,11 +1,10 @@
 -- What a run's status says, from what its parts say.
 use Rattle.std.proofs.Common.{◌≡◌, ℕ, ◌≤◌, ◌⊎◌, inl, inr, List, [], ◌++◌, Option, Ok, Err, refl, sym, ◌∙◌, ap, subst, arith}
-use Rattle.std.specs.Io.KnownBytes.{Appends}
 use Rattle.std.proofs.KnownBytes.{Consumes-nil, Consumes-trans}
 use Rattle.std.proofs.Props.{props}
 use Rattle.la_base.specs.declared.samples.Rate.{Rate}
 use Rattle.la_io.specs.Capture.{Stop as Told, Cut, Bad, Unread, Good as GoodHead, Captured}
-use Rattle.la_io.specs.Causes.{AppendsFront, Rose}
+use Rattle.la_io.specs.Causes.{Rose}
 use Rattle.la_io.specs.Grown.{appends_nothing}
 use Rattle.la_io.specs.declared.fault.CaptureError.{CaptureError}
 use Rattle.la_io.specs.declared.fault.CaptureError.TheVariants as error
@@ -24,7 +23,7 @@ use Rattle.words.specs.Rates.{RateNumbers, numbers_of}
 use Rattle.words.specs.Settings.{Values}
 use Rattle.stack_spec.specs.Accepting.{Accepted, is_shown}
 use Rattle.ldecode.specs.Asking.{AsksFor, AsksStack, CanBind, CannotBind, HasHead, IsFormOf, SearchBound, SearchRefused, StackBound, StackRefused}
-use Rattle.ldecode.specs.Decoding.{Node, decode_listing}
+use Rattle.ldecode.specs.Decoding.{Decodes, Node, decode_listing}
 use Rattle.ldecode.specs.Headline.{Completes, Decoded, OnRefusal, OrNoMemory, Searched, SinkCause, SourceCause, Works, WorksOn}
 use Rattle.ldecode.specs.Notices.{status_at_head, status_of}
 use Rattle.ldecode.specs.declared.status.Status.TheVariants.{Bind, NoMemory}
@@ -160,16 +159,16 @@ module _ (values : Values) (form : Form) (named : IsFormOf values form) (left_ol
 
       -- a decoding came to its end
       pub decoding_ends : (accepted : Accepted) (nodes : List Node) (end : ListingEnd) → AsksStack values (names_of capture) (rate_of capture) pins accepted nodes
-          → Lists (capture_by now) (λ samples. Appends old new (decode_listing accepted.instances (is_shown accepted.shown) nodes samples))
-          (λ samples. AppendsFront old new (decode_listing accepted.instances (is_shown accepted.shown) nodes samples)) opens.bytes left_mid left_new end → WorksOn values left_old left_new old new (status_of end)
-      decoding_ends accepted nodes end asks lists =
-          let l = as_opened (λ samples. Appends old new (decode_listing accepted.instances (is_shown accepted.shown) nodes samples)) (λ samples. AppendsFront old new (decode_listing accepted.instances (is_shown accepted.shown) nodes samples)) end lists in
+          → Decodes (capture_by now) (decode_listing accepted.instances (is_shown accepted.shown) nodes) opens.bytes left_mid left_new old new end → WorksOn values left_old left_new old new (status_of end)
+      decoding_ends accepted nodes end asks decodes =
+          let d = subst (λ (f : List ℕ → Told → Captured). Decodes f (decode_listing accepted.instances (is_shown accepted.shown) nodes) opens.bytes left_mid left_new old new end)
+          (λ i bytes told. capture_of (form_stays i) (pins_are i) bytes told) decodes in
           record {
-            bytes = opens.bytes ++ l.bytes;
-            told = l.told;
-            taken = Consumes-trans left_old left_mid left_new opens.bytes l.bytes opens.consumed l.taken;
-            at_end = l.at_end;
-            works = by end (record { form = form; names = names_of capture; rate = rate_of capture; form_is = named; head = head_on l.bytes l.told; pins = pins; accepted = accepted; nodes = nodes; asks = asks; says = l.says });
+            bytes = opens.bytes ++ d.bytes;
+            told = d.told;
+            taken = Consumes-trans left_old left_mid left_new opens.bytes d.bytes opens.consumed d.taken;
+            at_end = d.at_end;
+            works = by end (record { form = form; names = names_of capture; rate = rate_of capture; form_is = named; head = head_on d.bytes d.told; pins = pins; accepted = accepted; nodes = nodes; asks = asks; says = d.says });
           }
         where
           by : {bytes : List ℕ} {told : Told} (end : ListingEnd) → Decoded values bytes told old new end → Works values bytes told old new (status_of end)

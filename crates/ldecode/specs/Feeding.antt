@@ -1,13 +1,11 @@
 -- What the feeding of samples to decoders does.
-use Rattle.std.specs.Prelude.{ℕ, ◌≡◌, Bool, List, [], ◌∷◌, ◌++◌, map, Option}
-use Rattle.std.specs.Io.KnownBytes.{Appends}
+use Rattle.std.specs.Prelude.{ℕ, ◌≡◌, Bool, List, [], ◌∷◌, ◌++◌, map}
 use Rattle.std.specs.List.{filter}
 use Rattle.la_base.specs.declared.wires.Note.{Note}
 use Rattle.la_base.specs.declared.wires.Out.{Out}
 use Rattle.decoder_core.specs.Inputs.{Item, Sample}
 use Rattle.note_order.specs.Order.{entries_from, entry_of, is_of, listed}
 use Rattle.note_order.specs.declared.entry.Entry.{Entry}
-use Rattle.la_io.specs.Causes.{AppendsFront}
 use Rattle.stack_spec.specs.Instances.{Instance}
 use Rattle.ldecode.specs.Decoding.{note_lines, notes_of, shown_from, where_shown}
 
@@ -54,11 +52,3 @@ Gathered outputs setups shown entries samples =
 -- the listing of decoders of samples
 abbrev pub samples_listing : {S : Type 0} → (S → List Item → List Out) → List S → List Instance → (ℕ → Bool) → List ℕ → List ℕ
 samples_listing outputs setups instances shown samples = note_lines instances (listed (shown_from shown 0 (notes_on outputs setups samples)))
-
--- the listing was written
-abbrev pub Listed : {S : Type 0} → (S → List Item → List Out) → List S → List Instance → (ℕ → Bool) → Option (List ℕ) → Option (List ℕ) → List ℕ → Type 0
-Listed outputs setups instances shown old new samples = Appends old new (samples_listing outputs setups instances shown samples)
-
--- a front of it was written
-abbrev pub ListedFront : {S : Type 0} → (S → List Item → List Out) → List S → List Instance → (ℕ → Bool) → Option (List ℕ) → Option (List ℕ) → List ℕ → Type 0
-ListedFront outputs setups instances shown old new samples = AppendsFront old new (samples_listing outputs setups instances shown samples)

@@ -15,7 +15,7 @@ use Rattle.words.specs.Lexer.{Text}
 use Rattle.words.specs.Settings.{Values, settings_of}
 use Rattle.stack_spec.specs.Accepting.{Accepted, is_shown}
 use Rattle.ldecode.specs.Asking.{AsksFor, AsksStack, CannotBind, HasHead, HasStackFault, IsFormOf}
-use Rattle.ldecode.specs.Decoding.{Node, decode_listing}
+use Rattle.ldecode.specs.Decoding.{DecodeSays, Node, decode_listing}
 use Rattle.ldecode.specs.Notices.{notice_of}
 use Rattle.ldecode.specs.declared.status.Status.{Status}
 use Rattle.ldecode.specs.declared.status.Status.TheVariants.{Done, Words, Stack, Bind, ReadFault, Capture, WriteFault, NoMemory}
@@ -43,8 +43,7 @@ pub record Decoded (values : Values) (bytes : List ℕ) (told : Told) (old new :
   pub accepted : Accepted
   pub nodes : List Node
   pub asks : AsksStack values names rate pins accepted nodes
-  pub says : Says (capture_of form pins) (λ samples. Appends old new (decode_listing accepted.instances (is_shown accepted.shown) nodes samples))
-      (λ samples. AppendsFront old new (decode_listing accepted.instances (is_shown accepted.shown) nodes samples)) bytes told end
+  pub says : DecodeSays (capture_of form pins) (decode_listing accepted.instances (is_shown accepted.shown) nodes) bytes told old new end
 
 -- the work that the values ask for came to this end
 abbrev pub Worked : Values → List ℕ → Told → Option (List ℕ) → Option (List ℕ) → ListingEnd → Type 0

@@ -6,8 +6,8 @@ ghost use Rattle.capture_any.specs.Listings.{Lists, ReadCause, WriteCause};
 ghost use Rattle.capture_any.specs.Reading.{Stands, capture_by, is_open_of};
 ghost use Rattle.stack_spec.specs.Accepting.{is_shown};
 ghost use Rattle.stack_spec.specs.Stacks.{instances_in, stack_meaning};
-ghost use Rattle.ldecode.specs.Decoding.{note_lines};
-ghost use Rattle.ldecode.specs.Feeding.{Consumed, Gathered, Listed, ListedFront};
+ghost use Rattle.ldecode.specs.Decoding.{Decodes, note_lines};
+ghost use Rattle.ldecode.specs.Feeding.{Consumed, Gathered, samples_listing};
 
 use crate::feed_all::feed_all;
 use crate::note_lines::write_notes;
@@ -78,8 +78,8 @@ pub fn decode<S: Source, K: Sink, M: Machine + Drop>(
     requires is_open { is_open_of capture.old ≡ true }
     requires each { length machines.items ≡ length (instances_in stack.now) }
     ensures lists { (before : List ℕ) → Stands capture.old before [] → Consumed M.setup M.consumed M.outputs [] machines.items
-        → Lists (capture_by capture.old) (Listed M.outputs (map M.setup machines.items) (instances_in stack.now) (is_shown (stack_meaning stack.now).shown) (K.written sink.old) (K.written sink.new))
-        (ListedFront M.outputs (map M.setup machines.items) (instances_in stack.now) (is_shown (stack_meaning stack.now).shown) (K.written sink.old) (K.written sink.new)) before (S.left source.old) (S.left source.new) result }
+        → Decodes (capture_by capture.old) (samples_listing M.outputs (map M.setup machines.items) (instances_in stack.now) (is_shown (stack_meaning stack.now).shown)) before
+        (S.left source.old) (S.left source.new) (K.written sink.old) (K.written sink.new) result }
     ensures read { ReadCause (S.faults source.old) (S.faults source.new) result }
     ensures write { WriteCause (K.faults sink.old) (K.faults sink.new) result }
 {

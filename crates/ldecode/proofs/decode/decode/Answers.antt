@@ -6,11 +6,10 @@ use Rattle.capture_any.specs.Reading.{capture_by}
 use Rattle.capture_any.specs.declared.end.ListingEnd.{ListingEnd}
 use Rattle.capture_any.specs.declared.end.ListingEnd.TheVariants.{NoMemory}
 use Rattle.capture_any.specs.Listings.{Lists}
-use Rattle.capture_any.proofs.ListingLemmas.{lists_cut, lists_on}
 use Rattle.stack_spec.specs.Accepting.{is_shown}
 use Rattle.stack_spec.specs.Stacks.{instances_in, stack_meaning}
-use Rattle.ldecode.specs.Feeding.{Consumed, Gathered, Listed, ListedFront}
-use Rattle.ldecode.proofs.Collecting.{gathered_listing, lists_no_room, lists_nothing, nothing_listed}
+use Rattle.ldecode.specs.Feeding.{Consumed, Gathered, samples_listing}
+use Rattle.ldecode.proofs.Collecting.{decodes_front, decodes_nothing, decodes_whole, gathered_listing}
 use Rattle.ldecode.proofs.decode.decode.Goals as goal
 
 pub returns-in-NoMemory-clause-lists : goal.returns-in-NoMemory-clause-lists
@@ -21,8 +20,7 @@ returns-in-NoMemory-clause-lists g c = λ before stands fresh.
     let shown = is_shown (stack_meaning c.args.stack.now).shown in
     let left = g.S.Source.left in
     let old = g.K.Sink.written c.args.sink.now in
-    lists_nothing (capture_by c.args.capture.now) _ _ _ _ before (left c.args.source.now) (left c.collect.new.source)
-    (λ given. nothing_listed machine.outputs setups instances shown old given)
+    decodes_nothing (capture_by c.args.capture.now) _ _ (samples_listing machine.outputs setups instances shown) before (left c.args.source.now) (left c.collect.new.source) old NoMemory
     (c.in-NoMemory.ensures.gathers before stands (subst (Consumed machine.setup machine.consumed machine.outputs []) (sym c.deref_mut.ensures.value) fresh))
 
 pub returns-in-Ok-clause-lists : goal.returns-in-Ok-clause-lists
@@ -42,10 +40,10 @@ returns-in-Ok-clause-lists g c = λ before stands fresh.
     let new = g.K.Sink.written c.write_buffered.new.sink in
     let other : end ≢ NoMemory = c.in_default.not-NoMemory in
     let sorted : c.deref.result.now ≡ in_order c.collect.new.entries.items = c.deref.ensures.value ∙ c.in-Ok.ensures.sorted in
-    lists_cut (capture_by c.args.capture.now) (Gathered machine.outputs setups shown c.collect.new.entries.items) (λ _. end ≡ NoMemory) before (left c.args.source.now) (left c.collect.new.source)
-    (ListedFront machine.outputs setups instances shown old new) (λ given e. absurd (other e))
+    decodes_front (capture_by c.args.capture.now) (Gathered machine.outputs setups shown c.collect.new.entries.items) (λ _. end ≡ NoMemory) (samples_listing machine.outputs setups instances shown) before
+    (left c.args.source.now) (left c.collect.new.source) old new
     (λ given gathered. subst (λ (l : List ℕ). AppendsFront old new l) (gathered_listing machine.outputs setups instances shown c.collect.new.entries.items c.deref.result.now given sorted gathered) c.in-Err-write_buffered.ensures.front)
-    end lists (Listed machine.outputs setups instances shown old new)
+    end other c.collect.ensures.unwritten lists
 
 pub returns-in-Ok-write_buffered-clause-lists : goal.returns-in-Ok-write_buffered-clause-lists
 returns-in-Ok-write_buffered-clause-lists g c = λ before stands fresh.
@@ -64,10 +62,10 @@ returns-in-Ok-write_buffered-clause-lists g c = λ before stands fresh.
     let new = g.K.Sink.written c.write_buffered.new.sink in
     let other : end ≢ NoMemory = c.in_default.not-NoMemory in
     let sorted : c.deref.result.now ≡ in_order c.collect.new.entries.items = c.deref.ensures.value ∙ c.in-Ok.ensures.sorted in
-    lists_on (capture_by c.args.capture.now) (Gathered machine.outputs setups shown c.collect.new.entries.items) (λ _. end ≡ NoMemory) before (left c.args.source.now) (left c.collect.new.source)
-    (ListedFront machine.outputs setups instances shown old new) (λ given e. absurd (other e)) (Listed machine.outputs setups instances shown old new)
+    decodes_whole (capture_by c.args.capture.now) (Gathered machine.outputs setups shown c.collect.new.entries.items) (λ _. end ≡ NoMemory) (samples_listing machine.outputs setups instances shown) before
+    (left c.args.source.now) (left c.collect.new.source) old new
     (λ given gathered. subst (λ (l : List ℕ). Appends old new l) (gathered_listing machine.outputs setups instances shown c.collect.new.entries.items c.deref.result.now given sorted gathered) (c.in-Ok-write_buffered.ensures.whole))
-    end lists
+    end other c.collect.ensures.unwritten lists
 
 pub returns-clause-lists : goal.returns-clause-lists
 returns-clause-lists g c = λ before stands fresh.
@@ -83,7 +81,5 @@ returns-clause-lists g c = λ before stands fresh.
     subst (λ (l : List g.row.M.Denot). Consumed machine.setup machine.consumed machine.outputs [] l
     → Lists (capture_by c.args.capture.now) (Gathered machine.outputs (map machine.setup l) shown c.collect.new.entries.items) (λ _. end ≡ NoMemory) before (left c.args.source.now) (left c.collect.new.source) end)
     c.deref_mut.ensures.value (c.collect.ensures.gathers before stands) fresh in
-    lists_no_room (capture_by c.args.capture.now) _ _ before (left c.args.source.now) (left c.collect.new.source)
-    (lists_cut (capture_by c.args.capture.now) (Gathered machine.outputs setups shown c.collect.new.entries.items) (λ _. end ≡ NoMemory) before (left c.args.source.now) (left c.collect.new.source)
-    (ListedFront machine.outputs setups instances shown old old) (λ given e. nothing_listed machine.outputs setups instances shown old given) (λ given e. nothing_listed machine.outputs setups instances shown old given)
-    end lists (Listed machine.outputs setups instances shown old old))
+    decodes_nothing (capture_by c.args.capture.now) (Gathered machine.outputs setups shown c.collect.new.entries.items) (λ _. end ≡ NoMemory) (samples_listing machine.outputs setups instances shown) before
+    (left c.args.source.now) (left c.collect.new.source) old end lists

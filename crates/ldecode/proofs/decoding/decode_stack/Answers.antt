@@ -1,9 +1,6 @@
 use Rattle.std.proofs.Common.{ℕ, List, inl, sym, ◌∙◌, ap, subst, Ok, Err}
-use Rattle.std.specs.Io.KnownBytes.{Appends}
 use Rattle.la_base.specs.declared.samples.TheConstants.{MOST_PINS}
 use Rattle.la_base.specs.declared.samples.Rate.{Rate}
-use Rattle.la_io.specs.Causes.{AppendsFront}
-use Rattle.capture_any.specs.Listings.{Lists}
 use Rattle.capture_any.specs.Reading.{capture_by, names_of, rate_of}
 use Rattle.stack_spec.specs.Accepting.{is_shown}
 use Rattle.stack_spec.specs.BindSteps.{Binds}
@@ -13,6 +10,7 @@ use Rattle.stack_spec.specs.declared.faults.BindError.{BindError}
 use Rattle.stack_spec.specs.declared.faults.BindError.TheVariants.{Fault}
 use Rattle.words.specs.Settings.{meaning_of}
 use Rattle.ldecode.specs.Asking.{nodes_of}
+use Rattle.ldecode.specs.Decoding.{Decodes}
 use Rattle.ldecode.specs.Headline.{OrNoMemory, WorksOn}
 use Rattle.ldecode.specs.declared.status.Status.{Status}
 use Rattle.ldecode.specs.declared.status.Status.TheVariants.{Bind}
@@ -105,8 +103,7 @@ returns-clause-works g c =
     let asks = stack_asks values (names_of capture) (rate_of capture) accepted stacks bound.pins.items is_bound.read is_bound.reads is_bound.pins in
     let lists = c.decode.ensures.lists opens.bytes (c.select.ensures.stands opens.bytes opens.opened.0) (fresh bound.machines.items is_bound.consumed) in
     let same = bound_listing (names_of capture) (rate_of capture) accepted.instances bound is_bound c.in-Ok-bind.ensures.forest c.in-Ok-bind.ensures.kinds shown in
-    let named = subst (λ (f : List ℕ → List ℕ). Lists (capture_by now) (λ samples. Appends old new (f samples)) (λ samples. AppendsFront old new (f samples)) opens.bytes (left c.open.new.source) (left c.decode.new.source) c.decode.result)
-    (λ i samples. same samples i) lists in
+    let named = subst (λ (f : List ℕ → List ℕ). Decodes (capture_by now) f opens.bytes (left c.open.new.source) (left c.decode.new.source) old new c.decode.result) (λ i samples. same samples i) lists in
     subst (λ (status : Status). WorksOn values (left c.args.source.now) (left c.decode.new.source) old new status) (sym c.from.ensures)
     (decoding_ends values c.form_of.result c.form_of.ensures.named (left c.args.source.now) (left c.open.new.source) old capture opens now bound.pins.items
     (c.select.ensures.form ∙ c.in-Ok-open.ensures.form) c.select.ensures.pins (left c.decode.new.source) new accepted nodes c.decode.result asks named)
