@@ -1,6 +1,7 @@
 pub mod Masks
 pub mod Sets
 pub mod Runs
+pub mod StandingLemmas
 pub mod ChainLemmas
 pub mod PinLemmas
 pub mod BoundLemmas

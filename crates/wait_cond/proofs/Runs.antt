@@ -1,9 +1,11 @@
 -- A wait over a run of equal samples.
 use Rattle.std.proofs.Common.{◌≡◌, ◌≢◌, inl, inr, ℕ, zero, suc, ◌+◌, ◌-◌, ◌≤◌, ◌<◌, List, [], ◌∷◌, ◌++◌, length, take, drop, replicate, get_or, slice_index, Option, Some, None, Bool, false, if◌then◌else◌, ◌==◌, refl, sym, ◌∙◌, ap, subst, arith, length-append, length-take-le, take-append-drop}
 use Rattle.std.proofs.lemmas.List.{get_or-take, drop-drop, drop_at, drop-replicate, length-replicate, get_or_append_left, get_or-append-add, get_or-replicate}
-use Rattle.std.proofs.lemmas.Bool.{cases_eq}
+use Rattle.std.proofs.lemmas.Bool.{cases_eq, cases_lt}
+use Rattle.std.proofs.lemmas.Nat.Bits.{bit_at-zero}
 use Rattle.std.proofs.lemmas.Bool.Decides.{nat_tests}
 use Rattle.wait_cond.specs.Stops.{MetSet, MetIn, NoneMet, IsStop}
+use Rattle.wait_cond.specs.Standing.{FirstStanding}
 use Rattle.wait_cond.specs.Waiting.{WaitsAt}
 use Rattle.la_base.specs.declared.samples.Run.{Run}
 use Rattle.la_base.specs.Samples.{samples, before_of}
@@ -61,6 +63,32 @@ module _ (list more : List ℕ) (value len : ℕ) (is : more ≡ replicate len v
         | inl same ↦ subst (λ (n : ℕ). MetIn (list ++ more) alts from n 0) (sym same) here
         | inr other ↦ none q after (omega arith)
       ]
+
+  -- behind the first sample of the run the value stands
+  before_standing : (k : ℕ) → k < len → 0 < k → before_of (list ++ more) (length list + k) ≡ Some value
+  before_standing zero within some = absurd (omega (arith, some))
+  before_standing (suc k) within some =
+      let next : length list + suc k ≡ suc (length list + k) = omega arith in
+      ap (λ (n : ℕ). before_of (list ++ more) n) next ∙ ap (λ (n : ℕ). Some n) (now_is k (omega arith))
+
+  -- what is met at a sample behind the first one
+  pub standing_at : (alts : List Alt) (from at met : ℕ) → length list < at → at < length list + len → MetSet alts (Some value) value from at met → MetIn (list ++ more) alts from at met
+  standing_at alts from at met after within set =
+      let k = at - length list in
+      let place : length list + k ≡ at = omega (arith, after) in
+      subst (λ (n : ℕ). MetIn (list ++ more) alts from n met) place
+      (met_at alts from k (Some value) met (omega arith) (sym (before_standing k (omega arith) (omega arith))) (subst (λ (n : ℕ). MetSet alts (Some value) value from n met) (sym place) set))
+
+  -- none is met before the first sample at which a standing value meets one
+  pub none_standing : (alts : List Alt) (from first : ℕ) → NoneMet (list ++ more) alts from (length list + 1) → FirstStanding alts value from (length list + 1) (length list + len) first
+      → NoneMet (list ++ more) alts from first
+  none_standing alts from first none standing q after below = elim (cases_lt q (length list + 1)) [
+    | inl less ↦ none q after less
+    | inr least ↦ standing_at alts from q 0 (omega arith) (omega (arith, below, standing.within)) (record {
+      each = λ i one. absurd (omega (arith, one, bit_at-zero i));
+      all = λ i alt there meets. absurd (standing.none q least below (i, alt, there, meets));
+    })
+  ]
 
   -- the samples behind sample k
   pub rest_is : (k : ℕ) → k < len → (rest : List ℕ) → rest ≡ replicate (len - k - 1) value → list ++ more ≡ take (length list + k + 1) (list ++ more) ++ rest

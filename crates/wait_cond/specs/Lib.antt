@@ -2,6 +2,7 @@ pub mod Conds
 pub mod Meets
 pub mod Stops
 pub mod StopLaws
+pub mod Standing
 pub mod Waiting
 pub mod Words
 pub mod Grammar

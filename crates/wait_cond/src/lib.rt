@@ -10,6 +10,7 @@ mod lines;
 mod met;
 mod read;
 mod scan;
+mod standing;
 mod words;
 
 pub use alt::{Alt, Cond};

@@ -7,6 +7,7 @@ use crate::lines::meets;
 use la_base::Word;
 
 /// The set of the alternatives that are met at sample `at`.
+#[inline]
 pub fn met_set(alts: &[Alt], before: Option<Word>, now: Word, from: u64, at: u64) -> u8
     requires few { length alts.now ≤ 8 }
     requires early { from ≤ 2 ^ 60 }

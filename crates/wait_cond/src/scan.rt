@@ -4,6 +4,7 @@ ghost use Rattle.std.specs.Prelude.{◌≡◌, ◌≤◌, ◌^◌, length};
 use crate::Cond;
 use crate::behind::behind;
 use crate::met::met_set;
+use crate::standing::first_standing;
 use la_base::{Run, Word};
 
 /// Waits for the next sample that meets a condition. It stands for the samples that it has consumed,
@@ -34,6 +35,7 @@ impl Waiter {
     ghost use Rattle.std.specs.Prelude.{◌≡◌, ◌≢◌, ◌+◌, ◌≤◌, ◌<◌, ◌^◌, ◌++◌, ◌==◌, if◌then◌else◌, [], List, ℕ, length, IfSome};
     ghost use Rattle.la_base.specs.Samples.{samples};
     ghost use Rattle.wait_cond.specs.Conds.{cond_alts};
+    ghost use Rattle.wait_cond.specs.Stops.{NoneMet};
     ghost use Rattle.wait_cond.specs.Waiting.{Waits, Scanned, Counts, Found, alts_of, wait_from, consumed_by, last_of};
 
     /// A waiter that has consumed no sample yet.
@@ -72,40 +74,61 @@ impl Waiter {
         self.consumed
     }
 
-    // The sample before sample k of a run that comes next, if there is one.
-    fn before(&self, run: Run, k: u64) -> Option<Word>
-        ensures { result ≡ (if k == 0 then (if self.now.consumed == 0 then None else Some self.now.last) else Some run.value) }
+    // The sample before the next one, if there is one.
+    fn before(&self) -> Option<Word>
+        ensures { result ≡ (if self.now.consumed == 0 then None else Some self.now.last) }
     {
-        if k > 0 {
-            Some(run.value)
-        } else if self.consumed > 0 {
+        if self.consumed > 0 {
             Some(self.last)
         } else {
             None
         }
     }
 
+    // The first sample of a run behind its first one that meets the condition, and the alternatives
+    // that it meets: as the value stands, only a skip can begin to hold. It isn't inlined, so that
+    // runs of one sample are passed quickly.
+    #[inline(never)]
+    fn find_standing(&self, run: Run) -> Option<(u64, u8)>
+        requires { self.now.consumed + run.len ≤ 2 ^ 60 }
+        ensures found { (list : List ℕ) → Waits self.now list → NoneMet (list ++ samples run) self.now.cond.alts.items self.now.from (length list + 1)
+            → Found self.now.cond.alts.items self.now.from (list ++ samples run) (length list) run.len result }
+        ensures within { IfSome result (λ x. (x.0 < run.len) × (x.1 ≢ 0)) }
+    {
+        let alts = self.cond.alts();
+        let end = self.consumed + run.len;
+        let at = first_standing(alts, run.value, self.from, self.consumed + 1, end);
+        if at == end {
+            return None;
+        }
+        let met = met_set(alts, Some(run.value), run.value, self.from, at);
+        Some((at - self.consumed, met))
+    }
+
     // The first sample of a run that meets the condition, and the alternatives that it meets.
+    #[inline]
     fn find(&self, run: Run) -> Option<(u64, u8)>
         requires { self.now.consumed + run.len ≤ 2 ^ 60 }
         ensures found { (list : List ℕ) → Waits self.now list → Found self.now.cond.alts.items self.now.from (list ++ samples run) (length list) run.len result }
         ensures within { IfSome result (λ x. (x.0 < run.len) × (x.1 ≢ 0)) }
     {
         let alts = self.cond.alts();
-        for k in 0..run.len {
-            let before = self.before(run, k);
-            let met = met_set(alts, before, run.value, self.from, self.consumed + k);
-            if met != 0 {
-                return Some((k, met));
-            }
+        let before = self.before();
+        let met = met_set(alts, before, run.value, self.from, self.consumed);
+        if met != 0 {
+            return Some((0, met));
         }
-        None
+        if run.len == 1 {
+            return None;
+        }
+        self.find_standing(run)
     }
 
     /// Consumes samples up to the first one of the run that meets an alternative and lies behind the
     /// last stop. `Met` has its place among all samples, its value, the set of all alternatives that
     /// it meets (bit i is alternative i) and the samples of the run behind it. `Through` comes exactly
     /// where there is none; the whole run is consumed then. All samples together are at most 2^60.
+    #[inline]
     pub fn scan(&mut self, run: Run) -> Scan
         requires { consumed_by self.old + run.len ≤ 2 ^ 60 }
         ensures scanned { (list : List ℕ) → Waits self.old list → Scanned self.old self.new (list ++ samples run) result }

@@ -101,6 +101,45 @@ fn stops_inside_a_run_with_all_alternatives_that_are_met(rt: HostRuntime) {
     assert_eq!(rt; waiter.consumed(), 4);
 }
 
+// Where a fresh waiter stops in 2^59 equal samples.
+fn stop_in_a_long_run(cond: Cond) -> Option<(u64, u8, Option<Run>)> {
+    let run = Run {
+        value: 0,
+        len: 1 << 59,
+    };
+    match Waiter::new(cond).scan(run) {
+        Scan::Met { at, met, rest, .. } => Some((at, met, rest)),
+        Scan::Through => None,
+    }
+}
+
+#[test]
+fn a_long_run_takes_no_longer(rt: HostRuntime) {
+    assert_eq!(rt;
+        stop_in_a_long_run(Cond::one(alt(Letter::Rise, 1, 0))),
+        None
+    );
+    assert_eq!(rt;
+        stop_in_a_long_run(Cond::one(alt(Letter::Low, 1, u64::MAX))),
+        None
+    );
+    let too_far = Cond::one(alt(Letter::Low, 1, (1 << 59) + 1));
+    assert_eq!(rt; stop_in_a_long_run(too_far), None);
+    let at_the_last = Cond::one(alt(Letter::Low, 1, 1 << 59));
+    let last = ((1 << 59) - 1, 0b1, None);
+    assert_eq!(rt; stop_in_a_long_run(at_the_last), Some(last));
+    let mut cond = Cond::one(alt(Letter::Low, 1, 1 << 40));
+    cond.add(alt(Letter::High, 1, 3));
+    cond.add(alt(Letter::Steady, 1, 1 << 30));
+    cond.add(alt(Letter::Low, 3, 1 << 30));
+    let rest = Run {
+        value: 0,
+        len: (1 << 59) - (1 << 30),
+    };
+    let soonest = ((1 << 30) - 1, 0b1100, Some(rest));
+    assert_eq!(rt; stop_in_a_long_run(cond), Some(soonest));
+}
+
 #[test]
 fn a_new_condition_keeps_what_was_consumed(rt: HostRuntime) {
     let mut waiter = Waiter::new(Cond::one(alt(Letter::High, 1, 0)));

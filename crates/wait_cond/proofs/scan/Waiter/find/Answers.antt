@@ -1,32 +1,57 @@
-use Rattle.std.proofs.Common.{◌+◌, ◌∙◌, sym, subst, List, ℕ}
+use Rattle.std.proofs.Common.{◌≡◌, ◌+◌, ◌++◌, ◌==◌, ◌∙◌, if◌then◌else◌, sym, subst, List, ℕ, Option, Some, None, arith, length}
+use Rattle.la_base.specs.declared.samples.Run.{Run}
 use Rattle.la_base.specs.Samples.{samples}
-use Rattle.wait_cond.specs.Stops.{MetSet}
+use Rattle.wait_cond.specs.Stops.{MetSet, NoneMet}
+use Rattle.wait_cond.specs.Waiting.{WaitsAt}
 use Rattle.wait_cond.specs.declared.alt.Alt.{Alt}
+use Rattle.wait_cond.proofs.ChainLemmas.{none_in_longer}
 use Rattle.wait_cond.proofs.Runs.{samples_are, waits_before, met_at, none_next}
 use Rattle.wait_cond.proofs.scan.Waiter.find.Goals as goal
+
+module _ (list : List ℕ) (run : Run) (alts : List Alt) (consumed from last : ℕ) (w : WaitsAt alts consumed from last list) where
+  here : consumed ≡ length list + 0
+  here = omega (arith, w.count)
+
+  none_so_far : NoneMet (list ++ samples run) alts from (length list + 0)
+  none_so_far = none_in_longer list (samples run) alts from (length list + 0) (omega arith) (subst (λ (n : ℕ). NoneMet list alts from n) here w.none)
+
+  -- none is met at the first sample of the run
+  first_passed : (before : Option ℕ) (met : ℕ) → before ≡ (if consumed == 0 then None else Some last) → met ≡ 0 → MetSet alts before run.value from consumed met → NoneMet (list ++ samples run) alts from (length list + 1)
+  first_passed before met before_is none set =
+      let at_first = before_is ∙ waits_before list (samples run) run.value run.len (samples_are run) alts consumed from last 0 w run.not_empty in
+      none_next list (samples run) run.value run.len (samples_are run) alts from 0
+      (met_at list (samples run) run.value run.len (samples_are run) alts from 0 before 0 run.not_empty at_first
+      (subst (λ (n : ℕ). MetSet alts before run.value from n 0) here (subst (λ (m : ℕ). MetSet alts before run.value from consumed m) none set))) none_so_far
 
 pub returns-then-met-ne0-clause-found : goal.returns-then-met-ne0-clause-found
 returns-then-met-ne0-clause-found c = λ list w.
     let s = c.args.self.now in
     let run = c.args.run in
-    let k = c.loop-k.k in
-    let set = subst (λ (n : ℕ). MetSet s.cond.alts.items c.before-before.result run.value s.from (n + k) c.met_set-met.result) (sym w.count)
-    (subst (λ (l : List Alt). MetSet l c.before-before.result run.value s.from (s.consumed + k) c.met_set-met.result) c.alts-alts.ensures.alts c.met_set-met.ensures) in
-    let before = c.before-before.ensures ∙ waits_before list (samples run) run.value run.len (samples_are run) s.cond.alts.items s.consumed s.from s.last k w c.loop-k-test.true in (
-      c.loop-k-test.true,
-      c.loop-k.invariant list w,
-      met_at list (samples run) run.value run.len (samples_are run) s.cond.alts.items s.from k c.before-before.result c.met_set-met.result c.loop-k-test.true before set,
+    let alts = s.cond.alts.items in
+    let met = c.met_set-met.result in
+    let set = subst (λ (n : ℕ). MetSet alts c.before-before.result run.value s.from n met) (here list run alts s.consumed s.from s.last w)
+    (subst (λ (l : List Alt). MetSet l c.before-before.result run.value s.from s.consumed met) c.alts-alts.ensures.alts c.met_set-met.ensures) in
+    let before = c.before-before.ensures ∙ waits_before list (samples run) run.value run.len (samples_are run) alts s.consumed s.from s.last 0 w run.not_empty in (
+      run.not_empty,
+      none_so_far list run alts s.consumed s.from s.last w,
+      met_at list (samples run) run.value run.len (samples_are run) alts s.from 0 c.before-before.result met run.not_empty before set,
       c.if-met-ne0.true,
     )
 
-pub loop-k-preserved : goal.loop-k-preserved
-loop-k-preserved c = λ list w.
+pub returns-then-run-eq1-clause-found : goal.returns-then-run-eq1-clause-found
+returns-then-run-eq1-clause-found c = λ list w.
     let s = c.args.self.now in
     let run = c.args.run in
-    let k = c.loop-k.k in
-    let set = subst (λ (n : ℕ). MetSet s.cond.alts.items c.before-before.result run.value s.from (n + k) 0) (sym w.count)
-    (subst (λ (m : ℕ). MetSet s.cond.alts.items c.before-before.result run.value s.from (s.consumed + k) m) c.if-met-ne0.false
-    (subst (λ (l : List Alt). MetSet l c.before-before.result run.value s.from (s.consumed + k) c.met_set-met.result) c.alts-alts.ensures.alts c.met_set-met.ensures)) in
-    let before = c.before-before.ensures ∙ waits_before list (samples run) run.value run.len (samples_are run) s.cond.alts.items s.consumed s.from s.last k w c.loop-k-test.true in
-    none_next list (samples run) run.value run.len (samples_are run) s.cond.alts.items s.from k
-    (met_at list (samples run) run.value run.len (samples_are run) s.cond.alts.items s.from k c.before-before.result 0 c.loop-k-test.true before set) (c.loop-k.invariant list w)
+    let alts = s.cond.alts.items in
+    let set = subst (λ (l : List Alt). MetSet l c.before-before.result run.value s.from s.consumed c.met_set-met.result) c.alts-alts.ensures.alts c.met_set-met.ensures in
+    subst (λ (n : ℕ). NoneMet (list ++ samples run) alts s.from (length list + n)) (sym c.if-run-eq1.true)
+    (first_passed list run alts s.consumed s.from s.last w c.before-before.result c.met_set-met.result c.before-before.ensures c.if-met-ne0.false set)
+
+pub returns-clause-found : goal.returns-clause-found
+returns-clause-found c = λ list w.
+    let s = c.args.self.now in
+    let run = c.args.run in
+    let alts = s.cond.alts.items in
+    let set = subst (λ (l : List Alt). MetSet l c.before-before.result run.value s.from s.consumed c.met_set-met.result) c.alts-alts.ensures.alts c.met_set-met.ensures in
+    c.find_standing.ensures.found list w
+    (first_passed list run alts s.consumed s.from s.last w c.before-before.result c.met_set-met.result c.before-before.ensures c.if-met-ne0.false set)
