@@ -11,7 +11,7 @@ use Rattle.wait_cond.specs.declared.alt.Alt.{Alt}
 use Rattle.stack_spec.specs.declared.faults.BindError.{BindError}
 use Rattle.stack_spec.specs.declared.faults.BindError.TheVariants.{Fault, NoMemory}
 use Rattle.ldecode.specs.Asking.{EachAsks, bind_all, in_entry, pins_of}
-use Rattle.ldecode.specs.declared.asking.Wanted.{Wanted}
+use Rattle.ldecode.specs.declared.alternatives.Wanted.{Wanted}
 
 -- these are the terms of the alternatives
 abbrev pub AreTerms : List ChainWord → List (List Meaning) → Type 0

@@ -8,12 +8,18 @@ ghost use Rattle.words.specs.Readable.{IsReadable};
 ghost use Rattle.words.specs.declared.kinds.Job.TheVariants.{Find};
 ghost use Rattle.ldecode.specs.Chosen.{AreTerms, Chooses, ChoosesOne};
 
-use crate::asking::Wanted;
 use la_base::{Names, Pins};
 use stack_spec::{BindError, BindFault};
 use std::alloc::Global;
 use text_parts::ChainWord;
 use wait_cond::{Alt, Cond, CondError, bind_alt, read_alt};
+
+/// A condition, and the channels that its lines stand for.
+#[derive(Drop)]
+pub struct Wanted {
+    pub cond: Cond,
+    pub pins: Pins,
+}
 
 // One alternative with its number, bound behind the pins of those before it.
 fn bind_word(

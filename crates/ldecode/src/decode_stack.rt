@@ -13,7 +13,7 @@ ghost use Rattle.ldecode.specs.Headline.{WorksOn, SourceCause, SinkCause, OrNoMe
 
 use crate::decode::decode;
 use crate::form::form_of;
-use crate::status::{Status, status_of};
+use crate::status::{Status, status_at_head};
 use capture_any::Capture;
 use la_io::{Sink, Source};
 use stack_spec::{BindError, StackError, bind, read_stack};
@@ -45,7 +45,7 @@ pub fn decode_stack<S: Source, K: Sink>(
     };
     let mut capture = match Capture::open(alloc, form_of(settings), source) {
         Ok(capture) => capture,
-        Err(error) => return status_of(error),
+        Err(error) => return status_at_head(error),
     };
     let bound = match bind(alloc, &stack, capture.names(), capture.rate()) {
         Ok(bound) => bound,

@@ -2,16 +2,15 @@
 #![tactic(auto)]
 
 mod alternatives;
-mod asking;
 mod decode;
-mod decoding;
+mod decode_stack;
 mod feed;
 mod feed_all;
 mod form;
 mod note_lines;
 mod notices;
 mod run;
-mod searching;
+mod search;
 mod status;
 mod text;
 

@@ -10,9 +10,9 @@ ghost use Rattle.words.specs.declared.kinds.WordFault.{WordFault};
 ghost use Rattle.ldecode.specs.Asking.{CanBind, CannotBind, HasStackFault};
 ghost use Rattle.ldecode.specs.Headline.{Good, Runs, SourceCause, SinkCause, OrNoMemory, Completes, OnRefusal, Notified};
 
-use crate::decoding::decode_stack;
+use crate::decode_stack::decode_stack;
 use crate::notices::notice;
-use crate::searching::search;
+use crate::search::search;
 use crate::status::Status;
 use la_io::{Failed, Sink, Source, write_whole};
 use std::alloc::Global;

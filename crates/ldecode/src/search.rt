@@ -11,7 +11,7 @@ ghost use Rattle.ldecode.specs.Headline.{WorksOn, SourceCause, SinkCause, OrNoMe
 
 use crate::alternatives::bind_words;
 use crate::form::form_of;
-use crate::status::{Status, status_of};
+use crate::status::{Status, status_at_head};
 use capture_any::Capture;
 use find_job::find_buffered;
 use la_io::{Sink, Source};
@@ -37,7 +37,7 @@ pub fn search<S: Source, K: Sink>(
 {
     let mut capture = match Capture::open(alloc, form_of(settings), source) {
         Ok(capture) => capture,
-        Err(error) => return status_of(error),
+        Err(error) => return status_at_head(error),
     };
     let wanted = match bind_words(alloc, &settings.chains, capture.names()) {
         Ok(wanted) => wanted,

@@ -43,7 +43,7 @@ pub fn exit_code(status: &Status) -> u8
 }
 
 /// The status of a run whose capture can't be opened.
-pub fn status_of(error: CaptureError) -> Status
+pub fn status_at_head(error: CaptureError) -> Status
     ensures { result ≡ status_at_head error }
 {
     match error {

@@ -16,7 +16,7 @@ use Rattle.ldecode.specs.declared.status.Status.{Status}
 use Rattle.ldecode.specs.declared.status.Status.TheVariants.{Bind}
 use Rattle.ldecode.proofs.Stacked.{bound_listing, bound_refuses_none, fresh, one_fault, refused_cannot, stack_asks, stack_refused, the_stack}
 use Rattle.ldecode.proofs.Working.{binding_fails, decoding_ends, head_refuses_none, no_room, opening_fails}
-use Rattle.ldecode.proofs.decoding.decode_stack.Goals as goal
+use Rattle.ldecode.proofs.decode_stack.decode_stack.Goals as goal
 
 pub returns-in-Err-NoMemory-clause-works : goal.returns-in-Err-NoMemory-clause-works
 returns-in-Err-NoMemory-clause-works g c = no_room (meaning_of c.args.settings.now) (g.S.Source.left c.args.source.now) (g.K.Sink.written c.args.sink.now)
@@ -24,13 +24,13 @@ returns-in-Err-NoMemory-clause-works g c = no_room (meaning_of c.args.settings.n
 pub returns-in-Err-clause-works : goal.returns-in-Err-clause-works
 returns-in-Err-clause-works g c =
     let values = meaning_of c.args.settings.now in
-    subst (λ (s : Status). WorksOn values (g.S.Source.left c.args.source.now) (g.S.Source.left c.open.new.source) (g.K.Sink.written c.args.sink.now) (g.K.Sink.written c.args.sink.now) s) (sym c.status_of.ensures)
+    subst (λ (s : Status). WorksOn values (g.S.Source.left c.args.source.now) (g.S.Source.left c.open.new.source) (g.K.Sink.written c.args.sink.now) (g.K.Sink.written c.args.sink.now) s) (sym c.status_at_head.ensures)
     (opening_fails values c.form_of.result c.form_of.ensures.named _ _ _ c.in-Err.error c.in-Err.ensures.opens)
 
 pub returns-in-Err-clause-bind : goal.returns-in-Err-clause-bind
 returns-in-Err-clause-bind g c fault cannot =
     let values = meaning_of c.args.settings.now in
-    subst (λ (s : Status). OrNoMemory (Bind fault) s) (sym c.status_of.ensures)
+    subst (λ (s : Status). OrNoMemory (Bind fault) s) (sym c.status_at_head.ensures)
     (head_refuses_none values c.form_of.result c.form_of.ensures.named (g.S.Source.left c.args.source.now) (g.S.Source.left c.open.new.source) (g.K.Sink.written c.args.sink.now) c.in-Err.error c.in-Err.ensures.opens fault cannot)
 
 pub returns-in-Err-Fault-bind-clause-works : goal.returns-in-Err-Fault-bind-clause-works

@@ -12,18 +12,18 @@ use Rattle.ldecode.specs.declared.status.Status.{Status}
 use Rattle.ldecode.specs.declared.status.Status.TheVariants.{Bind}
 use Rattle.ldecode.proofs.Asked.{chosen_refuses_none, one_fault, refused_cannot, search_asks, search_refused, the_search}
 use Rattle.ldecode.proofs.Working.{binding_fails, head_refuses_none, opening_fails, search_ends}
-use Rattle.ldecode.proofs.searching.search.Goals as goal
+use Rattle.ldecode.proofs.search.search.Goals as goal
 
 pub returns-in-Err-clause-works : goal.returns-in-Err-clause-works
 returns-in-Err-clause-works g c =
     let values = meaning_of c.args.settings.now in
-    subst (λ (s : Status). WorksOn values (g.S.Source.left c.args.source.now) (g.S.Source.left c.open.new.source) (g.K.Sink.written c.args.sink.now) (g.K.Sink.written c.args.sink.now) s) (sym c.status_of.ensures)
+    subst (λ (s : Status). WorksOn values (g.S.Source.left c.args.source.now) (g.S.Source.left c.open.new.source) (g.K.Sink.written c.args.sink.now) (g.K.Sink.written c.args.sink.now) s) (sym c.status_at_head.ensures)
     (opening_fails values c.form_of.result c.form_of.ensures.named _ _ _ c.in-Err.error c.in-Err.ensures.opens)
 
 pub returns-in-Err-clause-bind : goal.returns-in-Err-clause-bind
 returns-in-Err-clause-bind g c fault cannot =
     let values = meaning_of c.args.settings.now in
-    subst (λ (s : Status). OrNoMemory (Bind fault) s) (sym c.status_of.ensures)
+    subst (λ (s : Status). OrNoMemory (Bind fault) s) (sym c.status_at_head.ensures)
     (head_refuses_none values c.form_of.result c.form_of.ensures.named (g.S.Source.left c.args.source.now) (g.S.Source.left c.open.new.source) (g.K.Sink.written c.args.sink.now) c.in-Err.error c.in-Err.ensures.opens fault cannot)
 
 pub returns-in-Err-Fault-clause-works : goal.returns-in-Err-Fault-clause-works
