@@ -8,13 +8,13 @@ ghost use Rattle.ldecode.specs.Notices.{code_of};
 mod help;
 mod request;
 
-use help::{tell_help, tell_version};
-use la_io::{StdSink, StdSource};
+use help::{VERSION, help_text};
+use la_io::{Failed, StdSink, StdSource, write_whole};
 use ldecode::{Status, exit_code, run_here};
 use request::{Request, request_of};
 use std::alloc::{AllocError, Global};
 use std::env::{self, Args};
-use std::io::{self, Write};
+use std::io::Write;
 use std::process::ExitCode;
 
 #[cfg(test)]
@@ -44,14 +44,27 @@ fn exit_of(status: &Status) -> ExitCode
     ExitCode::from(exit_code(status))
 }
 
-// The exit status behind what was told on standard output.
-fn told(written: io::Result<()>) -> ExitCode
+// The exit status where a text was to be written on standard output.
+fn told(written: Result<(), Failed>) -> ExitCode
     ensures ok { OnOk written (exit_status result ≡ code_of Status.Done) }
     ensures err { OnErr written (exit_status result ≡ code_of Status.WriteFault) }
 {
     match written {
         Ok(()) => exit_of(&Status::Done),
-        Err(_) => exit_of(&Status::WriteFault),
+        Err(Failed) => exit_of(&Status::WriteFault),
+    }
+}
+
+// Writes a text on standard output.
+fn tell(rt: &HostRuntime, text: &str) -> ExitCode {
+    told(write_whole(&mut StdSink::new(rt.stdout()), text.as_bytes()))
+}
+
+// Tells the usage.
+fn tell_help(rt: &HostRuntime) -> ExitCode {
+    match help_text(rt.alloc()) {
+        Ok(text) => tell(rt, text.as_str()),
+        Err(AllocError) => exit_of(&Status::NoMemory),
     }
 }
 
@@ -75,8 +88,8 @@ fn main(rt: HostRuntime) -> ExitCode {
         return no_words(&rt);
     };
     match request_of(&words) {
-        Request::Help => told(tell_help(&rt)),
-        Request::Version => told(tell_version(&rt)),
+        Request::Help => tell_help(&rt),
+        Request::Version => tell(&rt, VERSION),
         Request::Run => run(&rt, &words),
     }
 }
