@@ -82,11 +82,23 @@ fn fault(
     })
 }
 
+// A line, and the word, the place and the reason of its first fault.
+type FaultRow = (&'static str, u32, u32, StackWhy);
+
+// The first of these lines whose first fault is another.
+fn wrong(alloc: Global, rows: &[FaultRow]) -> Result<Option<&'static str>, Fail> {
+    for (line, word, at, why) in rows {
+        if fault(alloc, line, None, None)? != Some((*word, *at, *why)) {
+            return Ok(Some(line));
+        }
+    }
+    Ok(None)
+}
+
+// What stands before the first colon is no kind.
 #[test]
-fn finds_first_faults_of_chains(rt: HostRuntime) -> Result<(), Fail> {
-    let alloc = rt.alloc();
-    for (line, word, at, why) in [
-        // What stands before the first colon is no kind.
+fn heads_are_decoders_of_the_capture(rt: HostRuntime) -> Result<(), Fail> {
+    let rows = [
         ("", 0, 0, StackWhy::Unknown),
         (" i2c-1", 0, 0, StackWhy::Unknown),
         ("i2", 0, 0, StackWhy::Unknown),
@@ -96,7 +108,15 @@ fn finds_first_faults_of_chains(rt: HostRuntime) -> Result<(), Fail> {
         (":scl=D0:sda=D1", 0, 0, StackWhy::Unknown),
         (",i2c:scl=D0:sda=D1", 0, 0, StackWhy::Unknown),
         ("i2c=x", 0, 0, StackWhy::Unknown),
-        // A head with a hyphen is the name of an earlier instance.
+    ];
+    assert_eq!(rt; wrong(rt.alloc(), &rows)?, None);
+    Ok(())
+}
+
+// A head with a hyphen is the name of an earlier instance.
+#[test]
+fn heads_with_a_hyphen_are_earlier_instances(rt: HostRuntime) -> Result<(), Fail> {
+    let rows = [
         ("i2c-1", 0, 0, StackWhy::NoParent),
         ("foo-1", 0, 0, StackWhy::NoParent),
         ("-", 0, 0, StackWhy::NoParent),
@@ -109,7 +129,15 @@ fn finds_first_faults_of_chains(rt: HostRuntime) -> Result<(), Fail> {
         ("i2c:scl=D0:sda=D1 i2c-1:", 1, 0, StackWhy::NoParent),
         ("i2c:scl=D0:sda=D1 i2c-1:x=1", 1, 0, StackWhy::NoParent),
         ("i2c-1 i2c:scl=D0:sda=D1", 0, 0, StackWhy::NoParent),
-        // A later instance of a chain.
+    ];
+    assert_eq!(rt; wrong(rt.alloc(), &rows)?, None);
+    Ok(())
+}
+
+// A later instance of a chain.
+#[test]
+fn later_instances_stand_on_one_that_has_an_output(rt: HostRuntime) -> Result<(), Fail> {
+    let rows = [
         ("i2c:scl=D0:sda=D1,", 0, 18, StackWhy::Unknown),
         ("i2c:scl=D0:sda=D1,,", 0, 18, StackWhy::Unknown),
         ("i2c:scl=D0:sda=D1,i2c-1", 0, 18, StackWhy::Unknown),
@@ -125,7 +153,15 @@ fn finds_first_faults_of_chains(rt: HostRuntime) -> Result<(), Fail> {
         ("i2c:scl=D0:sda=D1 i2c-1,", 1, 6, StackWhy::Unknown),
         ("i2c:scl=D0:sda=D1 i2c-1,i2c-1", 1, 6, StackWhy::Unknown),
         ("i2c:scl=D0:sda=D1 i2c-1,i2c", 1, 6, StackWhy::Mismatch),
-        // Options: no `=`, then no such option, then given before, then no value.
+    ];
+    assert_eq!(rt; wrong(rt.alloc(), &rows)?, None);
+    Ok(())
+}
+
+// Options: no `=`, then no such option, then given before, then no value.
+#[test]
+fn options_are_known_and_given_once_with_a_value(rt: HostRuntime) -> Result<(), Fail> {
+    let rows = [
         ("i2c:", 0, 4, StackWhy::Value),
         ("i2c::scl=D0", 0, 4, StackWhy::Value),
         ("i2c:scl", 0, 4, StackWhy::Value),
@@ -153,33 +189,46 @@ fn finds_first_faults_of_chains(rt: HostRuntime) -> Result<(), Fail> {
             11,
             StackWhy::Repeat,
         ),
-        // Both lines have to be given.
+    ];
+    assert_eq!(rt; wrong(rt.alloc(), &rows)?, None);
+    Ok(())
+}
+
+// Both lines have to be given.
+#[test]
+fn both_lines_are_given(rt: HostRuntime) -> Result<(), Fail> {
+    let rows = [
         ("i2c", 0, 0, StackWhy::Missing),
         ("i2c:scl=D0", 0, 0, StackWhy::Missing),
         ("i2c:sda=D-1", 0, 0, StackWhy::Missing),
         ("i2c,i2c", 0, 0, StackWhy::Missing),
         ("i2c:scl=D0,D1", 0, 0, StackWhy::Missing),
         ("i2c:scl=D0:sda=D1 i2c:sda=D1", 1, 0, StackWhy::Missing),
-        // Of two faults the first is told.
+    ];
+    assert_eq!(rt; wrong(rt.alloc(), &rows)?, None);
+    Ok(())
+}
+
+// Of two faults the first is told.
+#[test]
+fn of_two_faults_the_first_is_told(rt: HostRuntime) -> Result<(), Fail> {
+    let rows = [
         ("i2c:scl=D0:sda=D1 i2c:scl=D2 x", 1, 0, StackWhy::Missing),
         ("x i2c-1", 0, 0, StackWhy::Unknown),
         ("i2c-1 x", 0, 0, StackWhy::NoParent),
         ("i2c:x=1:scl", 0, 4, StackWhy::Unknown),
         ("i2c:scl:x=1", 0, 4, StackWhy::Value),
-    ] {
-        assert_eq!(rt;
-            fault(alloc, line, None, None)?,
-            Some((word, at, why)),
-            "{line}"
-        );
-    }
+    ];
+    assert_eq!(rt; wrong(rt.alloc(), &rows)?, None);
     Ok(())
 }
 
+// One bus.
+const ONE: &str = "i2c:scl=D0:sda=D1";
+
 #[test]
-fn finds_first_faults_of_names_and_classes(rt: HostRuntime) -> Result<(), Fail> {
+fn shown_names_are_instances(rt: HostRuntime) -> Result<(), Fail> {
     let alloc = rt.alloc();
-    let one = "i2c:scl=D0:sda=D1";
     for (show, at) in [
         ("", 0),
         ("x", 0),
@@ -195,8 +244,14 @@ fn finds_first_faults_of_names_and_classes(rt: HostRuntime) -> Result<(), Fail> 
         ("i2c-1,i2c-1,x", 12),
     ] {
         let want = Some((SHOW, at, StackWhy::Unknown));
-        assert_eq!(rt; fault(alloc, one, Some(show), None)?, want, "{show}");
+        assert_eq!(rt; fault(alloc, ONE, Some(show), None)?, want, "{show}");
     }
+    Ok(())
+}
+
+#[test]
+fn classes_are_of_an_instance(rt: HostRuntime) -> Result<(), Fail> {
+    let alloc = rt.alloc();
     for (binary, at) in [
         ("", 0),
         (":", 0),
@@ -211,12 +266,17 @@ fn finds_first_faults_of_names_and_classes(rt: HostRuntime) -> Result<(), Fail> 
         ("i2c-1::read", 6),
     ] {
         let want = Some((BINARY, at, StackWhy::Unknown));
-        assert_eq!(rt; fault(alloc, one, None, Some(binary))?, want, "{binary}");
+        assert_eq!(rt; fault(alloc, ONE, None, Some(binary))?, want, "{binary}");
     }
-    // Chains come before what is shown, and that before the class.
+    Ok(())
+}
+
+#[test]
+fn chains_come_before_what_is_shown_and_that_before_the_class(rt: HostRuntime) -> Result<(), Fail> {
+    let alloc = rt.alloc();
     for (line, want) in [
         ("i2c", (0, 0, StackWhy::Missing)),
-        (one, (SHOW, 0, StackWhy::Unknown)),
+        (ONE, (SHOW, 0, StackWhy::Unknown)),
     ] {
         assert_eq!(rt; fault(alloc, line, Some("x"), Some("y"))?, Some(want));
     }

@@ -22,10 +22,22 @@ fn fault(alloc: Global, line: &str) -> Result<Option<(u32, u32, WordWhy)>, Fail>
     })
 }
 
+// A line, and the word and the reason of its first fault, which lies at the word's front.
+type FaultRow = (&'static str, u32, WordWhy);
+
+// The first of these lines whose first fault is another.
+fn wrong(alloc: Global, rows: &[FaultRow]) -> Result<Option<&'static str>, Fail> {
+    for (line, word, why) in rows {
+        if fault(alloc, line)? != Some((*word, 0, *why)) {
+            return Ok(Some(line));
+        }
+    }
+    Ok(None)
+}
+
 #[test]
-fn finds_first_faults_of_words(rt: HostRuntime) -> Result<(), Fail> {
-    let alloc = rt.alloc();
-    for (line, word, why) in [
+fn words_are_neither_empty_nor_unknown_options(rt: HostRuntime) -> Result<(), Fail> {
+    let rows = [
         ("", 0, WordWhy::Empty),
         (" i2c", 0, WordWhy::Empty),
         ("i2c ", 1, WordWhy::Empty),
@@ -42,6 +54,14 @@ fn finds_first_faults_of_words(rt: HostRuntime) -> Result<(), Fail> {
         ("--down 1", 0, WordWhy::Unknown),
         ("--chains x", 0, WordWhy::Unknown),
         ("i2c -x", 1, WordWhy::Unknown),
+    ];
+    assert_eq!(rt; wrong(rt.alloc(), &rows)?, None);
+    Ok(())
+}
+
+#[test]
+fn options_are_given_once_with_a_value(rt: HostRuntime) -> Result<(), Fail> {
+    let rows = [
         ("--job", 0, WordWhy::NoValue),
         ("i2c --ring", 1, WordWhy::NoValue),
         ("--job --job=find", 0, WordWhy::NoValue),
@@ -63,9 +83,15 @@ fn finds_first_faults_of_words(rt: HostRuntime) -> Result<(), Fail> {
         ("--format=RAW", 0, WordWhy::Value),
         ("--threads maybe", 1, WordWhy::Value),
         ("--threads=Yes", 0, WordWhy::Value),
-        // A fault of a word comes before there are too few.
+    ];
+    assert_eq!(rt; wrong(rt.alloc(), &rows)?, None);
+    Ok(())
+}
+
+#[test]
+fn of_two_faults_the_first_word_is_told(rt: HostRuntime) -> Result<(), Fail> {
+    let rows = [
         ("--ring=x", 0, WordWhy::Value),
-        // Two faults in both orders: the first word's is told.
         ("--x --channels=0", 0, WordWhy::Unknown),
         ("--channels=0 --x", 0, WordWhy::Range),
         ("-y ", 0, WordWhy::Unknown),
@@ -80,16 +106,14 @@ fn finds_first_faults_of_words(rt: HostRuntime) -> Result<(), Fail> {
         ("i2c --job --ring 0", 1, WordWhy::NoValue),
         ("--show  --x", 1, WordWhy::Empty),
         ("--show x  --x", 2, WordWhy::Empty),
-    ] {
-        assert_eq!(rt; fault(alloc, line)?, Some((word, 0, why)), "at {line}");
-    }
+    ];
+    assert_eq!(rt; wrong(rt.alloc(), &rows)?, None);
     Ok(())
 }
 
 #[test]
-fn finds_first_faults_of_numbers(rt: HostRuntime) -> Result<(), Fail> {
-    let alloc = rt.alloc();
-    for (line, word, why) in [
+fn numbers_are_in_their_range(rt: HostRuntime) -> Result<(), Fail> {
+    let rows = [
         ("--channels 0", 1, WordWhy::Range),
         ("--channels 65", 1, WordWhy::Range),
         ("--channels=+5", 0, WordWhy::Value),
@@ -103,6 +127,14 @@ fn finds_first_faults_of_numbers(rt: HostRuntime) -> Result<(), Fail> {
         ("--ring=16385", 0, WordWhy::Range),
         ("--ring=1e3", 0, WordWhy::Value),
         ("--ring ten", 1, WordWhy::Value),
+    ];
+    assert_eq!(rt; wrong(rt.alloc(), &rows)?, None);
+    Ok(())
+}
+
+#[test]
+fn rates_are_a_number_or_a_quotient(rt: HostRuntime) -> Result<(), Fail> {
+    let rows = [
         ("--rate 0", 1, WordWhy::Range),
         ("--rate=1000000000000001", 0, WordWhy::Range),
         ("--rate=10000000000000000000", 0, WordWhy::Range),
@@ -120,9 +152,8 @@ fn finds_first_faults_of_numbers(rt: HostRuntime) -> Result<(), Fail> {
         ("--rate x/0", 1, WordWhy::Value),
         ("--rate=0/0", 0, WordWhy::Range),
         ("--rate=x/x", 0, WordWhy::Value),
-    ] {
-        assert_eq!(rt; fault(alloc, line)?, Some((word, 0, why)), "at {line}");
-    }
+    ];
+    assert_eq!(rt; wrong(rt.alloc(), &rows)?, None);
     Ok(())
 }
 
@@ -186,129 +217,57 @@ fn finds_faults_behind_all_words(rt: HostRuntime) -> Result<(), Fail> {
     Ok(())
 }
 
-// What the options set, and the words that are no options, each with its number.
-fn values(
-    alloc: Global,
-    line: &str,
-) -> Result<Option<(Job, Format, u32, (u64, u64), bool, u32)>, Fail> {
-    Ok(match read(alloc, line)? {
-        Ok(s) => Some((
-            s.job,
-            s.format,
-            s.channels,
-            (s.rate.num, s.rate.den),
-            s.threads,
-            s.ring,
-        )),
-        Err(_) => None,
-    })
+// What the options set: job, channels, rate, threads and ring.
+fn values(alloc: Global, line: &str) -> Result<String, Fail> {
+    let Ok(settings) = read(alloc, line)? else {
+        return Ok(String::new(alloc));
+    };
+    let job = match settings.job {
+        Job::Decode => "decode",
+        Job::Find => "find",
+    };
+    let Format::Raw = settings.format;
+    let threads = if settings.threads { "yes" } else { "no" };
+    let (num, den) = (settings.rate.num, settings.rate.den);
+    Ok(format!(in alloc;
+        "{job} {} {num}/{den} {threads} {}",
+        settings.channels, settings.ring
+    )?)
 }
 
 #[test]
 fn sets_options(rt: HostRuntime) -> Result<(), Fail> {
     let alloc = rt.alloc();
-    for (line, job, channels, rate, threads, ring) in [
-        ("i2c", Job::Decode, 8, (1_000_000, 1), true, 256),
-        (
-            "--job decode i2c",
-            Job::Decode,
-            8,
-            (1_000_000, 1),
-            true,
-            256,
-        ),
-        ("D0=h --job find", Job::Find, 8, (1_000_000, 1), true, 256),
-        ("--job=find D0=h", Job::Find, 8, (1_000_000, 1), true, 256),
-        (
-            "--format raw i2c",
-            Job::Decode,
-            8,
-            (1_000_000, 1),
-            true,
-            256,
-        ),
-        (
-            "i2c --format=raw",
-            Job::Decode,
-            8,
-            (1_000_000, 1),
-            true,
-            256,
-        ),
-        (
-            "--channels 64 i2c",
-            Job::Decode,
-            64,
-            (1_000_000, 1),
-            true,
-            256,
-        ),
-        (
-            "--channels=1 i2c",
-            Job::Decode,
-            1,
-            (1_000_000, 1),
-            true,
-            256,
-        ),
+    for (line, wanted) in [
+        ("i2c", "decode 8 1000000/1 yes 256"),
+        ("--job decode i2c", "decode 8 1000000/1 yes 256"),
+        ("D0=h --job find", "find 8 1000000/1 yes 256"),
+        ("--job=find D0=h", "find 8 1000000/1 yes 256"),
+        ("--format raw i2c", "decode 8 1000000/1 yes 256"),
+        ("i2c --format=raw", "decode 8 1000000/1 yes 256"),
+        ("--channels 64 i2c", "decode 64 1000000/1 yes 256"),
+        ("--channels=1 i2c", "decode 1 1000000/1 yes 256"),
         (
             "i2c --channels=0000000000000000007",
-            Job::Decode,
-            7,
-            (1_000_000, 1),
-            true,
-            256,
+            "decode 7 1000000/1 yes 256",
         ),
-        ("--rate 1 i2c", Job::Decode, 8, (1, 1), true, 256),
-        ("--rate 0001/0003 i2c", Job::Decode, 8, (1, 3), true, 256),
-        ("--rate=4/2 i2c", Job::Decode, 8, (4, 2), true, 256),
+        ("--rate 1 i2c", "decode 8 1/1 yes 256"),
+        ("--rate 0001/0003 i2c", "decode 8 1/3 yes 256"),
+        ("--rate=4/2 i2c", "decode 8 4/2 yes 256"),
         (
             "--rate=1000000000000000/1000000000 i2c",
-            Job::Decode,
-            8,
-            (1_000_000_000_000_000, 1_000_000_000),
-            true,
-            256,
+            "decode 8 1000000000000000/1000000000 yes 256",
         ),
-        (
-            "--threads no i2c",
-            Job::Decode,
-            8,
-            (1_000_000, 1),
-            false,
-            256,
-        ),
-        (
-            "--threads=yes i2c",
-            Job::Decode,
-            8,
-            (1_000_000, 1),
-            true,
-            256,
-        ),
-        ("--ring 1 i2c", Job::Decode, 8, (1_000_000, 1), true, 1),
-        (
-            "--ring=16384 i2c",
-            Job::Decode,
-            8,
-            (1_000_000, 1),
-            true,
-            16_384,
-        ),
+        ("--threads no i2c", "decode 8 1000000/1 no 256"),
+        ("--threads=yes i2c", "decode 8 1000000/1 yes 256"),
+        ("--ring 1 i2c", "decode 8 1000000/1 yes 1"),
+        ("--ring=16384 i2c", "decode 8 1000000/1 yes 16384"),
         (
             "--ring=4 --threads no D0=h --rate=2/3 --channels 16 --format=raw --show all --job=find",
-            Job::Find,
-            16,
-            (2, 3),
-            false,
-            4,
+            "find 16 2/3 no 4",
         ),
     ] {
-        assert_eq!(rt;
-            values(alloc, line)?,
-            Some((job, Format::Raw, channels, rate, threads, ring)),
-            "at {line}"
-        );
+        assert_eq!(rt; values(alloc, line)?.as_str(), wanted, "at {line}");
     }
     Ok(())
 }
