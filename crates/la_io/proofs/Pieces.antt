@@ -1,6 +1,8 @@
 -- What is left of pieces of bytes after a part of one was given.
-use Rattle.std.proofs.Common.{get_or, Vec, Global, ◌≡◌, ℕ, ◌+◌, ◌≤◌, ◌<◌, List, [], ◌∷◌, ◌++◌, length, take, drop, refl, sym, ◌∙◌, ap, append_assoc, take-append-drop}
+use Rattle.std.proofs.Common.{get_or, Vec, Global, ◌≡◌, ℕ, ◌+◌, ◌-◌, ◌≤◌, ◌<◌, nat_lt, Bool, true, false, if◌then◌else◌, arith, List, [], ◌∷◌, ◌++◌, length, take, drop, refl, sym, ◌∙◌, ap, append_assoc, take-append-drop}
 use Rattle.std.proofs.lemmas.List.{drop-drop, drop_more, drop_all}
+use Rattle.std.proofs.lemmas.Bool.Decides.{nat_tests}
+use Rattle.la_io.specs.Plans.{left_of_first, present}
 use Rattle.la_io.specs.Kept.{bytes_of, rest_of, left_in}
 
 -- the next count bytes, and the others
@@ -12,6 +14,12 @@ given_from bytes front at count is =
 rest_from_start : (pieces : List (Vec ℕ Global)) → bytes_of pieces ≡ rest_of pieces 0
 rest_from_start [] = refl
 rest_from_start (p ∷ pieces) = refl
+
+lt_true : (a b : ℕ) → a < b → nat_lt a b ≡ true
+lt_true a b less = grind (arith, nat_tests)
+
+lt_false : (a b : ℕ) → b ≤ a → nat_lt a b ≡ false
+lt_false a b past = grind (arith, nat_tests)
 
 module _ (pieces : List (Vec ℕ Global)) (piece : ℕ) (v : Vec ℕ Global) (there : piece < length pieces) (is : v ≡ get_or pieces piece v) where
   here : (at : ℕ) → left_in pieces piece at ≡ drop at v.items ++ bytes_of (drop (piece + 1) pieces)
@@ -31,3 +39,20 @@ module _ (pieces : List (Vec ℕ Global)) (piece : ℕ) (v : Vec ℕ Global) (th
   piece_done at past =
       here at ∙ ap (λ (l : List ℕ). l ++ bytes_of (drop (piece + 1) pieces)) (drop_all at v.items past)
       ∙ rest_from_start (drop (piece + 1) pieces)
+
+  present_here : (at : ℕ) → present pieces piece at ≡ (if nat_lt at (length v.items) then length v.items - at else left_of_first (drop (piece + 1) pieces) 0)
+  present_here at =
+      ap (λ (l : List (Vec ℕ Global)). left_of_first l at) (drop_more pieces piece v there)
+      ∙ ap (λ (w : Vec ℕ Global). if nat_lt at (length w.items) then length w.items - at else left_of_first (drop (piece + 1) pieces) 0) (sym is)
+
+  -- how much is left of a piece of which something is left
+  pub present_some : (at : ℕ) → at < length v.items → present pieces piece at ≡ length v.items - at
+  present_some at less = present_here at ∙ ap (λ (b : Bool). if◌then◌else◌ {A = ℕ} b (length v.items - at) (left_of_first (drop (piece + 1) pieces) 0)) (lt_true at (length v.items) less)
+
+  -- where nothing is left of a piece it's that of those behind it
+  pub present_done : (at : ℕ) → length v.items ≤ at → present pieces piece at ≡ present pieces (piece + 1) 0
+  present_done at past = present_here at ∙ ap (λ (b : Bool). if◌then◌else◌ {A = ℕ} b (length v.items - at) (left_of_first (drop (piece + 1) pieces) 0)) (lt_false at (length v.items) past)
+
+-- where no piece is left there is none
+pub present_none : (pieces : List (Vec ℕ Global)) (piece at : ℕ) → length pieces ≤ piece → present pieces piece at ≡ 0
+present_none pieces piece at past = ap (λ (l : List (Vec ℕ Global)). left_of_first l at) (drop_all piece pieces past)

@@ -4,3 +4,4 @@ pub mod Causes
 pub mod Grown
 pub mod Kept
 pub mod Onward
+pub mod Plans

@@ -1,8 +1,11 @@
 // A source and a sink in memory whose calls fail where they are told to.
-ghost use Rattle.std.specs.Prelude.{◌≡◌, ◌≤◌, ◌+◌, [], vec_len, vec_capacity, IfOk, Some};
+ghost use Rattle.std.specs.Prelude.{◌≡◌, ◌≤◌, ◌<◌, ◌+◌, ◌==◌, ◌||◌, min, [], length, vec_len, vec_capacity, IfOk, Some};
+ghost use Rattle.std.specs.Io.{ReadsAtMost, WritesAtMost};
+ghost use Rattle.std.specs.Io.KnownBytes.{ReadConsumes, WriteAppends};
 ghost use Rattle.std.specs.Bool.{MatchBool};
 ghost use Rattle.la_io.specs.Kept.{bytes_of, left_in};
-ghost use Rattle.la_io.specs.Causes.{Rose};
+ghost use Rattle.la_io.specs.Causes.{Rose, HasCause};
+ghost use Rattle.la_io.specs.Plans.{FailsExactly, is_listed, next_call, present};
 
 use crate::give::give;
 use crate::{Failed, Sink, Source};
@@ -41,6 +44,8 @@ impl MemSource {
 
 // Whether this call fails, and one more call.
 fn fails_now(fails: &[u64], calls: &mut u64, faults: &mut u64) -> bool
+    ensures listed { result ≡ is_listed fails.now calls.old }
+    ensures next { calls.new ≡ next_call calls.old }
     ensures later { faults.old ≤ faults.new }
     ensures cause { MatchBool result (Rose faults.old faults.new) (faults.new ≡ faults.old) }
 {
@@ -57,7 +62,16 @@ impl Source for MemSource {
 
     ghost faults = { λ s. s.faults };
 
-    fn read(&mut self, buf: &mut [u8]) -> Result<usize, Failed> {
+    fn read(&mut self, buf: &mut [u8]) -> Result<usize, Failed>
+        ensures bound { ReadsAtMost result buf.new }
+        ensures bytes { ReadConsumes (Some (left_in self.old.pieces.items self.old.piece self.old.at)) (Some (left_in self.new.pieces.items self.new.piece self.new.at)) result buf.new }
+        ensures cause { HasCause self.old.faults self.new.faults result }
+        // Failed comes exactly where the call's number is one of those that fail.
+        ensures fails { FailsExactly (is_listed self.old.fails.items self.old.calls) result }
+        // Else as much is given as the present piece has and the buffer takes.
+        ensures count { IfOk result (λ count. count ≡ min (present self.old.pieces.items self.old.piece self.old.at) (length buf.old)) }
+        ensures plan { (self.new.fails.items ≡ self.old.fails.items) × (self.new.calls ≡ next_call self.old.calls) }
+    {
         if fails_now(&self.fails, &mut self.calls, &mut self.faults) {
             return Err(Failed);
         }
@@ -132,7 +146,19 @@ impl Sink for MemSink {
 
     ghost goes_on_further = { λ _ _ _ _ _. tt };
 
-    fn write(&mut self, bytes: &[u8]) -> Result<usize, Failed> {
+    fn write(&mut self, bytes: &[u8]) -> Result<usize, Failed>
+        requires { 0 < length bytes.now }
+        ensures bound { WritesAtMost result bytes.now }
+        ensures some { IfOk result (λ count. 0 < count) }
+        ensures bytes { WriteAppends (Some self.old.bytes.items) (Some self.new.bytes.items) result bytes.now }
+        ensures cause { HasCause self.old.faults self.new.faults result }
+        ensures goes_on { Unit {0} }
+        // Failed comes exactly where the call's number is one of those that fail, or no room is left.
+        ensures fails { FailsExactly (is_listed self.old.fails.items self.old.calls || self.old.room == 0) result }
+        // Else as much is taken as it takes at once and has room for.
+        ensures count { IfOk result (λ count. (count ≡ min (length bytes.now) (min self.old.most self.old.room)) × (count + self.new.room ≡ self.old.room)) }
+        ensures plan { (self.new.most ≡ self.old.most) × (self.new.fails.items ≡ self.old.fails.items) × (self.new.calls ≡ next_call self.old.calls) }
+    {
         if fails_now(&self.fails, &mut self.calls, &mut self.faults) {
             return Err(Failed);
         }
