@@ -4,6 +4,8 @@
 mod held;
 mod machine;
 mod outputs;
+#[cfg(test)]
+mod plain;
 mod steps;
 #[cfg(test)]
 mod tests;

@@ -1,11 +1,14 @@
-// Samples are digits: line 0 is SCL, line 1 is SDA. All is worked by hand from where they change.
+// Samples are digits: line 0 is SCL, line 1 is SDA. What is wanted is worked by hand from where they change; at the
+// end the decoder is compared with a plain program.
 ghost use Rattle.std.specs.Prelude.{◌≤◌};
 
+use crate::plain::{Told, notes_of};
 use crate::{I2c, I2cOpts, text};
 use decoder_core::{Driver, Machine, OptFault, Outs};
 use la_base::{Feed, Note, Out, Packet, PacketKind, Piece, Rate, Run};
 use line_text::LineBuf;
 use std::alloc::{AllocError, Global};
+use std::process::Abort;
 use std::test::Fail;
 
 const RATE: Rate = Rate {
@@ -258,4 +261,178 @@ fn a_decoder_can_move_to_another_thread(_rt: HostRuntime) {
         Ok(machine) => is_send(&machine),
         Err(_) => {}
     }
+}
+
+// Samples as runs: equal neighbours are one.
+fn runs_of(alloc: Global, samples: &[u8]) -> Result<Vec<Run>, AllocError> {
+    let mut runs = Vec::new(alloc);
+    let mut open: Option<Run> = None;
+    for sample in samples {
+        let value = u64::from(*sample);
+        let mut len = 1;
+        if let Some(run) = open {
+            if run.value == value {
+                len = run.len.saturating_add(1);
+            } else {
+                runs.push(run)?;
+            }
+        }
+        open = Some(Run { value, len });
+    }
+    if let Some(run) = open {
+        runs.push(run)?;
+    }
+    Ok(runs)
+}
+
+fn add_told(outs: &[Out], notes: &mut Vec<Told>) -> Result<(), AllocError> {
+    for out in outs {
+        if let Out::Note(note) = out {
+            notes.push(Told {
+                class: note.class,
+                start: note.start,
+                end: note.end,
+                value: note.a,
+            })?;
+        }
+    }
+    Ok(())
+}
+
+// The decoder's notes of samples, which it takes as runs.
+fn decoded(alloc: Global, samples: &[u8]) -> Result<Vec<Told>, Fail> {
+    let mut notes = Vec::new(alloc);
+    let mut driver = match I2c::open(I2cOpts { scl: 0, sda: 1 }, RATE) {
+        Ok(machine) => Driver::new(machine),
+        Err(_) => return Err("not opened".into()),
+    };
+    let mut outs = Outs::new();
+    for run in &runs_of(alloc, samples)? {
+        let mut feed = Feed::Run(*run);
+        // each step takes a sample at least
+        for _ in 0..run.len {
+            outs.clear();
+            let rest = driver.step(feed, &mut outs);
+            add_told(outs.list(), &mut notes)?;
+            match rest {
+                Some(rest) => feed = rest,
+                None => break,
+            }
+        }
+    }
+    Ok(notes)
+}
+
+// Checks that the decoder gives the notes that the plain program gives.
+fn check_notes(rt: &impl Abort, alloc: Global, samples: &[u8]) -> Result<(), Fail> {
+    let want = notes_of(alloc, samples)?;
+    assert_eq!(rt;
+        decoded(alloc, samples)?.as_slice(),
+        want.as_slice(),
+        "{samples:?}"
+    );
+    Ok(())
+}
+
+#[test]
+fn all_short_lists_by_the_plain_program(rt: HostRuntime) -> Result<(), Fail> {
+    for (len, count) in [
+        (0, 1),
+        (1, 4),
+        (2, 16),
+        (3, 64),
+        (4, 256),
+        (5, 1024),
+        (6, 4096),
+        (7, 16_384),
+    ] {
+        for number in 0..count {
+            // the number's digits to base 4
+            let mut samples = Vec::new(rt.alloc());
+            let mut rest: u32 = number;
+            for _ in 0..len {
+                samples.push((rest % 4) as u8)?;
+                rest /= 4;
+            }
+            check_notes(&rt, rt.alloc(), &samples)?;
+        }
+    }
+    Ok(())
+}
+
+// Samples of a bus. 0 and 1 are a bit: SCL is low, then high. Behind a 1 or at the front, S is SDA falling while
+// SCL stays high: a START. Behind a 0, P is SDA rising so: a STOP.
+fn waves_of(alloc: Global, script: &str, times: usize) -> Result<Vec<u8>, AllocError> {
+    let mut samples = Vec::new(alloc);
+    for letter in script.bytes() {
+        let wave: &[u8] = match letter {
+            b'0' => &[0, 1],
+            b'1' => &[2, 3],
+            b'S' => &[3, 1],
+            b'P' => &[1, 3],
+            _ => &[],
+        };
+        for sample in wave {
+            for _ in 0..times {
+                samples.push(*sample)?;
+            }
+        }
+    }
+    Ok(samples)
+}
+
+// Scripts of segments, and the classes of their notes.
+const SCRIPTS: [(&str, &[u16]); 13] = [
+    // an address and two bytes, written and read; an address that nobody acknowledges, written and read
+    (
+        "S 10100000 0 11000011 0 00111100 1 0P",
+        &[0, 3, 7, 5, 7, 5, 8, 2],
+    ),
+    (
+        "S 10100001 0 11000011 0 00111100 1 0P",
+        &[0, 4, 7, 6, 7, 6, 8, 2],
+    ),
+    ("S 11111110 1 0P", &[0, 3, 8, 2]),
+    ("S 10100001 1 0P", &[0, 4, 8, 2]),
+    // START again: in an address, in data, behind a byte and its acknowledge bit, behind a byte alone
+    ("S 101 1S 10100000 0 0P", &[0, 1, 3, 7, 2]),
+    ("S 10100001 0 1100 1S 01010100 0 0P", &[0, 4, 7, 1, 3, 7, 2]),
+    (
+        "S 10100000 0 00000111 0 1S 10100001 0 10000000 1 0P",
+        &[0, 3, 7, 5, 7, 1, 4, 7, 6, 8, 2],
+    ),
+    ("S 10100001 S 10100000 0 0P", &[0, 4, 1, 3, 7, 2]),
+    // STOP in an address, in data, behind a byte alone
+    ("S 101 0P 1S 10100000 0 0P", &[0, 2, 0, 3, 7, 2]),
+    ("S 10100000 0 1100 0P", &[0, 3, 7, 2]),
+    ("S 10100001 0 00110010 P", &[0, 4, 7, 6, 2]),
+    // clocks without a START: at the front, and behind a STOP
+    ("10100000 0 11000011 1 S 10100000 0", &[0, 3, 7]),
+    ("S 10100000 0 0P 10100001 0 11110000 0 0P", &[0, 3, 7, 2, 2]),
+];
+
+#[test]
+fn long_lists_by_the_plain_program(rt: HostRuntime) -> Result<(), Fail> {
+    for (script, classes) in SCRIPTS {
+        let notes = notes_of(rt.alloc(), &waves_of(rt.alloc(), script, 1)?)?;
+        assert!(rt;
+            notes
+                .iter()
+                .map(|note| note.class)
+                .eq(classes.iter().copied()),
+            "{script}"
+        );
+        for times in 1..4 {
+            let samples = waves_of(rt.alloc(), script, times)?;
+            check_notes(&rt, rt.alloc(), &samples)?;
+            // what is left where one sample is lost
+            for lost in 0..samples.len() {
+                let (front, back) = samples.split_at(lost);
+                let mut others = Vec::from_slice(rt.alloc(), front)?;
+                others.extend(back.iter().skip(1).copied())?;
+                check_notes(&rt, rt.alloc(), &others)?;
+            }
+        }
+    }
+    Ok(())
 }
