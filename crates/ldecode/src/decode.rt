@@ -12,7 +12,7 @@ ghost use Rattle.ldecode.specs.Feeding.{Consumed, Gathered, samples_listing};
 use crate::feed_all::feed_all;
 use crate::note_lines::write_notes;
 use capture_any::{Capture, ListingEnd};
-use decoder_core::Machine;
+use decoder_core::{Machine, Outs};
 use la_base::NoMemory;
 use la_io::{Buffered, CaptureError, Failed, Sink, Source};
 use note_order::{Entry, sort_entries};
@@ -35,9 +35,11 @@ fn collect<S: Source, M: Machine>(
     ensures read { ReadCause (S.faults source.old) (S.faults source.new) result }
     ensures unwritten { result ≢ ListingEnd.Write }
 {
+    // One for all steps, since to make it fills it with default values.
+    let mut outs = Outs::new();
     loop {
         match capture.next(source) {
-            Ok(Some(run)) => match feed_all(stack, machines, run, entries) {
+            Ok(Some(run)) => match feed_all(stack, machines, run, &mut outs, entries) {
                 Ok(()) => {}
                 Err(NoMemory) => return ListingEnd::NoMemory,
             },
@@ -50,7 +52,7 @@ fn collect<S: Source, M: Machine>(
 }
 
 // Writes the lines of notes through a buffer before the sink.
-fn write_buffered<K: Sink>(stack: &Stack, entries: &[Entry], sink: &mut K) -> Result<(), Failed>
+fn write_listing<K: Sink>(stack: &Stack, entries: &[Entry], sink: &mut K) -> Result<(), Failed>
     ensures whole { OnOk result (Appends (K.written sink.old) (K.written sink.new) (note_lines (instances_in stack.now) entries.now)) }
     ensures front { AppendsFront (K.written sink.old) (K.written sink.new) (note_lines (instances_in stack.now) entries.now) }
     ensures cause { HasCause (K.faults sink.old) (K.faults sink.new) result }
@@ -88,7 +90,7 @@ pub fn decode<S: Source, K: Sink, M: Machine + Drop>(
     match collect(stack, capture, &mut machines, source, &mut entries) {
         ListingEnd::NoMemory => ListingEnd::NoMemory,
         end => match sort_entries(&mut entries) {
-            Ok(()) => match write_buffered(stack, &entries, sink) {
+            Ok(()) => match write_listing(stack, &entries, sink) {
                 Ok(()) => end,
                 Err(Failed) => ListingEnd::Write,
             },

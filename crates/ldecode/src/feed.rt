@@ -34,22 +34,22 @@ fn gather(
 }
 
 /// Feeds a run to a machine, and appends the notes that it gives as those of this instance, where it is
-/// shown.
+/// shown. `outs` is room for the outputs of a step.
 pub fn feed<M: Machine>(
     machine: &mut M,
     instance: u32,
     shown: bool,
     run: Run,
+    outs: &mut Outs,
     entries: &mut Vec<Entry>,
 ) -> Result<(), NoMemory>
     ensures setup { M.setup machine.new ≡ M.setup machine.old }
     ensures fed { OnOk result (Fed (M.consumed machine.old) (M.consumed machine.new) (M.outputs (M.setup machine.old)) instance shown (map Sample (samples run)) entries.old.items entries.new.items) }
 {
-    let mut outs = Outs::new();
     let mut rest = Some(Feed::Run(run));
     while let Some(feed) = rest {
         outs.clear();
-        rest = machine.step(feed, &mut outs);
+        rest = machine.step(feed, outs);
         gather(outs.list(), instance, shown, entries)?;
     }
     Ok(())

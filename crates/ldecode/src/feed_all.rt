@@ -7,17 +7,18 @@ ghost use Rattle.stack_spec.specs.Stacks.{instances_in, stack_meaning};
 ghost use Rattle.ldecode.specs.Feeding.{FedAll};
 
 use crate::feed::feed;
-use decoder_core::Machine;
+use decoder_core::{Machine, Outs};
 use la_base::{NoMemory, Run};
 use note_order::Entry;
 use stack_spec::Stack;
 
 /// Feeds a run to each machine, and appends the notes of those instances that the stack shows; the
-/// place of a machine is the number of its instance.
+/// place of a machine is the number of its instance. `outs` is room for the outputs of a step.
 pub fn feed_all<M: Machine>(
     stack: &Stack,
     machines: &mut [M],
     run: Run,
+    outs: &mut Outs,
     entries: &mut Vec<Entry>,
 ) -> Result<(), NoMemory>
     requires { length machines.old ≡ length (instances_in stack.now) }
@@ -25,7 +26,7 @@ pub fn feed_all<M: Machine>(
 {
     for (place, machine) in machines.iter_mut().enumerate() {
         let instance = place as u32;
-        feed(machine, instance, stack.shown(instance), run, entries)?;
+        feed(machine, instance, stack.shown(instance), run, outs, entries)?;
     }
     Ok(())
 }

@@ -252,102 +252,128 @@ fn refuses(alloc: Global, text: &str, status: Status, notice: &[u8]) -> Result<b
 
 #[test]
 fn refuses_words_before_it_reads(rt: HostRuntime) -> Result<(), Fail> {
-    let alloc = rt.alloc();
-    let word = |word, at, why| Status::Words(WordFault { word, at, why });
-    let fault = word(0, 0, WordWhy::Unknown);
-    assert!(rt; refuses(alloc, "--rat 5", fault, b"ldecode: word 0 at 0: Unknown\n")?);
-    let fault = word(1, 0, WordWhy::Range);
-    assert!(rt;
-        refuses(
-            alloc,
+    for (words, word, at, why, notice) in [
+        (
+            "--rat 5",
+            0,
+            0,
+            WordWhy::Unknown,
+            "ldecode: word 0 at 0: Unknown\n",
+        ),
+        (
             "--ring 0 uart:rx=D0",
-            fault,
-            b"ldecode: word 1 at 0: Range\n"
-        )?
-    );
-    let fault = word(0, 0, WordWhy::Few);
-    assert!(rt; refuses(alloc, "", fault, b"ldecode: word 0 at 0: Few\n")?);
-    let fault = word(2, 3, WordWhy::Cond);
-    assert!(rt;
-        refuses(
-            alloc,
+            1,
+            0,
+            WordWhy::Range,
+            "ldecode: word 1 at 0: Range\n",
+        ),
+        ("", 0, 0, WordWhy::Few, "ldecode: word 0 at 0: Few\n"),
+        (
             "--job find D0=q",
-            fault,
-            b"ldecode: word 2 at 3: Cond\n"
-        )?
-    );
-    let fault = word(2, 5, WordWhy::Cond);
-    assert!(rt;
-        refuses(
-            alloc,
+            2,
+            3,
+            WordWhy::Cond,
+            "ldecode: word 2 at 3: Cond\n",
+        ),
+        (
             "--job find D0=r,D1",
-            fault,
-            b"ldecode: word 2 at 5: Cond\n"
-        )?
-    );
-    let fault = word(3, 0, WordWhy::Repeat);
-    assert!(rt;
-        refuses(
-            alloc,
+            2,
+            5,
+            WordWhy::Cond,
+            "ldecode: word 2 at 5: Cond\n",
+        ),
+        (
             "--job find D0=r --job=find",
-            fault,
-            b"ldecode: word 3 at 0: Repeat\n"
-        )?
-    );
+            3,
+            0,
+            WordWhy::Repeat,
+            "ldecode: word 3 at 0: Repeat\n",
+        ),
+    ] {
+        let fault = Status::Words(WordFault { word, at, why });
+        assert!(rt;
+            refuses(rt.alloc(), words, fault, notice.as_bytes())?,
+            "{words}"
+        );
+    }
+    Ok(())
+}
+
+// Two buses, the second of which has another one on it.
+const STACKED: &str = "i2c:scl=D0:sda=D1 i2c:scl=D2:sda=D3,i2c:scl=D0:sda=D1";
+
+// A bus of which one is shown that isn't there.
+const SHOWN: &str = "--show i2c-1,i2c-2 i2c:scl=D0:sda=D1";
+
+#[test]
+fn refuses_stacks_before_it_reads(rt: HostRuntime) -> Result<(), Fail> {
+    for (words, word, at, why, notice) in [
+        (
+            "uart:rx=D0",
+            0,
+            0,
+            StackWhy::Unknown,
+            "ldecode: stack word 0 at 0: Unknown\n",
+        ),
+        (
+            STACKED,
+            1,
+            18,
+            StackWhy::Mismatch,
+            "ldecode: stack word 1 at 18: Mismatch\n",
+        ),
+        (
+            SHOWN,
+            1,
+            6,
+            StackWhy::Unknown,
+            "ldecode: stack word 1 at 6: Unknown\n",
+        ),
+    ] {
+        let fault = Status::Stack(StackFault { word, at, why });
+        assert!(rt;
+            refuses(rt.alloc(), words, fault, notice.as_bytes())?,
+            "{words}"
+        );
+    }
     Ok(())
 }
 
 #[test]
-fn refuses_stacks_and_channels_before_it_reads(rt: HostRuntime) -> Result<(), Fail> {
-    let alloc = rt.alloc();
-    let stack = |word, at, why| Status::Stack(StackFault { word, at, why });
-    let fault = stack(0, 0, StackWhy::Unknown);
-    assert!(rt;
-        refuses(
-            alloc,
-            "uart:rx=D0",
-            fault,
-            b"ldecode: stack word 0 at 0: Unknown\n"
-        )?
-    );
-    let fault = stack(1, 18, StackWhy::Mismatch);
-    let text = "i2c:scl=D0:sda=D1 i2c:scl=D2:sda=D3,i2c:scl=D0:sda=D1";
-    assert!(rt;
-        refuses(
-            alloc,
-            text,
-            fault,
-            b"ldecode: stack word 1 at 18: Mismatch\n"
-        )?
-    );
-    let fault = stack(1, 6, StackWhy::Unknown);
-    let text = "--show i2c-1,i2c-2 i2c:scl=D0:sda=D1";
-    assert!(rt; refuses(alloc, text, fault, b"ldecode: stack word 1 at 6: Unknown\n")?);
-    let bind = |entry, item, why| Status::Bind(BindFault { entry, item, why });
-    let fault = bind(0, 1, BindWhy::Unknown);
-    assert!(rt;
-        refuses(
-            alloc,
+fn refuses_channels_before_it_reads(rt: HostRuntime) -> Result<(), Fail> {
+    for (words, entry, item, notice) in [
+        (
             "i2c:scl=D0:sda=D9",
-            fault,
-            b"ldecode: entry 0 item 1: Unknown\n"
-        )?
-    );
-    let fault = bind(1, 0, BindWhy::Unknown);
-    let text = "i2c:scl=D0:sda=D1 i2c:scl=D8:sda=D9";
-    assert!(rt; refuses(alloc, text, fault, b"ldecode: entry 1 item 0: Unknown\n")?);
-    let fault = bind(0, 0, BindWhy::Unknown);
-    assert!(rt;
-        refuses(
-            alloc,
+            0,
+            1,
+            "ldecode: entry 0 item 1: Unknown\n",
+        ),
+        (
+            "i2c:scl=D0:sda=D1 i2c:scl=D8:sda=D9",
+            1,
+            0,
+            "ldecode: entry 1 item 0: Unknown\n",
+        ),
+        (
             "--job find D9=h",
-            fault,
-            b"ldecode: entry 0 item 0: Unknown\n"
-        )?
-    );
-    let fault = bind(1, 2, BindWhy::Unknown);
-    let text = "--job find D0=r D1=h,skip=3,D8=l";
-    assert!(rt; refuses(alloc, text, fault, b"ldecode: entry 1 item 2: Unknown\n")?);
+            0,
+            0,
+            "ldecode: entry 0 item 0: Unknown\n",
+        ),
+        (
+            "--job find D0=r D1=h,skip=3,D8=l",
+            1,
+            2,
+            "ldecode: entry 1 item 2: Unknown\n",
+        ),
+    ] {
+        let why = BindWhy::Unknown;
+        let fault = Status::Bind(BindFault { entry, item, why });
+        assert!(rt;
+            refuses(rt.alloc(), words, fault, notice.as_bytes())?,
+            "{words}"
+        );
+    }
     Ok(())
 }
 

@@ -37,16 +37,16 @@ returns-in-Ok-clause-lists g c = λ before stands fresh.
     subst (λ (l : List g.row.M.Denot). Consumed machine.setup machine.consumed machine.outputs [] l
     → Lists (capture_by c.args.capture.now) (Gathered machine.outputs (map machine.setup l) shown c.collect.new.entries.items) (λ _. end ≡ NoMemory) before (left c.args.source.now) (left c.collect.new.source) end)
     c.deref_mut.ensures.value (c.collect.ensures.gathers before stands) fresh in
-    let new = g.K.Sink.written c.write_buffered.new.sink in
+    let new = g.K.Sink.written c.write_listing.new.sink in
     let other : end ≢ NoMemory = c.in_default.not-NoMemory in
     let sorted : c.deref.result.now ≡ in_order c.collect.new.entries.items = c.deref.ensures.value ∙ c.in-Ok.ensures.sorted in
     decodes_front (capture_by c.args.capture.now) (Gathered machine.outputs setups shown c.collect.new.entries.items) (λ _. end ≡ NoMemory) (samples_listing machine.outputs setups instances shown) before
     (left c.args.source.now) (left c.collect.new.source) old new
-    (λ given gathered. subst (λ (l : List ℕ). AppendsFront old new l) (gathered_listing machine.outputs setups instances shown c.collect.new.entries.items c.deref.result.now given sorted gathered) c.in-Err-write_buffered.ensures.front)
+    (λ given gathered. subst (λ (l : List ℕ). AppendsFront old new l) (gathered_listing machine.outputs setups instances shown c.collect.new.entries.items c.deref.result.now given sorted gathered) c.in-Err-write_listing.ensures.front)
     end other c.collect.ensures.unwritten lists
 
-pub returns-in-Ok-write_buffered-clause-lists : goal.returns-in-Ok-write_buffered-clause-lists
-returns-in-Ok-write_buffered-clause-lists g c = λ before stands fresh.
+pub returns-in-Ok-write_listing-clause-lists : goal.returns-in-Ok-write_listing-clause-lists
+returns-in-Ok-write_listing-clause-lists g c = λ before stands fresh.
     let machine = g.M.Machine in
     let setups = map machine.setup c.args.machines.items in
     let instances = instances_in c.args.stack.now in
@@ -59,12 +59,12 @@ returns-in-Ok-write_buffered-clause-lists g c = λ before stands fresh.
     subst (λ (l : List g.row.M.Denot). Consumed machine.setup machine.consumed machine.outputs [] l
     → Lists (capture_by c.args.capture.now) (Gathered machine.outputs (map machine.setup l) shown c.collect.new.entries.items) (λ _. end ≡ NoMemory) before (left c.args.source.now) (left c.collect.new.source) end)
     c.deref_mut.ensures.value (c.collect.ensures.gathers before stands) fresh in
-    let new = g.K.Sink.written c.write_buffered.new.sink in
+    let new = g.K.Sink.written c.write_listing.new.sink in
     let other : end ≢ NoMemory = c.in_default.not-NoMemory in
     let sorted : c.deref.result.now ≡ in_order c.collect.new.entries.items = c.deref.ensures.value ∙ c.in-Ok.ensures.sorted in
     decodes_whole (capture_by c.args.capture.now) (Gathered machine.outputs setups shown c.collect.new.entries.items) (λ _. end ≡ NoMemory) (samples_listing machine.outputs setups instances shown) before
     (left c.args.source.now) (left c.collect.new.source) old new
-    (λ given gathered. subst (λ (l : List ℕ). Appends old new l) (gathered_listing machine.outputs setups instances shown c.collect.new.entries.items c.deref.result.now given sorted gathered) (c.in-Ok-write_buffered.ensures.whole))
+    (λ given gathered. subst (λ (l : List ℕ). Appends old new l) (gathered_listing machine.outputs setups instances shown c.collect.new.entries.items c.deref.result.now given sorted gathered) (c.in-Ok-write_listing.ensures.whole))
     end other c.collect.ensures.unwritten lists
 
 pub returns-clause-lists : goal.returns-clause-lists

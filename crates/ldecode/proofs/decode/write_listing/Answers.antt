@@ -2,7 +2,7 @@ use Rattle.std.proofs.Common.{rules}
 use Rattle.la_io.proofs.Buffering.{front_through, front_handed}
 use Rattle.stack_spec.specs.Stacks.{instances_in}
 use Rattle.ldecode.specs.Decoding.{note_lines}
-use Rattle.ldecode.proofs.decode.write_buffered.Goals as goal
+use Rattle.ldecode.proofs.decode.write_listing.Goals as goal
 
 pub returns-in-Err-clause-front : goal.returns-in-Err-clause-front
 returns-in-Err-clause-front g c =
