@@ -13,7 +13,7 @@ use wait_cond::{Scan, Waiter};
 const MOST_SAMPLES: u64 = 1 << 60;
 
 /// A decoder of samples as a machine of any input: it waits for the samples that the decoder asks
-/// for, and stands for the samples that count. Those are all up to number 2^60; packets don't count.
+/// for, and stands for the samples that count. Those are all that are numbered below 2^60; packets don't count.
 #[derive(Drop)]
 pub struct Driver<L: LogicMachine> {
     machine: L,
