@@ -117,6 +117,8 @@ fn a_raw_capture_from_head_to_end(rt: HostRuntime) -> Result<(), Fail> {
     Ok(())
 }
 
+fn is_send<T: Send>(_: &T) {}
+
 #[test]
 fn the_head_of_a_raw_capture(rt: HostRuntime) -> Result<(), Fail> {
     let mut source = MemSource::new(Vec::new(rt.alloc()), [0].to_vec(rt.alloc())?);
@@ -132,6 +134,7 @@ fn the_head_of_a_raw_capture(rt: HostRuntime) -> Result<(), Fail> {
     assert_eq!(rt; capture.names().find(b"d1"), None);
     assert!(rt; capture.rate() == RATE);
     assert!(rt; capture.is_open());
+    is_send(&capture);
     longer_extends();
     fault_stays();
     head_stays();

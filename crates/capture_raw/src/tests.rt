@@ -16,7 +16,7 @@ use std::process::Abort;
 use std::test::Fail;
 
 // More than the answers of any test.
-const MANY: u32 = 2000;
+const MANY: u32 = 10_000;
 
 // A reader whose samples have these channels as bits.
 fn opened(channels: u32, pins: &[u32]) -> RawReader
@@ -207,6 +207,111 @@ fn what_no_pin_picks_parts_no_run(rt: HostRuntime) -> Result<(), Fail> {
         [(1, 70), (0, 1), (1, 129)].as_slice()
     );
     Ok(())
+}
+
+// The sample of a unit: bit j is bit `pins[j]` of the unit, whose lowest byte comes first.
+fn plain_sample(pins: &[u32], unit: &[u8]) -> Result<Word, Fail> {
+    let mut sample = 0;
+    for place in 0..MOST_PINS {
+        let Some(pin) = pins.get(place as usize) else {
+            break;
+        };
+        let byte = unit.get((*pin / 8) as usize).ok_or("no such channel")?;
+        if byte >> (*pin % 8) & 1 == 1 {
+            sample |= 1 << place;
+        }
+    }
+    Ok(sample)
+}
+
+// The samples of bytes, unit by unit.
+fn plain_samples(
+    alloc: Global,
+    channels: u32,
+    pins: &[u32],
+    bytes: &[u8],
+) -> Result<Vec<Word>, Fail>
+    requires { 1 ≤ channels }
+{
+    let mut samples = Vec::new(alloc);
+    for unit in bytes.chunks_exact(channels.div_ceil(8) as usize) {
+        samples.push(plain_sample(pins, unit)?)?;
+    }
+    Ok(samples)
+}
+
+// The number that comes next where numbers shall look random (xorshift).
+fn next_random(number: u64) -> u64 {
+    let mut next = number;
+    next ^= next << 13;
+    next ^= next >> 7;
+    next ^= next << 17;
+    next
+}
+
+// Bytes of units whose neighbours differ in noise alone, but for one channel, that changes behind
+// stretches of 1, 2, 3 .. units. So changes lie at all places of the blocks that are compared at once.
+fn stretches(alloc: Global, channels: u32) -> Result<Vec<u8>, Fail>
+    requires some { 1 ≤ channels }
+    requires few { channels ≤ MOST_PINS }
+{
+    let unit = channels.div_ceil(8) as usize;
+    let mut bytes = Vec::new(alloc);
+    let mut random = 1;
+    let mut value = 0x1234_5678_9abc_def0;
+    for channel in [channels / 2, channels - 1] {
+        // no noise, the lowest bit of each byte, the highest one, all
+        for (noise, most) in [
+            (0, 70),
+            (0x0101_0101_0101_0101, 35),
+            (0x8080_8080_8080_8080, 35),
+            (u64::MAX, 5),
+        ] {
+            for len in 1..most {
+                value ^= 1 << channel;
+                for _ in 0..len {
+                    random = next_random(random);
+                    let number: u64 = value ^ (random & noise);
+                    for byte in number.to_le_bytes().iter().take(unit) {
+                        bytes.push(*byte)?;
+                    }
+                }
+            }
+        }
+    }
+    Ok(bytes)
+}
+
+#[test]
+fn samples_are_those_of_each_unit_by_itself(rt: HostRuntime) -> Result<(), Fail> {
+    let alloc = rt.alloc();
+    for channels in [1, 8, 9, 16, 17, 64] {
+        assert!(rt; 1 <= channels && channels <= MOST_PINS);
+        let bytes = stretches(alloc, channels)?;
+        let high = channels - 1;
+        let lists: [&[u32]; 6] = [&[], &[0], &[high], &[0, high], &[high, 0], &[channels / 2]];
+        for pins in lists {
+            let samples = plain_samples(alloc, channels, pins, &bytes)?;
+            for size in [1, 7, 64, 1000, 100_000] {
+                let mut source = in_pieces(alloc, &bytes, size, &[])?;
+                let given = read_all(&rt, alloc, opened(channels, pins), &mut source)?;
+                assert_eq!(rt; given.last, Some(Ok(RawStep::End)));
+                assert_eq!(rt;
+                    given.samples(alloc)?,
+                    samples,
+                    "{channels} {pins:?} {size}"
+                );
+            }
+        }
+    }
+    Ok(())
+}
+
+fn is_send<T: Send>(_: &T) {}
+
+#[test]
+fn a_reader_can_go_to_another_thread() {
+    is_send(&opened(8, &[0]));
 }
 
 #[test]

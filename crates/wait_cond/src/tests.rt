@@ -1,11 +1,20 @@
 // Worked by hand from what each letter means.
+ghost use Rattle.std.specs.Prelude.{◌≤◌, ◌<◌};
+
 use crate::{
     Alt, AltWords, BindWhy, Cond, CondError, CondFault, CondWhy, ItemFault, Letter, Scan, Term,
     Waiter, bind_alt, read_alt,
 };
 use la_base::{MOST_PINS, Names, Pins, Run, Word};
 use std::alloc::Global;
+use std::process::Abort;
 use std::test::Fail;
+
+// The most samples of a list that is read sample by sample.
+const MOST: usize = 6;
+
+// For each sample of a list the set of the alternatives that are met where it is a stop, and else 0.
+type Stops = [u8; MOST];
 
 fn alt(letter: Letter, mask: Word, skip: u64) -> Alt {
     let mut alt = Alt {
@@ -138,6 +147,247 @@ fn a_long_run_takes_no_longer(rt: HostRuntime) {
     };
     let soonest = ((1 << 30) - 1, 0b1100, Some(rest));
     assert_eq!(rt; stop_in_a_long_run(cond), Some(soonest));
+}
+
+// Whether what a letter asks of a line is so.
+fn letter_holds(letter: Letter, line: u32, before: Option<Word>, now: Word) -> bool
+    requires { line < 64 }
+{
+    let is_high = has_line(now, line);
+    let was_high = match before {
+        Some(before) => Some(has_line(before, line)),
+        None => None,
+    };
+    match letter {
+        Letter::Low => !is_high,
+        Letter::High => is_high,
+        Letter::Rise => was_high == Some(false) && is_high,
+        Letter::Fall => was_high == Some(true) && !is_high,
+        Letter::Edge => was_high == Some(!is_high),
+        Letter::Steady => was_high != Some(!is_high),
+    }
+}
+
+fn has_line(lines: Word, line: u32) -> bool
+    requires { line < 64 }
+{
+    lines >> line & 1 == 1
+}
+
+// Whether all letters of an alternative hold.
+fn letters_hold(alt: &Alt, before: Option<Word>, now: Word) -> bool {
+    let asked = [
+        (Letter::Low, alt.low),
+        (Letter::High, alt.high),
+        (Letter::Rise, alt.rise),
+        (Letter::Fall, alt.fall),
+        (Letter::Edge, alt.edge),
+        (Letter::Steady, alt.steady),
+    ];
+    for (letter, lines) in asked {
+        for line in 0..2 {
+            if has_line(lines, line) && !letter_holds(letter, line, before, now) {
+                return false;
+            }
+        }
+    }
+    true
+}
+
+// How far a sample lies behind the last stop; before the first stop that is counted from place -1.
+fn behind_stop(stop: Option<usize>, at: usize) -> Option<usize> {
+    match stop {
+        Some(stop) => at.checked_sub(stop),
+        None => at.checked_add(1),
+    }
+}
+
+// The set of the alternatives that are met at a sample.
+fn plain_set(alts: &[Alt], before: Option<Word>, now: Word, behind: usize) -> u8 {
+    let mut set = 0;
+    for place in 0..8 {
+        let Some(alt) = alts.get(place) else {
+            break;
+        };
+        if alt.skip <= behind as u64 && letters_hold(alt, before, now) {
+            set |= 1 << place;
+        }
+    }
+    set
+}
+
+// All stops of a list of samples, sample by sample.
+fn plain_stops(alts: &[Alt], samples: &[Word]) -> Option<Stops> {
+    let mut stops = [0; MOST];
+    let mut before = None;
+    let mut last_stop = None;
+    for (place, (set, now)) in stops.iter_mut().zip(samples).enumerate() {
+        *set = plain_set(alts, before, *now, behind_stop(last_stop, place)?);
+        if *set != 0 {
+            last_stop = Some(place);
+        }
+        before = Some(*now);
+    }
+    Some(stops)
+}
+
+fn cond_of(alts: &[Alt]) -> Option<Cond> {
+    let (first, others) = alts.split_first()?;
+    let mut cond = Cond::one(*first);
+    for alt in others {
+        if cond.count() == 8 {
+            return None;
+        }
+        cond.add(*alt);
+    }
+    Some(cond)
+}
+
+// All stops of a list of samples that a waiter gets as runs of at most `most`.
+fn scanned_stops(alts: &[Alt], samples: &[Word], most: usize) -> Option<Stops>
+    requires { 1 ≤ most }
+{
+    let mut waiter = Waiter::new(cond_of(alts)?);
+    let mut stops = [0; MOST];
+    for equal in samples.chunk_by(|a, b| a == b) {
+        for piece in equal.chunks(most) {
+            scan_piece(&mut waiter, piece, &mut stops)?;
+        }
+    }
+    if waiter.consumed() != samples.len() as u64 {
+        return None;
+    }
+    Some(stops)
+}
+
+// Scans equal samples as one run, up to its end.
+fn scan_piece(waiter: &mut Waiter, samples: &[Word], stops: &mut Stops) -> Option<()> {
+    let mut next = Some(Run {
+        value: *samples.first()?,
+        len: samples.len() as u64,
+    });
+    for _ in 0..=MOST {
+        let Some(run) = next else {
+            return Some(());
+        };
+        if 50 < waiter.consumed() || run.len > MOST as u64 {
+            return None;
+        }
+        match waiter.scan(run) {
+            Scan::Met {
+                at,
+                value,
+                met,
+                rest,
+            } => {
+                if value != run.value {
+                    return None;
+                }
+                *stops.get_mut(at as usize)? = met;
+                next = rest;
+            }
+            Scan::Through => next = None,
+        }
+    }
+    None
+}
+
+// Each of these lists with one more sample, that is below `values`.
+fn longer(alloc: Global, lists: &[Vec<Word>], values: Word) -> Result<Vec<Vec<Word>>, Fail> {
+    let mut longer = Vec::new(alloc);
+    for list in lists {
+        for value in 0..values {
+            let mut list = list.clone()?;
+            list.push(value)?;
+            longer.push(list)?;
+        }
+    }
+    Ok(longer)
+}
+
+// All lists of so many samples below `values`; the shorter lists are their fronts.
+fn all_lists(alloc: Global, values: Word, count: usize) -> Result<Vec<Vec<Word>>, Fail> {
+    let mut lists = Vec::new(alloc);
+    lists.push(Vec::new(alloc))?;
+    for _ in 0..count {
+        lists = longer(alloc, &lists, values)?;
+    }
+    Ok(lists)
+}
+
+// Each letter on these lines, with each skip up to 4.
+fn alts_on(alloc: Global, lines: Word) -> Result<Vec<Alt>, Fail> {
+    let letters = [
+        Letter::Low,
+        Letter::High,
+        Letter::Rise,
+        Letter::Fall,
+        Letter::Edge,
+        Letter::Steady,
+    ];
+    let mut alts = Vec::new(alloc);
+    for letter in letters {
+        for skip in 0..5 {
+            alts.push(alt(letter, lines, skip))?;
+        }
+    }
+    Ok(alts)
+}
+
+// The alternative that asks all that two alternatives ask.
+fn joined(a: &Alt, b: &Alt) -> Alt {
+    Alt {
+        low: a.low | b.low,
+        high: a.high | b.high,
+        rise: a.rise | b.rise,
+        fall: a.fall | b.fall,
+        edge: a.edge | b.edge,
+        steady: a.steady | b.steady,
+        skip: a.skip.max(b.skip),
+    }
+}
+
+// Compares the stops in these lists, in whole runs and cut ones.
+fn compare(rt: &impl Abort, alts: &[Alt], lists: &[Vec<Word>]) {
+    for samples in lists {
+        let plain = plain_stops(alts, samples);
+        assert!(rt; plain.is_some());
+        for most in [1, 2, 3, MOST] {
+            let scanned = scanned_stops(alts, samples, most);
+            assert_eq!(rt; scanned, plain, "{alts:?} at {samples:?} in runs of {most}");
+        }
+    }
+}
+
+#[test]
+fn one_or_two_alternatives_stop_at_the_samples_that_meet_them(rt: HostRuntime) -> Result<(), Fail> {
+    let alloc = rt.alloc();
+    for (first, second, values, count) in [(0b01, 0b01, 2, 6), (0b01, 0b10, 4, 3)] {
+        let lists = all_lists(alloc, values, count)?;
+        let others = alts_on(alloc, second)?;
+        for alt in &alts_on(alloc, first)? {
+            compare(&rt, &[*alt], &lists);
+            for other in &others {
+                compare(&rt, &[*alt, *other], &lists);
+            }
+        }
+    }
+    Ok(())
+}
+
+#[test]
+fn letters_on_two_lines_stop_at_the_samples_where_both_hold(rt: HostRuntime) -> Result<(), Fail> {
+    let alloc = rt.alloc();
+    let lists = all_lists(alloc, 4, 5)?;
+    let others = alts_on(alloc, 0b10)?;
+    for alt in &alts_on(alloc, 0b01)? {
+        for other in &others {
+            if alt.skip == other.skip {
+                compare(&rt, &[joined(alt, other)], &lists);
+            }
+        }
+    }
+    Ok(())
 }
 
 #[test]
