@@ -1,4 +1,12 @@
 // What `--help` and `--version` tell.
+ghost use Rattle.std.specs.Prelude.{◌≡◌, ◌++◌, IfOk, codes};
+ghost use Rattle.std.specs.String.{string_bytes};
+ghost use Rattle.decoder_set.specs.Kinds.{kind_row};
+ghost use Rattle.decoder_set.specs.declared.table.TheConstants.{KINDS};
+ghost use Rattle.words.specs.declared.options.TheConstants.{OPTIONS};
+ghost use Rattle.ldecode_main.specs.Help.{IsHelp, TellsKind, TellsOption, option_lines};
+ghost use Rattle.ldecode_main.specs.declared.help.TheConstants.{USAGE, DECODERS, EXAMPLES};
+
 use decoder_set::{KINDS, Kind, OptForm, kind_name, options_of};
 use std::alloc::{AllocError, Global};
 use words::{Name, OPTIONS};
@@ -39,7 +47,9 @@ Where D0 rises while D3 is low:
 ";
 
 /// What `--help` tells: the jobs, the options, the decoders, and an example of each job.
-pub fn help_text(alloc: Global) -> Result<String, AllocError> {
+pub fn help_text(alloc: Global) -> Result<String, AllocError>
+    ensures { IfOk result (λ text. IsHelp USAGE.now DECODERS.now EXAMPLES.now OPTIONS KINDS (string_bytes text)) }
+{
     let mut text = String::from_str(alloc, USAGE)?;
     for name in OPTIONS {
         text.push_str(option_text(alloc, name)?.as_str())?;
@@ -52,18 +62,40 @@ pub fn help_text(alloc: Global) -> Result<String, AllocError> {
     Ok(text)
 }
 
+// The lines of an option.
+fn option_lines(
+    alloc: Global,
+    name: &str,
+    sets: &str,
+    values: &str,
+    usual: &str,
+) -> Result<String, AllocError>
+    ensures { IfOk result (λ text. string_bytes text ≡ option_lines name.now sets.now values.now usual.now) }
+{
+    format!(in alloc; "  --{name}\n      {sets}\n      values: {values}; usual: {usual}\n")
+}
+
 // One option of the program.
-fn option_text(alloc: Global, name: Name) -> Result<String, AllocError> {
+fn option_text(alloc: Global, name: Name) -> Result<String, AllocError>
+    ensures { IfOk result (λ text. TellsOption name (string_bytes text)) }
+{
     let row = name.row();
-    format!(in alloc;
-        "  --{}\n      {}\n      values: {}; usual: {}\n",
-        row.name, row.help, row.takes, row.usual
-    )
+    let values = format!(in alloc; "{}", row.takes)?;
+    option_lines(alloc, row.name, row.help, values.as_str(), row.usual)
+}
+
+// The line of a decoder.
+fn kind_line(alloc: Global, kind: Kind) -> Result<String, AllocError>
+    ensures { IfOk result (λ text. string_bytes text ≡ codes "  " ++ (kind_row kind).name ++ codes "\n") }
+{
+    format!(in alloc; "  {}\n", kind_name(kind))
 }
 
 // One decoder with its options.
-fn kind_text(alloc: Global, kind: Kind) -> Result<String, AllocError> {
-    let mut text = format!(in alloc; "  {}\n", kind_name(kind))?;
+fn kind_text(alloc: Global, kind: Kind) -> Result<String, AllocError>
+    ensures { IfOk result (λ text. TellsKind kind (string_bytes text)) }
+{
+    let mut text = kind_line(alloc, kind)?;
     for row in options_of(kind) {
         let takes = takes_text(alloc, row.form)?;
         text.push_str(format!(in alloc; "      {}: {takes}\n", row.name)?.as_str())?;
