@@ -2,7 +2,7 @@
 use Rattle.std.proofs.Common.{◌≡◌, ℕ, ◌≤◌, ◌^◌, List, [], ◌++◌, refl, sym, ◌∙◌, ap, subst, arith}
 use Rattle.la_base.specs.declared.samples.Rate.{Rate}
 use Rattle.la_io.specs.declared.fault.CaptureFault.{CaptureFault}
-use Rattle.la_io.specs.Capture.{Stop, Cut, Good, Bad}
+use Rattle.la_io.specs.Capture.{Told, Cut, Good, Bad}
 use Rattle.capture_raw.proofs.Captures.{unit_some, settled_longer, fault_stays}
 use Rattle.capture_raw.proofs.Standing.{given_front}
 use Rattle.capture_raw.specs.Raw.{raw_names, raw_capture}
@@ -15,7 +15,7 @@ use Rattle.capture_any.specs.declared.reader.Reader.{Reader}
 use Rattle.capture_any.specs.declared.reader.Reader.TheVariants.{Raw as OfRaw}
 
 -- a raw capture has a good head from the first
-pub raw_head : (channels : ℕ) (rate : Rate) (pins bytes : List ℕ) (told : Stop) → (raw_capture channels rate pins bytes told).head ≡ Good (raw_names channels) rate
+pub raw_head : (channels : ℕ) (rate : Rate) (pins bytes : List ℕ) (told : Told) → (raw_capture channels rate pins bytes told).head ≡ Good (raw_names channels) rate.num rate.den
 unfolding raw_capture
 raw_head channels rate pins bytes told = refl
 
@@ -25,12 +25,12 @@ longer_extends (Raw channels rate) pins front more told is = settled_longer chan
 pub faults_stay : FaultStays
 faults_stay (Raw channels rate) pins front more told fault is = fault_stays channels rate pins front more told fault is
 
-good_stays : (form : Form) (pins front more : List ℕ) (told : Stop) (names : List (List ℕ)) (rate : Rate)
-    → (capture_of form pins front Cut).head ≡ Good names rate → (capture_of form pins (front ++ more) told).head ≡ Good names rate
+good_stays : (form : Form) (pins front more : List ℕ) (told : Told) (names : List (List ℕ)) (num den : ℕ)
+    → (capture_of form pins front Cut).head ≡ Good names num den → (capture_of form pins (front ++ more) told).head ≡ Good names num den
 unfolding raw_capture
-good_stays (Raw channels rate) pins front more told names is_rate is = is
+good_stays (Raw channels rate) pins front more told names num den is = is
 
-bad_stays : (form : Form) (pins front more : List ℕ) (told : Stop) (fault : CaptureFault)
+bad_stays : (form : Form) (pins front more : List ℕ) (told : Told) (fault : CaptureFault)
     → (capture_of form pins front Cut).head ≡ Bad fault → (capture_of form pins (front ++ more) told).head ≡ Bad fault
 unfolding raw_capture
 bad_stays (Raw channels rate) pins front more told fault is = is
@@ -45,17 +45,17 @@ pub pins_leave_the_head : PinsLeaveTheHead
 unfolding raw_capture
 pins_leave_the_head (Raw channels rate) pins others bytes told = refl
 
-front_in : (reader : Reader) (bytes given : List ℕ) (told : Stop) → StandsIn reader bytes given → given_in reader ≤ 2 ^ 60
+front_in : (reader : Reader) (bytes : List ℕ) (told : Told) (given : List ℕ) → StandsIn reader bytes told given → given_in reader ≤ 2 ^ 60
     → (rest : List ℕ) × ((capture_of (form_in reader) (pins_in reader) bytes told).settled ≡ given ++ rest)
-front_in (OfRaw reader) bytes given told st few = given_front reader.channels (unit_some reader.channels reader.channels_fit.0) reader.rate reader.pins.items reader.held bytes given told st few
+front_in (OfRaw reader) bytes told given st few = given_front reader.channels (unit_some reader.channels reader.channels_fit.0) reader.rate reader.pins.items reader.held bytes given told st.1 few
 
 -- what a reader has given are the first samples that its bytes settle, also where it gives no more
 pub given_is_front : GivenIsFront
-given_is_front capture bytes given told st = front_in capture.reader bytes given told st.stands st.few
+given_is_front capture bytes told given st = front_in capture.reader bytes told given st.stands st.few
 
 -- the head of a form that is opened
 pub opened_head : (form : Form) (channels : ℕ) (rate : Rate) (names : List (List ℕ)) → Raw channels rate ≡ form → names ≡ raw_names channels
-    → (capture_of form [] [] Cut).head ≡ Good names rate
+    → (capture_of form [] [] Cut).head ≡ Good names rate.num rate.den
 opened_head form channels rate names is named =
-    let Q : Form → Type 0 = λ (f : Form). (capture_of f [] [] Cut).head ≡ Good names rate in
-    subst Q is (raw_head channels rate [] [] Cut ∙ ap (λ (l : List (List ℕ)). Good l rate) (sym named))
+    let Q : Form → Type 0 = λ (f : Form). (capture_of f [] [] Cut).head ≡ Good names rate.num rate.den in
+    subst Q is (raw_head channels rate [] [] Cut ∙ ap (λ (l : List (List ℕ)). Good l rate.num rate.den) (sym named))

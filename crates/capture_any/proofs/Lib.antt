@@ -1,3 +1,5 @@
 pub mod Naming
+mod Answering
+pub mod Telling
 pub mod CaptureLaws
 pub mod ListingLemmas

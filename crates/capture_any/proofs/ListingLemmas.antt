@@ -7,8 +7,9 @@ use Rattle.la_base.specs.Samples.{samples}
 use Rattle.la_base.specs.declared.samples.Run.{Run}
 use Rattle.la_io.specs.declared.fault.CaptureError.TheVariants.{Fault as FaultError, Read as ReadError, NoMemory as NoMemoryError}
 use Rattle.la_io.specs.declared.fault.CaptureFault.{CaptureFault}
-use Rattle.la_io.specs.Capture.{Stop, AtEnd, Cut, Ending, Captured, Ends}
-use Rattle.capture_any.specs.Captures.{capture_of}
+use Rattle.la_io.specs.Capture.{Told, AtEnd, Cut, Ending, Captured, Ends}
+use Rattle.capture_any.specs.Captures.{capture_of, Later, ToldAt}
+use Rattle.capture_any.proofs.Telling.{later_on, later_still}
 use Rattle.capture_any.specs.Listings.{SettledFront, Says, Lists}
 use Rattle.capture_any.specs.Reading.{Stands, Next, form_of, pins_of, capture_by}
 use Rattle.capture_any.specs.declared.capture.Capture.{Capture}
@@ -17,27 +18,38 @@ use Rattle.capture_any.specs.declared.end.ListingEnd.TheVariants.{Done, Read, Wr
 use Rattle.capture_any.proofs.CaptureLaws.{given_is_front}
 
 -- behind the bytes `before` the reader has taken bytes, and given these samples in all
-pub record Gave (capture : Capture) (before : List ℕ) (left_old left_now : Option (List ℕ)) (given : List ℕ) : Type 0 where
+pub record Gave (capture : Capture) (before : List ℕ) (then : Told) (left_old left_now : Option (List ℕ)) (given : List ℕ) : Type 0 where
   pub bytes : List ℕ
+  pub told : Told
+  pub later : Later then bytes told
   pub taken : Consumes left_old left_now bytes
-  pub stands : Stands capture (before ++ bytes) given
+  pub at_end : ToldAt told left_now
+  pub stands : Stands capture (before ++ bytes) told given
 
 -- nothing was taken yet
-pub gave_nothing : (capture : Capture) (before : List ℕ) (left : Option (List ℕ)) → Stands capture before [] → Gave capture before left left []
-gave_nothing capture before left stands = record {
+pub gave_nothing : (capture : Capture) (before : List ℕ) (told : Told) (left : Option (List ℕ)) → ToldAt told left → Stands capture before told [] → Gave capture before told left left []
+gave_nothing capture before told left at stands = record {
   bytes = [];
+  told = told;
+  later = later_still told;
   taken = Consumes-nil left;
-  stands = subst (λ (l : List ℕ). Stands capture l []) (sym (append-nil before)) stands;
+  at_end = at;
+  stands = subst (λ (l : List ℕ). Stands capture l told []) (sym (append-nil before)) stands;
 }
 
 -- a run was given
-pub gave_run : (old new : Capture) (before : List ℕ) (left_old left_now left_new : Option (List ℕ)) (given : List ℕ) (run : Run) → Gave old before left_old left_now given
-    → Next old new left_now left_new (Ok (Some run)) → Gave new before left_old left_new (given ++ samples run)
-gave_run old new before left_old left_now left_new given run so_far next = record {
-  bytes = so_far.bytes ++ next.bytes;
-  taken = Consumes-trans left_old left_now left_new so_far.bytes next.bytes so_far.taken next.consumed;
-  stands = subst (λ (l : List ℕ). Stands new l (given ++ samples run)) (append_assoc before so_far.bytes next.bytes) (next.answers (before ++ so_far.bytes) given so_far.stands);
-}
+pub gave_run : (old new : Capture) (before : List ℕ) (then : Told) (left_old left_now left_new : Option (List ℕ)) (given : List ℕ) (run : Run) → Gave old before then left_old left_now given
+    → Next old new left_now left_new (Ok (Some run)) → Gave new before then left_old left_new (given ++ samples run)
+gave_run old new before then left_old left_now left_new given run so_far next =
+    let answer = next.answers (before ++ so_far.bytes) so_far.told given so_far.at_end so_far.stands in
+    record {
+      bytes = so_far.bytes ++ next.bytes;
+      told = answer.told;
+      later = later_on then so_far.told answer.told so_far.bytes next.bytes so_far.later answer.later;
+      taken = Consumes-trans left_old left_now left_new so_far.bytes next.bytes so_far.taken next.consumed;
+      at_end = answer.at_end;
+      stands = subst (λ (l : List ℕ). Stands new l answer.told (given ++ samples run)) (append_assoc before so_far.bytes next.bytes) answer.answers;
+    }
 
 -- form and pins are the same
 pub record SameCapture (first now : Capture) : Type 0 where
@@ -60,30 +72,31 @@ same_on first now next same form pins = record {
 pub same_by : (first now : Capture) → SameCapture first now → capture_by now ≡ capture_by first
 same_by first now same = λ i bytes told. capture_of (same.form i) (same.pins i) bytes told
 
-module _ (first new : Capture) (same : SameCapture first new) (Whole Front : List ℕ → Type 0) (before : List ℕ) (left_old left_new : Option (List ℕ)) (given : List ℕ) where
+module _ (first new : Capture) (same : SameCapture first new) (Whole Front : List ℕ → Type 0) (before : List ℕ) (then : Told) (left_old left_new : Option (List ℕ)) (given : List ℕ) where
   -- a front was written of what those samples list that were given, and more
-  pub lists_write : Gave new before left_old left_new given → ((rest : List ℕ) → Front (given ++ rest)) → Lists (capture_by first) Whole Front before left_old left_new Write
+  pub lists_write : Gave new before then left_old left_new given → ((rest : List ℕ) → Front (given ++ rest)) → Lists (capture_by first) Whole Front before then left_old left_new Write
   lists_write now front =
       let all = before ++ now.bytes in
-      let settled = given_is_front new all given Cut now.stands in
-      let is : (capture_by first (take (length all) all) Cut).settled ≡ given ++ settled.0 =
-      (λ i. (capture_of (sym same.form i) (sym same.pins i) (take_all (length all) all (omega arith) i) Cut).settled) ∙ settled.1 in
+      let settled = given_is_front new all now.told given now.stands in
+      let is : (capture_by first (take (length all) all) now.told).settled ≡ given ++ settled.0 =
+      (λ i. (capture_of (sym same.form i) (sym same.pins i) (take_all (length all) all (omega arith) i) now.told).settled) ∙ settled.1 in
       record {
         bytes = now.bytes;
-        told = Cut;
+        told = now.told;
+        later = now.later;
         taken = now.taken;
-        at_end = λ e. cc;
+        at_end = now.at_end;
         says = record {
           count = length all;
           within = omega arith;
-          how = Cut;
-          cut = λ less. refl;
+          how = now.told;
+          cut = λ less. absurd (omega (arith, less));
           whole = λ e. refl;
           front = subst Front (sym is) (front settled.0);
         };
       }
 
-  module _ (old : Capture) (left_now : Option (List ℕ)) (so_far : Gave old before left_old left_now given) where
+  module _ (old : Capture) (left_now : Option (List ℕ)) (so_far : Gave old before then left_old left_now given) where
     -- what was taken in all
     module _ (bytes : List ℕ) (consumed : Consumes left_now left_new bytes) where
       abbrev all : List ℕ
@@ -92,73 +105,81 @@ module _ (first new : Capture) (same : SameCapture first new) (Whole Front : Lis
       all_taken : Consumes left_old left_new all
       all_taken = Consumes-trans left_old left_now left_new so_far.bytes bytes so_far.taken consumed
 
-      all_ends : (told : Stop) (how : Ending) → Ends (capture_by new (before ++ so_far.bytes ++ bytes) told) given how → Ends (capture_by first (before ++ all) told) given how
+      all_later : (now : Told) → Later so_far.told bytes now → Later then all now
+      all_later now later = later_on then so_far.told now so_far.bytes bytes so_far.later later
+
+      all_ends : (told : Told) (how : Ending) → Ends (capture_by new (before ++ so_far.bytes ++ bytes) told) given how → Ends (capture_by first (before ++ all) told) given how
       all_ends told how ends =
           subst (λ (c : Captured). Ends c given how) (λ i. capture_of (same.form i) (same.pins i) (append_assoc before so_far.bytes bytes i) told) ends
 
     -- the capture ended, and the listing is whole
-    pub lists_done : Next old new left_now left_new (Ok None) → Whole given → Lists (capture_by first) Whole Front before left_old left_new Done
+    pub lists_done : Next old new left_now left_new (Ok None) → Whole given → Lists (capture_by first) Whole Front before then left_old left_new Done
     lists_done next whole =
-        let answer = next.answers (before ++ so_far.bytes) given so_far.stands in
-        let ends = all_ends next.bytes next.consumed AtEnd _ answer.1 in
+        let answer = next.answers (before ++ so_far.bytes) so_far.told given so_far.at_end so_far.stands in
+        let ends = all_ends next.bytes next.consumed answer.told _ answer.answers.1 in
         record {
           bytes = so_far.bytes ++ next.bytes;
-          told = AtEnd;
+          told = answer.told;
+          later = all_later next.bytes next.consumed answer.told answer.later;
           taken = all_taken next.bytes next.consumed;
-          at_end = λ e. answer.0;
-          says = (refl, ends.ending, subst Whole (sym ends.settled) whole);
+          at_end = answer.at_end;
+          says = (answer.answers.0, ends.ending, subst Whole (sym ends.settled) whole);
         }
 
     -- the capture has a fault, and the listing of what came before it is whole
-    pub lists_fault : (fault : CaptureFault) → Next old new left_now left_new (Err (FaultError fault)) → Whole given → Lists (capture_by first) Whole Front before left_old left_new (Fault fault)
+    pub lists_fault : (fault : CaptureFault) → Next old new left_now left_new (Err (FaultError fault)) → Whole given → Lists (capture_by first) Whole Front before then left_old left_new (Fault fault)
     lists_fault fault next whole =
-        let answer = next.answers (before ++ so_far.bytes) given so_far.stands in
-        let ends = all_ends next.bytes next.consumed answer.0 _ answer.2 in
+        let answer = next.answers (before ++ so_far.bytes) so_far.told given so_far.at_end so_far.stands in
+        let ends = all_ends next.bytes next.consumed answer.told _ answer.answers in
         record {
           bytes = so_far.bytes ++ next.bytes;
-          told = answer.0;
+          told = answer.told;
+          later = later_on then so_far.told answer.told so_far.bytes next.bytes so_far.later answer.later;
           taken = all_taken next.bytes next.consumed;
-          at_end = answer.1;
+          at_end = answer.at_end;
           says = (ends.ending, subst Whole (sym ends.settled) whole);
         }
 
     -- the source failed, and the listing of what came before is whole
-    pub lists_read : Next old new left_now left_new (Err ReadError) → Whole given → Lists (capture_by first) Whole Front before left_old left_new Read
+    pub lists_read : Next old new left_now left_new (Err ReadError) → Whole given → Lists (capture_by first) Whole Front before then left_old left_new Read
     lists_read next whole =
-        let ends = all_ends next.bytes next.consumed Cut _ (next.answers (before ++ so_far.bytes) given so_far.stands) in
+        let answer = next.answers (before ++ so_far.bytes) so_far.told given so_far.at_end so_far.stands in
+        let ends = all_ends next.bytes next.consumed answer.told _ answer.answers.1 in
         record {
           bytes = so_far.bytes ++ next.bytes;
-          told = Cut;
+          told = answer.told;
+          later = all_later next.bytes next.consumed answer.told answer.later;
           taken = all_taken next.bytes next.consumed;
-          at_end = λ e. cc;
-          says = (refl, subst Whole (sym ends.settled) whole);
+          at_end = answer.at_end;
+          says = (answer.answers.0, subst Whole (sym ends.settled) whole);
         }
 
     -- there was no memory to read on, and a front of the listing of what came before is written
-    pub lists_no_memory : Next old new left_now left_new (Err NoMemoryError) → Front given → Lists (capture_by first) Whole Front before left_old left_new NoMemory
+    pub lists_no_memory : Next old new left_now left_new (Err NoMemoryError) → Front given → Lists (capture_by first) Whole Front before then left_old left_new NoMemory
     lists_no_memory next front =
-        let answer = next.answers (before ++ so_far.bytes) given so_far.stands in
+        let answer = next.answers (before ++ so_far.bytes) so_far.told given so_far.at_end so_far.stands in
         let joined = append_assoc before so_far.bytes next.bytes in
-        let is : given ≡ (capture_by first (take answer.0 (before ++ (so_far.bytes ++ next.bytes))) Cut).settled =
-        answer.2 ∙ (λ i. (capture_of (same.form i) (same.pins i) (take answer.0 (joined i)) Cut).settled) in
+        let is : given ≡ (capture_by first (take answer.answers.0 (before ++ (so_far.bytes ++ next.bytes))) Cut).settled =
+        answer.answers.2 ∙ (λ i. (capture_of (same.form i) (same.pins i) (take answer.answers.0 (joined i)) Cut).settled) in
         record {
           bytes = so_far.bytes ++ next.bytes;
-          told = Cut;
+          told = answer.told;
+          later = all_later next.bytes next.consumed answer.told answer.later;
           taken = all_taken next.bytes next.consumed;
-          at_end = λ e. cc;
+          at_end = answer.at_end;
           says = record {
-            count = answer.0;
-            within = omega (arith, answer.1, ap length joined);
+            count = answer.answers.0;
+            within = omega (arith, answer.answers.1, ap length joined);
             how = Cut;
             cut = λ less. refl;
-            whole = λ e. refl;
+            whole = λ e. absurd (omega (arith, e, answer.answers.1, ap length joined));
             front = subst Front is front;
           };
         }
 
-module _ (capture : List ℕ → Stop → Captured) (Whole Front : List ℕ → Type 0) (before : List ℕ) (left_old left_new : Option (List ℕ)) where
+module _ (capture : List ℕ → Told → Captured) (Whole Front : List ℕ → Type 0) (before : List ℕ) (then : Told) (left_old left_new : Option (List ℕ)) where
   module _ (More : List ℕ → Type 0) (on : (given : List ℕ) → Front given → More given) where
-    front_on : (bytes : List ℕ) (told : Stop) → SettledFront capture Front bytes told → SettledFront capture More bytes told
+    front_on : (bytes : List ℕ) (told : Told) → SettledFront capture Front bytes told → SettledFront capture More bytes told
     front_on bytes told front = record {
       count = front.count;
       within = front.within;
@@ -169,10 +190,11 @@ module _ (capture : List ℕ → Stop → Captured) (Whole Front : List ℕ → 
     }
 
     -- what was written is written otherwise, whole where it was whole and a front where it was a front
-    pub lists_on : (All : List ℕ → Type 0) → ((given : List ℕ) → Whole given → All given) → (end : ListingEnd) → Lists capture Whole Front before left_old left_new end → Lists capture All More before left_old left_new end
+    pub lists_on : (All : List ℕ → Type 0) → ((given : List ℕ) → Whole given → All given) → (end : ListingEnd) → Lists capture Whole Front before then left_old left_new end → Lists capture All More before then left_old left_new end
     lists_on All all_on end lists = record {
       bytes = lists.bytes;
       told = lists.told;
+      later = lists.later;
       taken = lists.taken;
       at_end = lists.at_end;
       says = says_on end lists.says;
@@ -184,7 +206,7 @@ module _ (capture : List ℕ → Stop → Captured) (Whole Front : List ℕ → 
       says_on (Fault fault) s = (s.0, all_on _ s.1)
       says_on NoMemory s = front_on (before ++ lists.bytes) lists.told s
 
-    module _ (cut : (given : List ℕ) → Whole given → More given) (end : ListingEnd) (lists : Lists capture Whole Front before left_old left_new end) where
+    module _ (cut : (given : List ℕ) → Whole given → More given) (end : ListingEnd) (lists : Lists capture Whole Front before then left_old left_new end) where
       cut_front : Whole (capture (before ++ lists.bytes) lists.told).settled → SettledFront capture More (before ++ lists.bytes) lists.told
       cut_front whole =
           let all = before ++ lists.bytes in
@@ -206,10 +228,11 @@ module _ (capture : List ℕ → Stop → Captured) (Whole Front : List ℕ → 
       cut_says NoMemory s = front_on (before ++ lists.bytes) lists.told s
 
       -- a later write failed, so a front of it is written
-      pub lists_cut : (All : List ℕ → Type 0) → Lists capture All More before left_old left_new Write
+      pub lists_cut : (All : List ℕ → Type 0) → Lists capture All More before then left_old left_new Write
       lists_cut All = record {
         bytes = lists.bytes;
         told = lists.told;
+        later = lists.later;
         taken = lists.taken;
         at_end = lists.at_end;
         says = cut_says end lists.says;

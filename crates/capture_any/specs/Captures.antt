@@ -1,14 +1,24 @@
 -- What the bytes of a capture give, by its form.
-use Rattle.std.specs.Prelude.{ℕ, ◌≤◌, ◌^◌, List}
+use Rattle.std.specs.Prelude.{ℕ, ◌≡◌, ◌≤◌, ◌^◌, List, [], Option}
+use Rattle.std.specs.Io.KnownBytes.{IsAtEnd}
 use Rattle.la_base.specs.declared.samples.TheConstants.{MOST_PINS}
-use Rattle.la_io.specs.Capture.{Stop, Captured}
+use Rattle.la_io.specs.Capture.{Told, AtEnd, Captured}
 use Rattle.capture_raw.specs.Raw.{raw_capture}
 use Rattle.capture_any.specs.declared.form.Form.{Form}
 use Rattle.capture_any.specs.declared.form.Form.TheVariants.{Raw}
 
 -- what bytes give in this form, with these channels as the bits of the samples
-abbrev pub capture_of : Form → List ℕ → List ℕ → Stop → Captured
+abbrev pub capture_of : Form → List ℕ → List ℕ → Told → Captured
 capture_of (Raw channels rate) pins bytes told = raw_capture channels rate pins bytes told
+
+-- the source told its end only where no byte is left
+abbrev pub ToldAt : Told → Option (List ℕ) → Type 0
+ToldAt told left = told ≡ AtEnd → IsAtEnd left
+
+-- these bytes were taken since then: none where the end was told, and it stays told
+pub record Later (then : Told) (bytes : List ℕ) (now : Told) : Type 0 where
+  pub none : then ≡ AtEnd → bytes ≡ []
+  pub still : then ≡ AtEnd → now ≡ AtEnd
 
 -- a form that can be opened
 abbrev pub IsForm : Form → Type 0

@@ -1,15 +1,15 @@
 -- What a reader of a capture stands for, and what its answers mean.
-use Rattle.std.specs.Prelude.{ℕ, ◌≡◌, ◌≤◌, ◌^◌, Bool, true, false, List, [], ◌++◌, length, take, Option, Some, None, Result, Ok, Err}
+use Rattle.std.specs.Prelude.{ℕ, ◌≡◌, ◌≤◌, ◌<◌, ◌^◌, Bool, true, false, List, [], ◌++◌, length, take, Option, Some, None, Result, Ok, Err}
 use Rattle.std.specs.Io.KnownBytes.{Consumes, IsAtEnd}
 use Rattle.la_base.specs.Samples.{samples}
 use Rattle.la_base.specs.declared.samples.Rate.{Rate}
 use Rattle.la_base.specs.declared.samples.Run.{Run}
 use Rattle.la_io.specs.declared.fault.CaptureError.{CaptureError}
 use Rattle.la_io.specs.declared.fault.CaptureError.TheVariants.{Fault, Read, NoMemory}
-use Rattle.la_io.specs.Capture.{Stop, AtEnd, Cut, Good, Bad, Unread, Clean, Faulty, Open, Captured, Ends}
+use Rattle.la_io.specs.Capture.{Told, AtEnd, Cut, Good, Bad, Unread, Clean, Faulty, Open, Captured, Ends}
 use Rattle.la_io.specs.Causes.{Rose}
 use Rattle.capture_raw.specs.Reader.{Stands as RawStands, raw_channels, raw_rate, raw_pins, raw_open, raw_given}
-use Rattle.capture_any.specs.Captures.{capture_of}
+use Rattle.capture_any.specs.Captures.{capture_of, Later, ToldAt}
 use Rattle.capture_any.specs.declared.capture.Capture.{Capture}
 use Rattle.capture_any.specs.declared.form.Form.{Form}
 use Rattle.capture_any.specs.declared.form.Form.TheVariants.{Raw}
@@ -36,9 +36,9 @@ open_in (OfRaw reader) = raw_open reader
 abbrev pub given_in : Reader → ℕ
 given_in (OfRaw reader) = raw_given reader
 
--- it took these bytes, and gave these samples
-abbrev pub StandsIn : Reader → List ℕ → List ℕ → Type 0
-StandsIn (OfRaw reader) bytes given = RawStands reader bytes given
+-- it took these bytes, whose end the source told or not, and gave these samples; a raw reader that is told the end gives no more
+abbrev pub StandsIn : Reader → List ℕ → Told → List ℕ → Type 0
+StandsIn (OfRaw reader) bytes told given = (told ≡ Cut) × RawStands reader bytes given
 
 -- the form that a capture was opened with
 abbrev pub form_of : Capture → Form
@@ -64,28 +64,35 @@ is_open_of capture = open_in capture.reader
 abbrev pub given_by : Capture → ℕ
 given_by capture = given_in capture.reader
 
--- it took these bytes, and gave these samples
-pub record Stands (capture : Capture) (bytes given : List ℕ) : Type 0 where
-  pub stands : StandsIn capture.reader bytes given
+-- it took these bytes, whose end the source told or not, and gave these samples
+pub record Stands (capture : Capture) (bytes : List ℕ) (told : Told) (given : List ℕ) : Type 0 where
+  pub stands : StandsIn capture.reader bytes told given
   pub few : given_by capture ≤ 2 ^ 60
 
 -- what these bytes give, with its form and pins
-abbrev pub capture_by : Capture → List ℕ → Stop → Captured
+abbrev pub capture_by : Capture → List ℕ → Told → Captured
 capture_by capture bytes told = capture_of (form_of capture) (pins_of capture) bytes told
 
--- what an answer means, where these bytes were taken and these samples were given before it
-abbrev pub Answers : Capture → Option (List ℕ) → List ℕ → List ℕ → Result (Option Run) CaptureError → Type 0
-Answers capture left bytes given (Ok (Some run)) = Stands capture bytes (given ++ samples run)
-Answers capture left bytes given (Ok None) = IsAtEnd left × Ends (capture_by capture bytes AtEnd) given Clean
-Answers capture left bytes given (Err (Fault fault)) = (told : Stop) × (told ≡ AtEnd → IsAtEnd left) × Ends (capture_by capture bytes told) given (Faulty fault)
-Answers capture left bytes given (Err Read) = Ends (capture_by capture bytes Cut) given Open
-Answers capture left bytes given (Err NoMemory) = (count : ℕ) × (count ≤ length bytes) × (given ≡ (capture_by capture (take count bytes) Cut).settled)
+-- what an answer says of all bytes taken, whose end is told now or not, where these samples were given before it
+abbrev pub Answers : Capture → List ℕ → Told → List ℕ → Result (Option Run) CaptureError → Type 0
+Answers capture bytes told given (Ok (Some run)) = Stands capture bytes told (given ++ samples run)
+Answers capture bytes told given (Ok None) = (told ≡ AtEnd) × Ends (capture_by capture bytes told) given Clean
+Answers capture bytes told given (Err (Fault fault)) = Ends (capture_by capture bytes told) given (Faulty fault)
+Answers capture bytes told given (Err Read) = (told ≡ Cut) × Ends (capture_by capture bytes told) given Open
+Answers capture bytes told given (Err NoMemory) = (count : ℕ) × (count < length bytes) × (given ≡ (capture_by capture (take count bytes) Cut).settled)
+
+-- the same, where these bytes were taken in this call, and whether the end was told before it
+pub record Answered (capture : Capture) (left : Option (List ℕ)) (before : List ℕ) (then : Told) (bytes given : List ℕ) (result : Result (Option Run) CaptureError) : Type 0 where
+  pub told : Told
+  pub later : Later then bytes told
+  pub at_end : ToldAt told left
+  pub answers : Answers capture (before ++ bytes) told given result
 
 -- one call of `next`: the bytes that it took, and what its answer means behind them
 pub record Next (old new : Capture) (left_old left_new : Option (List ℕ)) (result : Result (Option Run) CaptureError) : Type 0 where
   pub bytes : List ℕ
   pub consumed : Consumes left_old left_new bytes
-  pub answers : (before given : List ℕ) → Stands old before given → Answers new left_new (before ++ bytes) given result
+  pub answers : (before : List ℕ) (told : Told) (given : List ℕ) → ToldAt told left_old → Stands old before told given → Answered new left_new before told bytes given result
 
 -- whether a capture is open behind an answer
 abbrev pub stays_open : Result (Option Run) CaptureError → Bool
@@ -95,8 +102,8 @@ stays_open (Err error) = false
 
 -- what opening means, where these bytes were taken: the head is whole, or it has a fault, or the source failed in it
 abbrev pub Opened : Form → List ℕ → Option (List ℕ) → Result Capture CaptureError → Type 0
-Opened form bytes left (Ok capture) = Stands capture bytes [] × ((capture_of form [] bytes Cut).head ≡ Good (names_of capture) (rate_of capture))
-Opened form bytes left (Err (Fault fault)) = (told : Stop) × (told ≡ AtEnd → IsAtEnd left) × ((capture_of form [] bytes told).head ≡ Bad fault)
+Opened form bytes left (Ok capture) = (told : Told) × ToldAt told left × Stands capture bytes told [] × ((capture_of form [] bytes told).head ≡ Good (names_of capture) (rate_of capture).num (rate_of capture).den)
+Opened form bytes left (Err (Fault fault)) = (told : Told) × ToldAt told left × ((capture_of form [] bytes told).head ≡ Bad fault)
 Opened form bytes left (Err Read) = (capture_of form [] bytes Cut).head ≡ Unread
 Opened form bytes left (Err NoMemory) = Unit {0}
 

@@ -22,6 +22,7 @@ pub struct Capture {
 
 impl Capture {
     ghost use Rattle.std.specs.Prelude.{◌≡◌, ◌≢◌, ◌+◌, ◌^◌, ◌<◌, ◌≤◌, ℕ, List, [], length, slice_index, true, IfOk, IfSome};
+    ghost use Rattle.la_io.specs.Capture.{Told};
     ghost use Rattle.capture_any.specs.Captures.{IsForm, HasNoHead, TakesNoMemory};
     ghost use Rattle.capture_any.specs.Reading.{Stands, Next, Opens, CaptureCause, stays_open, form_of, pins_of, names_of, rate_of, is_open_of, given_by};
 
@@ -71,8 +72,8 @@ impl Capture {
     /// Bit j of each sample is channel `pins[j]` from now on. No sample was given yet.
     pub fn select(&mut self, pins: Pins)
         requires within { (k : ℕ) → k < length pins.items → slice_index pins.items k < length (names_of self.old) }
-        requires fresh { (bytes : List ℕ) × Stands self.old bytes [] }
-        ensures stands { (bytes : List ℕ) → Stands self.old bytes [] → Stands self.new bytes [] }
+        requires fresh { (bytes : List ℕ) × (told : Told) × Stands self.old bytes told [] }
+        ensures stands { (bytes : List ℕ) (told : Told) → Stands self.old bytes told [] → Stands self.new bytes told [] }
         ensures pins { pins_of self.new ≡ pins.items }
         ensures form { form_of self.new ≡ form_of self.old }
         ensures names { names_of self.new ≡ names_of self.old }

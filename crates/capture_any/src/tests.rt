@@ -1,5 +1,6 @@
 // Captures through the public calls.
 ghost use Rattle.std.specs.Prelude.{◌≤◌, ℕ, List, []};
+ghost use Rattle.la_io.specs.Capture.{Told};
 ghost use Rattle.capture_any.specs.Reading.{Stands};
 
 use crate::{
@@ -26,7 +27,7 @@ struct Gave {
 
 // Selects these pins, where the capture has such channels.
 fn select(capture: &mut Capture, pins: &[u32])
-    requires { (bytes : List ℕ) × Stands capture.old bytes [] }
+    requires { (bytes : List ℕ) × (told : Told) × Stands capture.old bytes told [] }
 {
     let count = capture.names().count();
     let mut chosen = Pins::new();

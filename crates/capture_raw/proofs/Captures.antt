@@ -8,7 +8,7 @@ use Rattle.list_cuts.proofs.GroupLaws.{groups_append, groups_short, groups_longe
 use Rattle.la_base.specs.declared.samples.Rate.{Rate}
 use Rattle.la_io.specs.declared.fault.CaptureFault.{CaptureFault}
 use Rattle.la_io.specs.declared.fault.CaptureFault.TheVariants.{Bytes}
-use Rattle.la_io.specs.Capture.{Stop, Cut, Good, Faulty, Open}
+use Rattle.la_io.specs.Capture.{Told, Cut, Good, Faulty, Open}
 use Rattle.capture_raw.specs.Raw.{unit_len, word_of, raw_samples, raw_names, raw_rest, raw_ending, raw_capture}
 
 -- there are channels, so a unit has bytes
@@ -72,11 +72,11 @@ full_is : (count : ℕ) → nat_le (2 ^ 60) count ≡ true → 2 ^ 60 ≤ count
 full_is count full = grind (arith, nat_tests)
 
 -- 2^60 bytes
-pub ending_full : (unit count : ℕ) (stop : Stop) → 2 ^ 60 ≤ count → raw_ending unit count stop ≡ Faulty Bytes
+pub ending_full : (unit count : ℕ) (stop : Told) → 2 ^ 60 ≤ count → raw_ending unit count stop ≡ Faulty Bytes
 ending_full unit count stop long = ap (λ (b : Bool). if b then Faulty Bytes else raw_rest unit count stop) (is_full count long)
 
 -- less
-pub ending_rest : (unit count : ℕ) (stop : Stop) → count < 2 ^ 60 → raw_ending unit count stop ≡ raw_rest unit count stop
+pub ending_rest : (unit count : ℕ) (stop : Told) → count < 2 ^ 60 → raw_ending unit count stop ≡ raw_rest unit count stop
 ending_rest unit count stop short = ap (λ (b : Bool). if b then Faulty Bytes else raw_rest unit count stop) (not_full count short)
 
 -- bytes that are cut have a fault where there are 2^60 of them
@@ -89,33 +89,33 @@ cut_fault unit count fault is = by_test (nat_le (2 ^ 60) count) refl where
       cc
 
 module _ (channels : ℕ) (rate : Rate) (pins : List ℕ) where
-  pub settled_is : (bytes : List ℕ) (stop : Stop) → (raw_capture channels rate pins bytes stop).settled ≡ raw_samples (unit_len channels) pins (take (2 ^ 60) bytes)
+  pub settled_is : (bytes : List ℕ) (stop : Told) → (raw_capture channels rate pins bytes stop).settled ≡ raw_samples (unit_len channels) pins (take (2 ^ 60) bytes)
   unfolding raw_capture
   settled_is bytes stop = refl
 
-  pub ending_is : (bytes : List ℕ) (stop : Stop) → (raw_capture channels rate pins bytes stop).ending ≡ raw_ending (unit_len channels) (length bytes) stop
+  pub ending_is : (bytes : List ℕ) (stop : Told) → (raw_capture channels rate pins bytes stop).ending ≡ raw_ending (unit_len channels) (length bytes) stop
   unfolding raw_capture
   ending_is bytes stop = refl
 
-  pub settled_longer : (front more : List ℕ) (stop : Stop) → 0 < channels
+  pub settled_longer : (front more : List ℕ) (stop : Told) → 0 < channels
       → (rest : List ℕ) × ((raw_capture channels rate pins (front ++ more) stop).settled ≡ (raw_capture channels rate pins front Cut).settled ++ rest)
   settled_longer front more stop some =
       let longer = front_longer (2 ^ 60) front more in
       let samples = samples_longer (unit_len channels) (unit_some channels some) pins (take (2 ^ 60) front) longer.0 in
       (samples.0, settled_is (front ++ more) stop ∙ ap (λ (l : List ℕ). raw_samples (unit_len channels) pins l) longer.1 ∙ samples.1 ∙ ap (λ (l : List ℕ). l ++ samples.0) (sym (settled_is front Cut)))
 
-  same_when_full : (front more : List ℕ) (stop : Stop) → 2 ^ 60 ≤ length front → raw_capture channels rate pins (front ++ more) stop ≡ raw_capture channels rate pins front Cut
+  same_when_full : (front more : List ℕ) (stop : Told) → 2 ^ 60 ≤ length front → raw_capture channels rate pins (front ++ more) stop ≡ raw_capture channels rate pins front Cut
   unfolding raw_capture
   same_when_full front more stop full =
       let unit = unit_len channels in
       let settled = ap (λ (l : List ℕ). raw_samples unit pins l) (take-append-le (2 ^ 60) front more full) in
       let ending = ending_full unit (length (front ++ more)) stop (omega (arith, length-append front more)) ∙ sym (ending_full unit (length front) Cut full) in
       λ i. record {
-        head = Good (raw_names channels) rate;
+        head = Good (raw_names channels) rate.num rate.den;
         settled = settled i;
         ending = ending i;
       }
 
-  pub fault_stays : (front more : List ℕ) (stop : Stop) (fault : CaptureFault) → (raw_capture channels rate pins front Cut).ending ≡ Faulty fault
+  pub fault_stays : (front more : List ℕ) (stop : Told) (fault : CaptureFault) → (raw_capture channels rate pins front Cut).ending ≡ Faulty fault
       → raw_capture channels rate pins (front ++ more) stop ≡ raw_capture channels rate pins front Cut
   fault_stays front more stop fault is = same_when_full front more stop (cut_fault (unit_len channels) (length front) fault (sym (ending_is front Cut) ∙ is))

@@ -2,7 +2,7 @@
 use Rattle.std.proofs.Common.{◌≡◌, ℕ, suc, ◌+◌, ◌≤◌, List, [], ◌∷◌, ◌++◌, take, drop, length, sym, ◌∙◌, ap, arith, length-append, length-take-le, append_assoc, slice_range, Option, Some, None}
 use Rattle.std.specs.Io.KnownBytes.{Keeps, Consumes}
 use Rattle.std.proofs.lemmas.List.{take-append-le, drop-append-le, take_at}
-use Rattle.capture_raw.specs.Held.{Front, Takes}
+use Rattle.la_io.specs.Intake.{Front, Takes}
 use Rattle.std.proofs.lemmas.Slice.{between_is, between_from_start}
 use borrow.Rule.Slice.PartMut.{put_mid, post_of}
 

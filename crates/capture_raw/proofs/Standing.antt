@@ -9,10 +9,10 @@ use Rattle.la_base.specs.Samples.{samples}
 use Rattle.la_base.specs.declared.samples.Rate.{Rate}
 use Rattle.la_base.specs.declared.samples.Run.{Run}
 use Rattle.la_io.specs.declared.fault.CaptureFault.TheVariants.{ShortUnit as ShortUnitFault, Bytes as BytesFault}
-use Rattle.la_io.specs.Capture.{Stop, AtEnd, Cut, Ending, Clean, Faulty, Open, Ends}
+use Rattle.la_io.specs.Capture.{Told, AtEnd, Cut, Ending, Clean, Faulty, Open, Ends}
 use Rattle.capture_raw.specs.declared.step.RawStep.{RawStep}
 use Rattle.capture_raw.specs.declared.step.RawStep.TheVariants.{End, ShortUnit}
-use Rattle.capture_raw.specs.Held.{Front, Takes}
+use Rattle.la_io.specs.Intake.{Front, Takes}
 use Rattle.capture_raw.specs.Raw.{unit_len, raw_samples, raw_rest, raw_capture}
 use Rattle.capture_raw.specs.Reader.{StandsAt, MeansAt, ToldEnd, stays_open}
 use Rattle.capture_raw.proofs.Captures.{samples_after, samples_at_end, no_samples, settled_is, ending_is, ending_full, ending_rest}
@@ -102,7 +102,7 @@ unfolding samples
 samples_len run = length-replicate run.len run.value
 
 -- what was given is a front of what the bytes settle
-pub given_front : (channels : ℕ) → 0 < unit_len channels → (rate : Rate) (pins : List ℕ) (front : Front) (bytes given : List ℕ) (stop : Stop)
+pub given_front : (channels : ℕ) → 0 < unit_len channels → (rate : Rate) (pins : List ℕ) (front : Front) (bytes given : List ℕ) (stop : Told)
     → StandsAt (unit_len channels) pins front bytes given → front.taken - length front.bytes ≤ 2 ^ 60
     → (rest : List ℕ) × ((raw_capture channels rate pins bytes stop).settled ≡ given ++ rest)
 given_front channels some rate pins front bytes given stop st few =
@@ -121,20 +121,20 @@ given_front channels some rate pins front bytes given stop st few =
 -- nothing is left to give: what an answer means then
 module _ (channels : ℕ) (some : 0 < unit_len channels) (rate : Rate) (pins : List ℕ) (front : Front) (bytes given : List ℕ)
     (short : length front.bytes < unit_len channels) (few : front.taken ≤ 2 ^ 60) (st : StandsAt (unit_len channels) pins front bytes given) where
-  all_settled : (stop : Stop) → (raw_capture channels rate pins bytes stop).settled ≡ given
+  all_settled : (stop : Told) → (raw_capture channels rate pins bytes stop).settled ≡ given
   all_settled stop =
       let count : length bytes ≤ 2 ^ 60 = omega (arith, st.taken) in
       settled_is channels rate pins bytes stop ∙ ap (λ (l : List ℕ). raw_samples (unit_len channels) pins l) (take_all (2 ^ 60) bytes count) ∙ all_given (unit_len channels) some pins front bytes given short st
 
   -- 2^60 bytes were taken
-  pub ends_full : 2 ^ 60 ≤ front.taken → (stop : Stop) → Ends (raw_capture channels rate pins bytes stop) given (Faulty BytesFault)
+  pub ends_full : 2 ^ 60 ≤ front.taken → (stop : Told) → Ends (raw_capture channels rate pins bytes stop) given (Faulty BytesFault)
   ends_full full stop = record {
     settled = all_settled stop;
     ending = ending_is channels rate pins bytes stop ∙ ending_full (unit_len channels) (length bytes) stop (omega (arith, st.taken));
   }
 
   module _ (below : front.taken < 2 ^ 60) where
-    ends_so : (stop : Stop) (how : Ending) → raw_rest (unit_len channels) (length bytes) stop ≡ how → Ends (raw_capture channels rate pins bytes stop) given how
+    ends_so : (stop : Told) (how : Ending) → raw_rest (unit_len channels) (length bytes) stop ≡ how → Ends (raw_capture channels rate pins bytes stop) given how
     ends_so stop how is = record {
       settled = all_settled stop;
       ending = ending_is channels rate pins bytes stop ∙ ending_rest (unit_len channels) (length bytes) stop (omega (arith, st.taken)) ∙ is;

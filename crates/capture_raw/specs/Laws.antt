@@ -3,19 +3,19 @@ use Rattle.std.specs.Prelude.{ℕ, ◌≡◌, ◌+◌, ◌*◌, ◌/◌, ◌%◌
 use Rattle.std.specs.Int.{bit_at}
 use Rattle.la_base.specs.declared.samples.Rate.{Rate}
 use Rattle.la_io.specs.declared.fault.CaptureFault.{CaptureFault}
-use Rattle.la_io.specs.Capture.{Stop, Cut, Faulty}
+use Rattle.la_io.specs.Capture.{Told, Cut, Faulty}
 use Rattle.capture_raw.specs.Raw.{raw_samples, raw_capture}
 use Rattle.capture_raw.specs.Reader.{Stands, raw_cap, raw_channels, raw_held, raw_taken, raw_given}
 use Rattle.capture_raw.specs.declared.reader.RawReader.{RawReader}
 
 -- the settled samples of a cut front are a prefix of those of every longer input
 abbrev pub LongerExtends : Type 0
-LongerExtends = (channels : ℕ) (rate : Rate) (pins front more : List ℕ) (stop : Stop) → 0 < channels
+LongerExtends = (channels : ℕ) (rate : Rate) (pins front more : List ℕ) (stop : Told) → 0 < channels
     → (rest : List ℕ) × ((raw_capture channels rate pins (front ++ more) stop).settled ≡ (raw_capture channels rate pins front Cut).settled ++ rest)
 
 -- where a cut front holds a fault, every longer input gives the same: this fault and these samples
 abbrev pub FaultStays : Type 0
-FaultStays = (channels : ℕ) (rate : Rate) (pins front more : List ℕ) (stop : Stop) (fault : CaptureFault)
+FaultStays = (channels : ℕ) (rate : Rate) (pins front more : List ℕ) (stop : Told) (fault : CaptureFault)
     → (raw_capture channels rate pins front Cut).ending ≡ Faulty fault
     → raw_capture channels rate pins (front ++ more) stop ≡ raw_capture channels rate pins front Cut
 
@@ -26,7 +26,7 @@ StandsFixes = (one other : RawReader) (bytes given : List ℕ) → raw_channels 
 
 -- what a reader has given is a front of what the bytes that it took settle, also where it gives no more
 abbrev pub GivenIsFront : Type 0
-GivenIsFront = (reader : RawReader) (bytes given : List ℕ) (stop : Stop) → Stands reader bytes given → raw_given reader ≤ 2 ^ 60
+GivenIsFront = (reader : RawReader) (bytes given : List ℕ) (stop : Told) → Stands reader bytes given → raw_given reader ≤ 2 ^ 60
     → (rest : List ℕ) × ((raw_cap reader bytes stop).settled ≡ given ++ rest)
 
 -- a sample for each whole unit; its bit j is channel pins[j], which is a bit of the unit's bytes, and above the pins it has none

@@ -6,7 +6,7 @@ use Rattle.std.specs.List.{range_with_len}
 use Rattle.list_cuts.specs.Groups.{groups}
 use Rattle.la_base.specs.declared.samples.Rate.{Rate}
 use Rattle.la_io.specs.declared.fault.CaptureFault.TheVariants.{ShortUnit, Bytes}
-use Rattle.la_io.specs.Capture.{Stop, AtEnd, Cut, Good, Ending, Clean, Faulty, Open, Captured}
+use Rattle.la_io.specs.Capture.{Told, AtEnd, Cut, Good, Ending, Clean, Faulty, Open, Captured}
 
 -- how many bytes a unit has
 abbrev pub unit_len : ℕ → ℕ
@@ -35,18 +35,18 @@ unfoldable pub raw_names : ℕ → List (List ℕ)
 raw_names channels = map (λ channel. codes "D" ++ decimal channel) (range_with_len 0 channels)
 
 -- how less than 2^60 bytes end
-abbrev pub raw_rest : ℕ → ℕ → Stop → Ending
+abbrev pub raw_rest : ℕ → ℕ → Told → Ending
 raw_rest unit count AtEnd = if count % unit == 0 then Clean else Faulty (ShortUnit (count / unit * unit))
 raw_rest unit count Cut = Open
 
 -- how bytes end: a reader stops behind 2^60 of them, and asks for no end there
-abbrev pub raw_ending : ℕ → ℕ → Stop → Ending
+abbrev pub raw_ending : ℕ → ℕ → Told → Ending
 raw_ending unit count stop = if nat_le (2 ^ 60) count then Faulty Bytes else raw_rest unit count stop
 
 -- what the bytes of a raw capture give
-unfoldable pub raw_capture : ℕ → Rate → List ℕ → List ℕ → Stop → Captured
+unfoldable pub raw_capture : ℕ → Rate → List ℕ → List ℕ → Told → Captured
 raw_capture channels rate pins bytes stop = record {
-  head = Good (raw_names channels) rate;
+  head = Good (raw_names channels) rate.num rate.den;
   settled = raw_samples (unit_len channels) pins (take (2 ^ 60) bytes);
   ending = raw_ending (unit_len channels) (length bytes) stop;
 }

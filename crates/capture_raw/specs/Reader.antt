@@ -6,8 +6,8 @@ use Rattle.la_base.specs.declared.samples.Rate.{Rate}
 use Rattle.la_base.specs.declared.samples.Run.{Run}
 use Rattle.la_io.specs.declared.outside.Failed.{Failed}
 use Rattle.la_io.specs.declared.fault.CaptureFault.TheVariants.{ShortUnit as ShortUnitFault, Bytes as BytesFault}
-use Rattle.la_io.specs.Capture.{Stop, AtEnd, Cut, Clean, Faulty, Open, Captured, Ends}
-use Rattle.capture_raw.specs.Held.{Front}
+use Rattle.la_io.specs.Capture.{Told, AtEnd, Cut, Clean, Faulty, Open, Captured, Ends}
+use Rattle.la_io.specs.Intake.{Front}
 use Rattle.capture_raw.specs.Raw.{unit_len, raw_samples, raw_capture}
 use Rattle.capture_raw.specs.declared.reader.RawReader.{RawReader}
 use Rattle.capture_raw.specs.declared.step.RawStep.{RawStep}
@@ -54,7 +54,7 @@ abbrev pub Stands : RawReader → List ℕ → List ℕ → Type 0
 Stands r bytes given = StandsAt (raw_unit r) (raw_pins r) r.held bytes given
 
 -- what these bytes give, with its channels, rate and pins
-abbrev pub raw_cap : RawReader → List ℕ → Stop → Captured
+abbrev pub raw_cap : RawReader → List ℕ → Told → Captured
 raw_cap r bytes stop = raw_capture (raw_channels r) (raw_rate r) (raw_pins r) bytes stop
 
 -- what an answer means, where these bytes were taken and these samples were given before it
@@ -62,7 +62,7 @@ abbrev pub MeansAt : ℕ → Rate → List ℕ → Front → List ℕ → List �
 MeansAt channels rate pins front bytes given (Ok (GaveRun run)) = StandsAt (unit_len channels) pins front bytes (given ++ samples run)
 MeansAt channels rate pins front bytes given (Ok End) = Ends (raw_capture channels rate pins bytes AtEnd) given Clean
 MeansAt channels rate pins front bytes given (Ok (ShortUnit at)) = Ends (raw_capture channels rate pins bytes AtEnd) given (Faulty (ShortUnitFault at))
-MeansAt channels rate pins front bytes given (Ok Bytes) = (stop : Stop) → Ends (raw_capture channels rate pins bytes stop) given (Faulty BytesFault)
+MeansAt channels rate pins front bytes given (Ok Bytes) = (stop : Told) → Ends (raw_capture channels rate pins bytes stop) given (Faulty BytesFault)
 MeansAt channels rate pins front bytes given (Err failed) = Ends (raw_capture channels rate pins bytes Cut) given Open
 
 -- the same, with the parts of the reader behind the answer

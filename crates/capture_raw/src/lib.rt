@@ -3,7 +3,6 @@
 #![tactic(auto)]
 
 mod alike;
-mod held;
 mod laws;
 mod reader;
 mod step;

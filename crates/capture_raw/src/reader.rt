@@ -5,10 +5,12 @@ ghost use Rattle.capture_raw.specs.Masks.{Covers, OfBytes};
 
 use crate::RawStep;
 use crate::alike::alike_units;
-use crate::held::{Held, MOST_BYTES};
 use crate::units::{BYTES, MOST_UNIT, mask_of, number, picked, samples_of_bytes};
 use la_base::{MOST_PINS, Pins, Rate, Run, Word};
-use la_io::{Failed, Source};
+use la_io::{Failed, Intake, MOST_BYTES, Source};
+
+// How many bytes there is room for.
+const ROOM: usize = 32_768;
 
 /// Reads units of bytes, `channels` bits rounded up to whole bytes each, and gives runs of their
 /// samples. It takes at most 2^60 bytes.
@@ -21,7 +23,7 @@ pub struct RawReader {
     mask: Word,
     // the samples of units of one byte
     of_bytes: [Word; BYTES],
-    held: Held,
+    held: Intake<ROOM>,
     open: bool,
     ghost channels_fit: { (1 ≤ channels) × (channels ≤ MOST_PINS) },
     ghost few_pins: { length pins.items ≤ MOST_PINS },
@@ -55,7 +57,7 @@ impl RawReader {
             pins,
             mask: 0,
             of_bytes,
-            held: Held::new(),
+            held: Intake::new(),
             open: true,
         }
     }

@@ -173,6 +173,10 @@ module _ (scl sda : ℕ) where
       let one : length (gives_all held (es ++ [])) ≡ length (gives_all held es) = ap (λ (l : List Event). length (gives_all held l)) (append-nil es) in
       omega (arith, same, one, few_at held (length list) (last_of list) now)
 
+  pub i2c_given : (list : List ℕ) → (es : List Event) × (i2c_outs scl sda list ≡ gives_all closed es)
+  unfolding held_at
+  i2c_given list = (later [] list, grown [] list ∙ ap (λ (l : List Out). l ++ gives_all (held_at scl sda []) (later [] list)) i2c_nothing)
+
   pub i2c_order : PacketsInOrder (i2c_outs scl sda)
   unfolding held_at
   i2c_order list =

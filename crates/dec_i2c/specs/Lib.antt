@@ -11,3 +11,4 @@ pub mod I2cLaws
 pub mod Opening
 pub mod MachineLaws
 pub mod Texts
+pub mod WireLaws

@@ -5,6 +5,8 @@ ghost use Rattle.dec_i2c.specs.Known.{near_by};
 ghost use Rattle.dec_i2c.specs.Waits.{clock_alt, i2c_alts};
 ghost use Rattle.dec_i2c.specs.Opening.{StandsFor, Opens};
 ghost use Rattle.dec_i2c.specs.I2cLaws.{i2c_quiet, i2c_nothing, i2c_prefix, i2c_order, i2c_few, i2c_one_stop};
+ghost use Rattle.la_base.specs.declared.wires.Wire.TheVariants.{I2c as I2cWire};
+ghost use Rattle.dec_i2c.specs.WireLaws.{i2c_on_wire};
 ghost use Rattle.dec_i2c.specs.MachineLaws.{one_i2c, ends_too};
 
 use crate::outputs::give;
@@ -94,6 +96,8 @@ impl LogicMachine for I2c {
 
     ghost near = { λ bus list. i2c_near bus.scl bus.sda list };
 
+    ghost gives = { λ _. I2cWire };
+
     ghost stands = { λ machine list. StandsFor machine list };
 
     ghost alts = { λ machine. i2c_alts machine.bus.scl machine.bus.sda };
@@ -125,6 +129,8 @@ impl LogicMachine for I2c {
     ghost order = { λ machine. i2c_order machine.bus.scl machine.bus.sda };
 
     ghost few = { λ machine. i2c_few machine.bus.scl machine.bus.sda };
+
+    ghost on_wire = { λ machine. i2c_on_wire machine.bus.scl machine.bus.sda };
 
     ghost one_machine = { λ one other list same stands also. one_i2c one other list same stands also };
 

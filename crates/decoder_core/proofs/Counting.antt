@@ -6,7 +6,7 @@ use Rattle.std.proofs.Common.{inl, inr}
 use Rattle.la_base.specs.declared.samples.Run.{Run}
 use Rattle.la_base.specs.Samples.{samples}
 use Rattle.la_base.specs.declared.wires.Packet.{Packet}
-use Rattle.decoder_core.specs.Inputs.{Item, Sample, Pack, samples_in, counted}
+use Rattle.decoder_core.specs.Inputs.{Item, Sample, Pack, samples_in, counted_samples}
 use Rattle.decoder_core.specs.CountedLaws.{take_none, samples_append}
 
 take_both : (n : ℕ) (xs ys : List ℕ) → take n (xs ++ ys) ≡ take n xs ++ take (n - length xs) ys
@@ -21,24 +21,24 @@ samples_of_samples [] = refl
 samples_of_samples (v ∷ l) = ap (λ (k : List ℕ). v ∷ k) (samples_of_samples l)
 
 -- more items: those that still count
-pub counted_more : (input more : List Item) → counted (input ++ more) ≡ counted input ++ take (2 ^ 60 - length (counted input)) (samples_in more)
-unfolding counted
+pub counted_more : (input more : List Item) → counted_samples (input ++ more) ≡ counted_samples input ++ take (2 ^ 60 - length (counted_samples input)) (samples_in more)
+unfolding counted_samples
 counted_more input more =
     let had = samples_in input in
     let room : 2 ^ 60 - length had ≡ 2 ^ 60 - length (take (2 ^ 60) had) = omega (arith, length-take (2 ^ 60) had) in
     ap (λ (l : List ℕ). take (2 ^ 60) l) (samples_append input more) ∙ take_both (2 ^ 60) had (samples_in more)
     ∙ ap (λ (k : ℕ). take (2 ^ 60) had ++ take k (samples_in more)) room
 
-pub counted_samples : (input : List Item) (l : List ℕ) → counted (input ++ map Sample l) ≡ counted input ++ take (2 ^ 60 - length (counted input)) l
+pub counted_samples : (input : List Item) (l : List ℕ) → counted_samples (input ++ map Sample l) ≡ counted_samples input ++ take (2 ^ 60 - length (counted_samples input)) l
 counted_samples input l =
-    counted_more input (map Sample l) ∙ ap (λ (k : List ℕ). counted input ++ take (2 ^ 60 - length (counted input)) k) (samples_of_samples l)
+    counted_more input (map Sample l) ∙ ap (λ (k : List ℕ). counted_samples input ++ take (2 ^ 60 - length (counted_samples input)) k) (samples_of_samples l)
 
 -- a packet, and nothing, don't count
-pub counted_packet : (input : List Item) (p : Packet) → counted (input ++ Pack p ∷ []) ≡ counted input
-counted_packet input p = counted_more input (Pack p ∷ []) ∙ ap (λ (l : List ℕ). counted input ++ l) (take_none (2 ^ 60 - length (counted input))) ∙ append-nil (counted input)
+pub counted_packet : (input : List Item) (p : Packet) → counted_samples (input ++ Pack p ∷ []) ≡ counted_samples input
+counted_packet input p = counted_more input (Pack p ∷ []) ∙ ap (λ (l : List ℕ). counted_samples input ++ l) (take_none (2 ^ 60 - length (counted_samples input))) ∙ append-nil (counted_samples input)
 
-pub counted_nothing : (input : List Item) → counted (input ++ []) ≡ counted input
-counted_nothing input = ap counted (append-nil input)
+pub counted_nothing : (input : List Item) → counted_samples (input ++ []) ≡ counted_samples input
+counted_nothing input = ap counted_samples (append-nil input)
 
 -- a front of equal samples
 pub take_equal : (room len : ℕ) (v : ℕ) → take room (replicate len v) ≡ replicate (min len room) v
@@ -65,8 +65,8 @@ pub samples_are : (run : Run) → samples run ≡ replicate run.len run.value
 unfolding samples
 samples_are run = refl
 
-pub counted_empty : counted [] ≡ []
-unfolding counted
+pub counted_empty : counted_samples [] ≡ []
+unfolding counted_samples
 counted_empty = take_none (2 ^ 60)
 
 pub take_past : (xs ys : List ℕ) (n k : ℕ) → k ≡ length xs + n → take k (xs ++ ys) ≡ xs ++ take n ys

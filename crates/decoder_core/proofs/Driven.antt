@@ -8,7 +8,7 @@ use Rattle.wait_cond.specs.declared.alt.Alt.{Alt}
 use Rattle.wait_cond.specs.declared.scan.Waiter.{Waiter}
 use Rattle.wait_cond.specs.Stops.{IsStop, NoneMet}
 use Rattle.wait_cond.specs.Waiting.{Waits, alts_of, wait_from, consumed_by}
-use Rattle.decoder_core.specs.Inputs.{Item, Sample, counted}
+use Rattle.decoder_core.specs.Inputs.{Item, Sample, counted_samples}
 use Rattle.decoder_core.specs.Driving.{Drives}
 use Rattle.decoder_core.specs.Laws.{IsQuiet}
 use Rattle.decoder_core.proofs.Counting.{counted_samples, take_equal, samples_are, take_past}
@@ -26,7 +26,7 @@ module _ {L S : Type 0} (setup : L → S) (outs : S → List ℕ → List Out) (
 
   module _ (machine : L) (waiter : Waiter) (input : List Item) (d : Drives stands alts machine waiter input) where
     abbrev list : List ℕ
-    list = counted input
+    list = counted_samples input
 
     pub list_len : length list ≡ consumed_by waiter
     list_len = d.waits.count
@@ -41,7 +41,7 @@ module _ {L S : Type 0} (setup : L → S) (outs : S → List ℕ → List Out) (
         (subst (λ (l : List Alt). NoneMet list l (wait_from waiter) (length list)) d.cond (subst (λ (k : ℕ). NoneMet list (alts_of waiter) (wait_from waiter) k) (sym list_len) d.waits.none))
 
     -- equal samples that count
-    pub part_counts : (run part : Run) → part.value ≡ run.value → part.len ≡ min run.len (2 ^ 60 - consumed_by waiter) → counted (input ++ map Sample (samples run)) ≡ list ++ samples part
+    pub part_counts : (run part : Run) → part.value ≡ run.value → part.len ≡ min run.len (2 ^ 60 - consumed_by waiter) → counted_samples (input ++ map Sample (samples run)) ≡ list ++ samples part
     part_counts run part same len =
         let room : 2 ^ 60 - length list ≡ 2 ^ 60 - consumed_by waiter = ap (λ (k : ℕ). 2 ^ 60 - k) list_len in
         counted_samples input (samples run)
@@ -51,8 +51,8 @@ module _ {L S : Type 0} (setup : L → S) (outs : S → List ℕ → List Out) (
         ∙ (λ i. replicate (sym len i) (sym same i)) ∙ sym (samples_are part))
 
     -- nothing stopped: the driver goes on
-    pub through : (later : Waiter) (more : List ℕ) (next : List Item) → counted (input ++ next) ≡ list ++ more → Waits later (list ++ more) → wait_from later ≡ wait_from waiter → alts_of later ≡ alts_of waiter
-        → Drives stands alts machine later (input ++ next) × (outs (setup machine) (counted (input ++ next)) ≡ outs (setup machine) list)
+    pub through : (later : Waiter) (more : List ℕ) (next : List Item) → counted_samples (input ++ next) ≡ list ++ more → Waits later (list ++ more) → wait_from later ≡ wait_from waiter → alts_of later ≡ alts_of waiter
+        → Drives stands alts machine later (input ++ next) × (outs (setup machine) (counted_samples (input ++ next)) ≡ outs (setup machine) list)
     through later more next is waits from same =
         let cut : take (wait_from later) (list ++ more) ≡ take (wait_from waiter) list = ap (λ (k : ℕ). take k (list ++ more)) from ∙ take-append-le (wait_from waiter) list more from_within in
         let still = subst (λ (l : List ℕ). stands machine l) (sym cut) d.machine_stands in
@@ -82,7 +82,7 @@ module _ {L S : Type 0} (setup : L → S) (outs : S → List ℕ → List Out) (
 
     -- the samples up to a stop
     pub counted_front : (part : Run) (used at v : ℕ) → at + 1 ≡ length list + used → used ≤ part.len → part.value ≡ v → part.len ≤ 2 ^ 60 - consumed_by waiter
-        → counted (input ++ map Sample (replicate used v)) ≡ take (at + 1) (list ++ samples part)
+        → counted_samples (input ++ map Sample (replicate used v)) ≡ take (at + 1) (list ++ samples part)
     counted_front part used at v place within same room =
         counted_samples input (replicate used v)
         ∙ ap (λ (l : List ℕ). list ++ l) (take_all (2 ^ 60 - length list) (replicate used v) (omega (arith, length-replicate used v, list_len)))
@@ -90,7 +90,7 @@ module _ {L S : Type 0} (setup : L → S) (outs : S → List ℕ → List Out) (
         ∙ ap (λ (l : List ℕ). list ++ l) (ap (λ (l : List ℕ). take used l) (samples_are part ∙ ap (λ (w : ℕ). replicate part.len w) same) ∙ take-replicate used part.len v within))
 
     -- no more samples count
-    pub spent : (run : Run) → 2 ^ 60 ≤ consumed_by waiter → counted (input ++ map Sample (samples run)) ≡ list ++ []
+    pub spent : (run : Run) → 2 ^ 60 ≤ consumed_by waiter → counted_samples (input ++ map Sample (samples run)) ≡ list ++ []
     spent run full =
         let none : 2 ^ 60 - length list ≡ 0 = omega (arith, list_len) in
         counted_samples input (samples run) ∙ ap (λ (k : ℕ). list ++ take k (samples run)) none
@@ -108,7 +108,7 @@ module _ {L S : Type 0} (setup : L → S) (outs : S → List ℕ → List Out) (
         )
 
     -- what doesn't count is passed over
-    pub passed : (next : List Item) → counted (input ++ next) ≡ list → Drives stands alts machine waiter (input ++ next) × (outs (setup machine) (counted (input ++ next)) ≡ outs (setup machine) list)
+    pub passed : (next : List Item) → counted_samples (input ++ next) ≡ list → Drives stands alts machine waiter (input ++ next) × (outs (setup machine) (counted_samples (input ++ next)) ≡ outs (setup machine) list)
     passed next is = (
       record {
         waits = subst (λ (l : List ℕ). Waits waiter l) (sym is) d.waits;

@@ -7,7 +7,7 @@ use Rattle.wait_cond.specs.declared.scan.Waiter.{Waiter}
 use Rattle.wait_cond.specs.Stops.{NoneMet}
 use Rattle.wait_cond.specs.Waiting.{alts_of, wait_from, consumed_by}
 use Rattle.wait_cond.proofs.ChainLemmas.{none_in_shorter}
-use Rattle.decoder_core.specs.Inputs.{Item, counted}
+use Rattle.decoder_core.specs.Inputs.{Item, counted_samples}
 use Rattle.decoder_core.specs.Laws.{Rests, OneMachine, OneLastStop}
 use Rattle.decoder_core.specs.Driving.{Drives, SameState}
 
@@ -33,23 +33,23 @@ module _ {L S : Type 0} (setup : L → S) (stands : L → List ℕ → Type 0) (
 
   module _ (one other : L) (waiter other_waiter : Waiter) (input : List Item) (same : setup one ≡ setup other)
       (d : Drives stands alts one waiter input) (e : Drives stands alts other other_waiter input) where
-    none_behind : (machine : L) (w : Waiter) → Drives stands alts machine w input → NoneMet (counted input) (alts machine) (wait_from w) (length (counted input))
+    none_behind : (machine : L) (w : Waiter) → Drives stands alts machine w input → NoneMet (counted_samples input) (alts machine) (wait_from w) (length (counted_samples input))
     none_behind machine w drives =
-        subst (λ (l : List Alt). NoneMet (counted input) l (wait_from w) (length (counted input))) drives.cond
-        (subst (λ (n : ℕ). NoneMet (counted input) (alts_of w) (wait_from w) n) (sym drives.waits.count) drives.waits.none)
+        subst (λ (l : List Alt). NoneMet (counted_samples input) l (wait_from w) (length (counted_samples input))) drives.cond
+        (subst (λ (n : ℕ). NoneMet (counted_samples input) (alts_of w) (wait_from w) n) (sym drives.waits.count) drives.waits.none)
 
     same_from : wait_from waiter ≡ wait_from other_waiter
     same_from = elim (cases_lt (wait_from waiter) (wait_from other_waiter)) [
-      | inl less ↦ no_later one other (counted input) (wait_from waiter) (wait_from other_waiter) same (omega (arith, less)) (omega (arith, e.waits.stop, e.waits.count)) d.machine_stands e.machine_stands (none_behind one waiter d)
-      | inr more ↦ sym (no_later other one (counted input) (wait_from other_waiter) (wait_from waiter) (sym same) (omega (arith, more)) (omega (arith, d.waits.stop, d.waits.count)) e.machine_stands d.machine_stands (none_behind other other_waiter e))
+      | inl less ↦ no_later one other (counted_samples input) (wait_from waiter) (wait_from other_waiter) same (omega (arith, less)) (omega (arith, e.waits.stop, e.waits.count)) d.machine_stands e.machine_stands (none_behind one waiter d)
+      | inr more ↦ sym (no_later other one (counted_samples input) (wait_from other_waiter) (wait_from waiter) (sym same) (omega (arith, more)) (omega (arith, d.waits.stop, d.waits.count)) e.machine_stands d.machine_stands (none_behind other other_waiter e))
     ]
 
     pub one_state : SameState one other waiter other_waiter
     one_state =
-        let equal : one ≡ other = one_machine one other (take (wait_from other_waiter) (counted input)) same
-        (subst (λ (n : ℕ). stands one (take n (counted input))) same_from d.machine_stands) e.machine_stands in
+        let equal : one ≡ other = one_machine one other (take (wait_from other_waiter) (counted_samples input)) same
+        (subst (λ (n : ℕ). stands one (take n (counted_samples input))) same_from d.machine_stands) e.machine_stands in
         let consumed : consumed_by waiter ≡ consumed_by other_waiter = sym d.waits.count ∙ e.waits.count in
         record {
           machine = equal;
-          numbers = record { consumed = consumed; from = same_from; last = d.waits.last_is ∙ ap (λ (n : ℕ). slice_index (counted input) (n - 1)) consumed ∙ sym e.waits.last_is };
+          numbers = record { consumed = consumed; from = same_from; last = d.waits.last_is ∙ ap (λ (n : ℕ). slice_index (counted_samples input) (n - 1)) consumed ∙ sym e.waits.last_is };
         }

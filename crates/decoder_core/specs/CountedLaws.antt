@@ -3,7 +3,7 @@ use Rattle.std.proofs.Common.{◌≡◌, inl, inr, ◌⊎◌, ℕ, zero, suc, �
 use Rattle.std.proofs.lemmas.List.{append-nil}
 use Rattle.std.proofs.Math.Nat.{le-add_right}
 use Rattle.la_base.specs.declared.wires.Out.{Out}
-use Rattle.decoder_core.specs.Inputs.{Item, Sample, Pack, samples_in, counted}
+use Rattle.decoder_core.specs.Inputs.{Item, Sample, Pack, samples_in, counted_samples}
 use Rattle.decoder_core.specs.Laws.{GivesNothing, KeepsFront, AddsFew}
 
 pub take_none : (n : ℕ) → take {A = ℕ} n [] ≡ []
@@ -31,12 +31,12 @@ take_one (suc n) (x ∷ xs) v = elim (take_one n xs v) [
 ]
 
 module _ (outs : List ℕ → List Out) where
-  pub nothing_counted : GivesNothing outs → GivesNothing (λ input. outs (counted input))
-  unfolding counted
+  pub nothing_counted : GivesNothing outs → GivesNothing (λ input. outs (counted_samples input))
+  unfolding counted_samples
   nothing_counted none = ap outs (take_none (2 ^ 60)) ∙ none
 
-  pub front_counted : KeepsFront outs → KeepsFront (λ input. outs (counted input))
-  unfolding counted
+  pub front_counted : KeepsFront outs → KeepsFront (λ input. outs (counted_samples input))
+  unfolding counted_samples
   front_counted keeps input more =
       let had = samples_in input in
       let r = take_front (2 ^ 60) had (samples_in more) in
@@ -46,8 +46,8 @@ module _ (outs : List ℕ → List Out) where
   same_few : (more had : List ℕ) → more ≡ had → length (outs more) ≤ length (outs had) + 16
   same_few more had same = subst (λ (l : List ℕ). length (outs l) ≤ length (outs had) + 16) (sym same) (le-add_right (length (outs had)) 16)
 
-  pub few_counted : AddsFew outs → AddsFew (λ input. outs (counted input))
-  unfolding counted
+  pub few_counted : AddsFew outs → AddsFew (λ input. outs (counted_samples input))
+  unfolding counted_samples
   few_counted few input (Pack p) =
       same_few _ (take (2 ^ 60) (samples_in input)) (ap (λ (l : List ℕ). take (2 ^ 60) l) (samples_append input (Pack p ∷ []) ∙ append-nil (samples_in input)))
   few_counted few input (Sample v) =

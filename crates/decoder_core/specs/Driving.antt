@@ -5,7 +5,7 @@ use Rattle.la_base.specs.declared.wires.Out.{Out}
 use Rattle.wait_cond.specs.declared.alt.Alt.{Alt}
 use Rattle.wait_cond.specs.declared.scan.Waiter.{Waiter}
 use Rattle.wait_cond.specs.Waiting.{Waits, SameNumbers, wait_from, alts_of}
-use Rattle.decoder_core.specs.Inputs.{Item, items_of, left_items, counted}
+use Rattle.decoder_core.specs.Inputs.{Item, items_of, left_items, counted_samples}
 
 -- a front of the feed was consumed, which isn't empty where the feed isn't; the outputs grew by those that were put out, and what is answered is the rest, which isn't empty. `before` and `after` say of which inputs the machine stood and stands
 pub record Steps (before after : List Item → Type 0) (outputs : List Item → List Out) (feed : Feed) (left : Option Feed) (into : List Out) : Type 0 where
@@ -18,8 +18,8 @@ pub record Steps (before after : List Item → Type 0) (outputs : List Item → 
 
 -- a driver has consumed this input: its waiter stands for the samples that count, and its machine for those up to its last stop
 pub record Drives {L : Type 0} (stands : L → List ℕ → Type 0) (alts : L → List Alt) (machine : L) (waiter : Waiter) (input : List Item) : Type 0 where
-  pub waits : Waits waiter (counted input)
-  pub machine_stands : stands machine (take (wait_from waiter) (counted input))
+  pub waits : Waits waiter (counted_samples input)
+  pub machine_stands : stands machine (take (wait_from waiter) (counted_samples input))
   pub cond : alts_of waiter ≡ alts machine
 
 -- two drivers hold the same: equal machines, and waiters with equal numbers

@@ -15,8 +15,10 @@ use Rattle.wait_cond.specs.declared.alt.Alt.{Alt}
 use Rattle.wait_cond.specs.Meets.{Rises, Falls, MeetsAt}
 use Rattle.wait_cond.specs.Stops.{MetSet, NoneMet}
 use Rattle.wait_cond.proofs.ChainLemmas.{one_set}
-use Rattle.decoder_core.specs.Laws.{NotesFrom, IsFloor, GivesNothing, KeepsFront, PacketsInOrder, AddsFew, Rests, packet_starts}
-use Rattle.decoder_core.specs.OutLaws.{NotesFrom-append, packet_starts-append}
+use Rattle.decoder_core.specs.Laws.{NotesFrom, IsFloor, GivesNothing, KeepsFront, PacketsInOrder, AddsFew, GivesOn, PacketsOn, Rests, packet_starts}
+use Rattle.decoder_core.specs.OutLaws.{NotesFrom-append, PacketsOn-append, packet_starts-append}
+use Rattle.la_base.specs.declared.wires.Wire.{Wire}
+use Rattle.la_base.specs.declared.wires.Wire.TheVariants.{Nothing}
 use Rattle.decoder_core.specs.Edges.{is_edge, edge_note, notes_at, notes_below, edge_notes, EdgeBefore, EndsAtEdge, edge_alt, edge_alts}
 
 not_both : (b : Bool) → b ≡ true → b ≡ false → ⊥
@@ -206,6 +208,18 @@ no_packets list (suc q) =
 pub edges_order : PacketsInOrder edge_notes
 unfolding edge_notes
 edges_order list = subst IsNonDecreasing (sym (no_packets list (length list))) (IsNonDecreasingBy-short (λ x. x) [] (omega arith))
+
+no_packet_below : (wire : Wire) (list : List ℕ) (n : ℕ) → PacketsOn wire (notes_below list n)
+no_packet_below wire list zero = tt
+no_packet_below wire list (suc q) = PacketsOn-append wire (notes_below list q) (notes_at (before_of list q) (slice_index list q) q) (no_packet_below wire list q) (by (is_edge (before_of list q) (slice_index list q)))
+  where
+    by : (b : Bool) → PacketsOn wire (if b then edge_note (slice_index list q) q ∷ [] else [])
+    by true = tt
+    by false = tt
+
+pub edges_on_wire : GivesOn Nothing edge_notes
+unfolding edge_notes
+edges_on_wire list = no_packet_below Nothing list (length list)
 
 -- where nothing more is met, the samples don't end with another edge
 pub edges_one_stop : (seen more : List ℕ) → EndsAtEdge (seen ++ more) → Rests edge_alts seen more → more ≡ []

@@ -27,5 +27,5 @@ samples_in (Sample value ∷ items) = value ∷ samples_in items
 samples_in (Pack packet ∷ items) = samples_in items
 
 -- those that count
-unfoldable pub counted : List Item → List ℕ
-counted items = take (2 ^ 60) (samples_in items)
+unfoldable pub counted_samples : List Item → List ℕ
+counted_samples items = take (2 ^ 60) (samples_in items)

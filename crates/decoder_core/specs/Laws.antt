@@ -3,6 +3,8 @@
 -- the machine's last stop; its condition `alts` is pending from there on.
 use Rattle.std.specs.Prelude.{ℕ, ◌≡◌, ◌+◌, ◌≤◌, List, [], ◌∷◌, ◌++◌, take, length, slice_index}
 use Rattle.std.specs.List.Sorted.{IsNonDecreasing}
+use Rattle.la_base.specs.Kinds.{wire_of}
+use Rattle.la_base.specs.declared.wires.Wire.{Wire}
 use Rattle.la_base.specs.declared.wires.Out.{Out}
 use Rattle.la_base.specs.declared.wires.Out.TheVariants.{Note as NoteOut, Piece as PieceOut, Packet as PacketOut}
 use Rattle.wait_cond.specs.declared.alt.Alt.{Alt}
@@ -72,3 +74,14 @@ OneMachine {L} setup stands = (one other : L) (list : List ℕ) → setup one �
 abbrev pub OneLastStop : {L S : Type 0} → (L → S) → (L → List ℕ → Type 0) → (L → List Alt) → Type 0
 OneLastStop {L} setup stands alts =
     (one other : L) (seen more : List ℕ) → setup one ≡ setup other → stands one seen → stands other (seen ++ more) → Rests (alts one) seen more → more ≡ []
+
+-- each packet among outputs is of this wire
+abbrev pub PacketsOn : Wire → List Out → Type 0
+PacketsOn wire [] = Unit {0}
+PacketsOn wire (NoteOut note ∷ outs) = PacketsOn wire outs
+PacketsOn wire (PieceOut piece ∷ outs) = PacketsOn wire outs
+PacketsOn wire (PacketOut packet ∷ outs) = (wire_of packet.kind ≡ wire) × PacketsOn wire outs
+
+-- *wire*: each packet that is put out is of this wire
+abbrev pub GivesOn : {X : Type 0} → Wire → (List X → List Out) → Type 0
+GivesOn {X} wire outs = (input : List X) → PacketsOn wire (outs input)

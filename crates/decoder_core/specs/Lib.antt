@@ -5,3 +5,4 @@ pub mod Driving
 pub mod CountedLaws
 pub mod Edges
 pub mod EdgeLaws
+pub mod Trees

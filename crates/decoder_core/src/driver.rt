@@ -1,7 +1,7 @@
 // Drives a decoder of samples by the waits that it asks for.
 ghost use Rattle.std.specs.Prelude.{◌≡◌, ◌≤◌, ◌<◌, ◌+◌, ◌^◌, [], ◌∷◌, ◌++◌, ℕ, List, length, min, replicate, ◌-◌, IfSome};
 ghost use Rattle.la_base.specs.declared.wires.Wire.TheVariants.{Logic};
-ghost use Rattle.decoder_core.specs.Inputs.{Item, Sample, counted, items_of, left_items};
+ghost use Rattle.decoder_core.specs.Inputs.{Item, Sample, counted_samples, items_of, left_items};
 ghost use Rattle.decoder_core.specs.Driving.{Steps, Drives, SameState};
 ghost use Rattle.decoder_core.specs.CountedLaws.{nothing_counted, front_counted, few_counted};
 
@@ -36,7 +36,7 @@ impl<L: LogicMachine> Driver<L> {
         requires { into.old ≡ [] }
         ensures setup { L.setup self.new.machine ≡ L.setup self.old.machine }
         ensures step { Steps (Drives L.stands L.alts self.old.machine self.old.waiter) (Drives L.stands L.alts self.new.machine self.new.waiter)
-            (λ input. L.outs (L.setup self.old.machine) (counted input)) (Feed.Run run) result into.new }
+            (λ input. L.outs (L.setup self.old.machine) (counted_samples input)) (Feed.Run run) result into.new }
     {
         let before = self.waiter.consumed();
         if before >= MOST_SAMPLES {
@@ -86,11 +86,13 @@ impl<L: LogicMachine> Machine for Driver<L> {
 
     ghost setup = { λ d. L.setup d.machine };
 
-    ghost outputs = { λ setup input. L.outs setup (counted input) };
+    ghost outputs = { λ setup input. L.outs setup (counted_samples input) };
 
-    ghost near = { λ setup input. L.near setup (counted input) };
+    ghost near = { λ setup input. L.near setup (counted_samples input) };
 
     ghost wire = { λ _. Logic };
+
+    ghost gives = { λ setup. L.gives setup };
 
     ghost consumed = { λ d input. Drives L.stands L.alts d.machine d.waiter input };
 
@@ -114,9 +116,11 @@ impl<L: LogicMachine> Machine for Driver<L> {
 
     ghost prefix = { λ d. front_counted (L.outs (L.setup d.machine)) (L.prefix d.machine) };
 
-    ghost order = { λ d input. L.order d.machine (counted input) };
+    ghost order = { λ d input. L.order d.machine (counted_samples input) };
 
     ghost few = { λ d. few_counted (L.outs (L.setup d.machine)) (L.few d.machine) };
+
+    ghost on_wire = { λ d input. L.on_wire d.machine (counted_samples input) };
 }
 
 /// The input makes the driver: two drivers of one setup that have consumed the same input hold equal

@@ -3,7 +3,8 @@ ghost use Rattle.std.specs.Prelude.{◌≡◌, [], ◌∷◌, List, ℕ, length}
 ghost use Rattle.std.proofs.Common.{refl};
 ghost use Rattle.wait_cond.specs.declared.alt.Alt.{Alt};
 ghost use Rattle.decoder_core.specs.Edges.{edge_notes, edge_alts, EndsAtEdge};
-ghost use Rattle.decoder_core.specs.EdgeLaws.{edges_quiet, edges_nothing, edges_prefix, edges_order, edges_few, edges_one_stop};
+ghost use Rattle.decoder_core.specs.EdgeLaws.{edges_quiet, edges_nothing, edges_prefix, edges_order, edges_few, edges_on_wire, edges_one_stop};
+ghost use Rattle.la_base.specs.declared.wires.Wire.TheVariants.{Nothing};
 
 use crate::{LogicMachine, Outs};
 use la_base::{Note, Out, Word};
@@ -31,6 +32,8 @@ impl LogicMachine for Edges {
     ghost outs = { λ _ list. edge_notes list };
 
     ghost near = { λ _ list. length list };
+
+    ghost gives = { λ _. Nothing };
 
     ghost stands = { λ _ list. EndsAtEdge list };
 
@@ -71,6 +74,8 @@ impl LogicMachine for Edges {
     ghost order = { λ _. edges_order };
 
     ghost few = { λ _. edges_few };
+
+    ghost on_wire = { λ _. edges_on_wire };
 
     ghost one_machine = { λ _ _ _ _ _ _. refl };
 

@@ -5,7 +5,7 @@ ghost use Rattle.la_base.specs.declared.wires.Wire.{Wire};
 ghost use Rattle.wait_cond.specs.declared.alt.Alt.{Alt};
 ghost use Rattle.wait_cond.specs.Conds.{cond_alts};
 ghost use Rattle.decoder_core.specs.Inputs.{Item};
-ghost use Rattle.decoder_core.specs.Laws.{IsFloor, GivesNothing, KeepsFront, PacketsInOrder, AddsFew, Rests, IsQuiet, IsLoud, StandsThere, OneMachine, OneLastStop};
+ghost use Rattle.decoder_core.specs.Laws.{IsFloor, GivesNothing, GivesOn, KeepsFront, PacketsInOrder, AddsFew, Rests, IsQuiet, IsLoud, StandsThere, OneMachine, OneLastStop};
 ghost use Rattle.decoder_core.specs.Driving.{Steps};
 
 use crate::Outs;
@@ -27,6 +27,9 @@ pub trait LogicMachine {
 
     /// Where what has begun in these samples and isn't given yet starts; their number where nothing has.
     ghost near: { Self.Setup → List ℕ → ℕ };
+
+    /// The wire of the packets that it puts out; Nothing where it puts none out.
+    ghost gives: { Self.Setup → Wire };
 
     /// It stands for these samples, the last of which is its last stop.
     ghost stands: { Self → List ℕ → Type 0 };
@@ -71,6 +74,9 @@ pub trait LogicMachine {
     /// *Few*: one more sample adds at most 16 outputs.
     ghost few: { (machine : Self) → AddsFew (outs (setup machine)) };
 
+    /// *Wire*: each packet that is put out is of that wire.
+    ghost on_wire: { (machine : Self) → GivesOn (gives (setup machine)) (outs (setup machine)) };
+
     /// *One machine*: two machines of one setup that stand for the same samples are equal.
     ghost one_machine: { OneMachine setup stands };
 
@@ -96,6 +102,9 @@ pub trait Machine {
 
     /// The wire that it wants.
     ghost wire: { Self.Setup → Wire };
+
+    /// The wire of the packets that it puts out; Nothing where it puts none out.
+    ghost gives: { Self.Setup → Wire };
 
     /// It has consumed this input.
     ghost consumed: { Self → List Item → Type 0 };
@@ -129,4 +138,7 @@ pub trait Machine {
 
     /// *Few*: one more sample or packet adds at most 16 outputs.
     ghost few: { (machine : Self) → AddsFew (outputs (setup machine)) };
+
+    /// *Wire*: each packet that is put out is of the wire that it gives.
+    ghost on_wire: { (machine : Self) → GivesOn (gives (setup machine)) (outputs (setup machine)) };
 }

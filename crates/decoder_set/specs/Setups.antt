@@ -2,7 +2,7 @@
 use Rattle.std.specs.Prelude.{ℕ, List, Option, Some, None, slice_get}
 use Rattle.la_base.specs.declared.wires.Note.{Note}
 use Rattle.la_base.specs.declared.wires.Out.{Out}
-use Rattle.decoder_core.specs.Inputs.{Item, counted}
+use Rattle.decoder_core.specs.Inputs.{Item, counted_samples}
 use Rattle.dec_i2c.specs.Bus.{i2c_outs, i2c_near}
 use Rattle.dec_i2c.specs.Texts as i2c
 use Rattle.decoder_set.specs.declared.kinds.Kind.{Kind}
@@ -22,7 +22,7 @@ value_at values place = or_zero (slice_get values place)
 
 -- what a kind gives with these values on a whole input
 abbrev pub outs_by : Kind → List (Option ℕ) → List Item → List Out
-outs_by I2c values input = i2c_outs (value_at values 0) (value_at values 1) (counted input)
+outs_by I2c values input = i2c_outs (value_at values 0) (value_at values 1) (counted_samples input)
 
 -- all outputs of a decoder of this setup on a whole input
 abbrev pub outs_of : Setup → List Item → List Out
@@ -30,7 +30,7 @@ outs_of setup input = outs_by setup.kind setup.values.given input
 
 -- where what has begun and isn't given yet starts, for a kind with these values
 abbrev pub near_by : Kind → List (Option ℕ) → List Item → ℕ
-near_by I2c values input = i2c_near (value_at values 0) (value_at values 1) (counted input)
+near_by I2c values input = i2c_near (value_at values 0) (value_at values 1) (counted_samples input)
 
 -- where what has begun in this input and isn't given yet starts
 abbrev pub near_of : Setup → List Item → ℕ

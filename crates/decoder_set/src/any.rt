@@ -5,7 +5,7 @@ ghost use Rattle.decoder_set.specs.Values.{in_range};
 ghost use Rattle.decoder_set.specs.Setups.{outs_of, near_of, value_at};
 ghost use Rattle.decoder_set.specs.Opening.{Opens, HasConsumed, I2cConsumed, setup_of};
 ghost use Rattle.decoder_set.specs.Kinds.{kind_row};
-ghost use Rattle.decoder_set.specs.Laws.{nothing_of, prefix_of, order_of, few_of};
+ghost use Rattle.decoder_set.specs.Laws.{nothing_of, prefix_of, order_of, few_of, on_wire_of};
 
 use crate::values::in_range;
 use crate::{Kind, OptValues, Setup, input_of};
@@ -85,6 +85,8 @@ impl Machine for AnyDecoder {
 
     ghost wire = { λ setup. (kind_row setup.kind).input };
 
+    ghost gives = { λ setup. (kind_row setup.kind).output };
+
     ghost consumed = { λ d input. HasConsumed d input };
 
     fn wants(&self) -> Wire {
@@ -110,4 +112,6 @@ impl Machine for AnyDecoder {
     ghost order = { λ d. order_of (setup_of d) };
 
     ghost few = { λ d. few_of (setup_of d) };
+
+    ghost on_wire = { λ d. on_wire_of (setup_of d) };
 }

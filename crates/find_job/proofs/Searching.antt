@@ -10,6 +10,8 @@ use Rattle.wait_cond.specs.Waiting.{Waits, alts_of, wait_from}
 use Rattle.wait_cond.specs.declared.alt.Alt.{Alt}
 use Rattle.wait_cond.specs.declared.scan.Waiter.{Waiter}
 use Rattle.wait_cond.proofs.ChainLemmas.{chain_longer, waits_stops}
+use Rattle.la_io.specs.Capture.{Told}
+use Rattle.capture_any.specs.Captures.{ToldAt}
 use Rattle.capture_any.specs.Reading.{Stands, Next}
 use Rattle.capture_any.specs.declared.capture.Capture.{Capture}
 use Rattle.capture_any.proofs.ListingLemmas.{Gave, gave_nothing, gave_run}
@@ -20,33 +22,33 @@ use Rattle.la_io.proofs.Fronts.{front_on, front_whole}
 use Rattle.find_job.proofs.Fronts.{lines_append}
 
 -- the capture has given samples of the bytes that were taken, and the lines of their stops are written
-pub record Searching (capture : Capture) (waiter : Waiter) (before : List ℕ) (left_old left_now old now : Option (List ℕ)) : Type 0 where
+pub record Searching (capture : Capture) (waiter : Waiter) (before : List ℕ) (then : Told) (left_old left_now old now : Option (List ℕ)) : Type 0 where
   pub given : List ℕ
   pub stops : List Stop
-  pub gave : Gave capture before left_old left_now given
+  pub gave : Gave capture before then left_old left_now given
   pub waits : Waits waiter given
   pub chain : Chain given (alts_of waiter) 0 stops (wait_from waiter)
   pub written : Appends old now (lines_of stops)
 
-pub searching_starts : (capture : Capture) (waiter : Waiter) (before : List ℕ) (left old : Option (List ℕ)) → Stands capture before [] → Waits waiter [] → wait_from waiter ≡ 0
-    → Searching capture waiter before left left old old
-searching_starts capture waiter before left old stands waits from = record {
+pub searching_starts : (capture : Capture) (waiter : Waiter) (before : List ℕ) (then : Told) (left old : Option (List ℕ)) → ToldAt then left → Stands capture before then [] → Waits waiter [] → wait_from waiter ≡ 0
+    → Searching capture waiter before then left left old old
+searching_starts capture waiter before then left old at stands waits from = record {
   given = [];
   stops = [];
-  gave = gave_nothing capture before left stands;
+  gave = gave_nothing capture before then left at stands;
   waits = waits;
   chain = sym from;
   written = appends_nothing old;
 }
 
-module _ (capture : Capture) (waiter : Waiter) (before : List ℕ) (left_old left_now old now : Option (List ℕ)) (so_far : Searching capture waiter before left_old left_now old now) where
+module _ (capture : Capture) (waiter : Waiter) (before : List ℕ) (then : Told) (left_old left_now old now : Option (List ℕ)) (so_far : Searching capture waiter before then left_old left_now old now) where
   -- a run, whose stops are written
   pub searching_on : (next : Capture) (left_new : Option (List ℕ)) (run : Run) (after : Waiter) (new : Option (List ℕ)) → Next capture next left_now left_new (Ok (Some run)) → alts_of after ≡ alts_of waiter
-      → RunWritten after (alts_of waiter) (so_far.given ++ samples run) so_far.stops now new → Searching next after before left_old left_new old new
+      → RunWritten after (alts_of waiter) (so_far.given ++ samples run) so_far.stops now new → Searching next after before then left_old left_new old new
   searching_on next left_new run after new answer alts written = record {
     given = so_far.given ++ samples run;
     stops = so_far.stops ++ written.more;
-    gave = gave_run capture next before left_old left_now left_new so_far.given run so_far.gave answer;
+    gave = gave_run capture next before then left_old left_now left_new so_far.given run so_far.gave answer;
     waits = written.waits;
     chain = subst (λ (a : List Alt). Chain (so_far.given ++ samples run) a 0 (so_far.stops ++ written.more) (wait_from after)) (sym alts) written.chain;
     written = appends_on old now new (lines_of so_far.stops) (lines_of written.more) (lines_of (so_far.stops ++ written.more)) so_far.written written.written (sym (lines_append so_far.stops written.more));

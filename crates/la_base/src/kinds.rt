@@ -1,6 +1,6 @@
 // The wire of each kind of packet.
 ghost use Rattle.std.specs.Prelude.{◌≡◌};
-ghost use Rattle.la_base.specs.Kinds.{wire_of};
+ghost use Rattle.la_base.specs.Kinds.{same_wire, wire_of};
 
 use crate::{PacketKind, Wire};
 
@@ -20,4 +20,11 @@ pub fn wire_of(kind: PacketKind) -> Wire
         PacketKind::NetReset | PacketKind::NetCommand | PacketKind::NetRom | PacketKind::NetByte =>
             Wire::OwNet,
     }
+}
+
+/// Whether two wires are the same.
+pub fn same_wire(one: Wire, other: Wire) -> bool
+    ensures { result ≡ same_wire one other }
+{
+    one == other
 }

@@ -9,7 +9,7 @@ mod samples;
 mod tests;
 mod wires;
 
-pub use kinds::wire_of;
+pub use kinds::{same_wire, wire_of};
 pub use names::{MOST_NAMES, Names, NoMemory};
 pub use parts::{cut, pin};
 pub use samples::{MOST_PINS, Pins, Rate, Run, Word};

@@ -1,16 +1,15 @@
 -- What the bytes of a capture give: a head, the settled samples and an ending.
 use Rattle.std.specs.Prelude.{ℕ, ◌≡◌, List}
-use Rattle.la_base.specs.declared.samples.Rate.{Rate}
 use Rattle.la_io.specs.declared.fault.CaptureFault.{CaptureFault}
 
 -- how the bytes stop: the source told its end behind them, or it didn't
-pub data Stop : Type 0 where
-  AtEnd : Stop
-  Cut : Stop
+pub data Told : Type 0 where
+  AtEnd : Told
+  Cut : Told
 
--- the channels' names and the rate; or a fault of the header; or the bytes are cut before the head is whole
+-- the channels' names and the rate, as so many samples in so many seconds; or a fault of the header; or the bytes are cut before the head is whole
 pub data Head : Type 0 where
-  Good : List (List ℕ) → Rate → Head
+  Good : (names : List (List ℕ)) (num den : ℕ) → Head
   Bad : CaptureFault → Head
   Unread : Head
 

@@ -6,6 +6,7 @@ mod buffered;
 mod fault;
 mod give;
 mod held;
+mod intake;
 mod memory;
 mod outside;
 mod standard;
@@ -16,6 +17,7 @@ mod whole;
 
 pub use buffered::Buffered;
 pub use fault::{CaptureError, CaptureFault};
+pub use intake::{Intake, MOST_BYTES};
 pub use memory::{MemSink, MemSource};
 pub use outside::{Failed, Sink, Source};
 pub use standard::{StdSink, StdSource};

@@ -3,7 +3,7 @@ use Rattle.std.proofs.Common.{◌≡◌, ℕ, ◌⊎◌, inl, inr, List, [], ◌
 use Rattle.std.specs.Prelude.{IsOk}
 use Rattle.std.specs.String.{string_bytes}
 use Rattle.la_base.specs.declared.samples.Rate.{Rate}
-use Rattle.la_io.specs.Capture.{Cut}
+use Rattle.la_io.specs.Capture.{Told, Cut}
 use Rattle.capture_any.specs.declared.form.Form.{Form}
 use Rattle.text_parts.specs.Chains.{WordText, chain_of}
 use Rattle.text_parts.specs.declared.chain.ChainWord.{ChainWord}
@@ -91,15 +91,15 @@ module _ (values : Values) (names : List (List ℕ)) (rate : Rate) (alternatives
   bound_not_refused pins alts chosen other (inr s) = no_stack s.stacks.job
 
   -- the same where the head was read
-  module _ (form : Form) (named : IsFormOf values form) (bytes : List ℕ) (head : HasHead form bytes Cut names rate) where
+  module _ (form : Form) (named : IsFormOf values form) (bytes : List ℕ) (told : Told) (head : HasHead form bytes told names rate) where
     cannot_here : (fault : BindFault) → CannotBind values [] Cut fault → SearchRefused values names fault ⊎ StackRefused values names rate fault
-    cannot_here fault c = at_head values names rate form named bytes head fault c
+    cannot_here fault c = at_head values names rate form named bytes told head fault c
 
     pub one_fault : (fault : BindFault) → bind_all names 0 [] alternatives ≡ Err fault → (other : BindFault) → CannotBind values [] Cut other → fault ≡ other
     one_fault fault refused other c = one_refusal fault refused other (cannot_here other c)
 
     pub refused_cannot : (fault : BindFault) → bind_all names 0 [] alternatives ≡ Err fault → CanBind values [] Cut → ⊥
-    refused_cannot fault refused c = refused_not_bound fault refused (can_at_head values names rate form named bytes head c)
+    refused_cannot fault refused c = refused_not_bound fault refused (can_at_head values names rate form named bytes told head c)
 
     pub chosen_refuses_none : (pins : List ℕ) (alts : List Alt) → Chosen names alternatives pins alts → (other : BindFault) → CannotBind values [] Cut other → ⊥
     chosen_refuses_none pins alts chosen other c = bound_not_refused pins alts chosen other (cannot_here other c)

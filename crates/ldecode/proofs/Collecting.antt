@@ -13,11 +13,12 @@ use Rattle.la_base.specs.declared.wires.Note.{Note}
 use Rattle.decoder_core.specs.Inputs.{Item, Sample}
 use Rattle.note_order.specs.Order.{entries_from, entry_of, in_order, is_of}
 use Rattle.note_order.specs.declared.entry.Entry.{Entry}
+use Rattle.capture_any.specs.Captures.{ToldAt}
 use Rattle.capture_any.specs.Reading.{Stands, Next}
 use Rattle.capture_any.specs.declared.capture.Capture.{Capture}
 use Rattle.capture_any.proofs.ListingLemmas.{Gave, gave_nothing, gave_run}
 use Rattle.la_io.specs.Grown.{appends_nothing}
-use Rattle.la_io.specs.Capture.{Stop, Captured}
+use Rattle.la_io.specs.Capture.{Told, Captured}
 use Rattle.capture_any.specs.Listings.{Lists, Says}
 use Rattle.capture_any.specs.declared.end.ListingEnd.{ListingEnd}
 use Rattle.capture_any.specs.declared.end.ListingEnd.TheVariants.{Done, Fault, NoMemory, Read, Write}
@@ -128,9 +129,9 @@ module _ {M S : Type 0} (setup : M → S) (consumed : M → List Item → Type 0
         ∙ ap (λ (l : List (List Note)). filter (is_of i) (entries_from 0 (shown_from shown 0 l))) (sym (notes_on_more olds news fed.added fed.each stand))
 
   -- the samples given so far were consumed, and their notes are gathered
-  pub record Collecting (capture : Capture) (setups : List S) (shown : ℕ → Bool) (machines : List M) (before : List ℕ) (left_old left_now : Option (List ℕ)) (entries : List Entry) : Type 0 where
+  pub record Collecting (capture : Capture) (setups : List S) (shown : ℕ → Bool) (machines : List M) (before : List ℕ) (then : Told) (left_old left_now : Option (List ℕ)) (entries : List Entry) : Type 0 where
     pub given : List ℕ
-    pub gave : Gave capture before left_old left_now given
+    pub gave : Gave capture before then left_old left_now given
     pub same : map setup machines ≡ setups
     pub stand : Consumed setup consumed outputs given machines
     pub gathered : Gathered outputs setups shown entries given
@@ -142,22 +143,22 @@ module _ {M S : Type 0} (setup : M → S) (consumed : M → List Item → Type 0
       ∙ ap (λ (l : List Note). filter (is_of i) (map (entry_of k) l ++ entries_from (k + 1) (shown_from shown (k + 1) (notes_on outputs (map setup machines) []))))
       (sym (ap (λ (l : List Out). where_shown (shown k) (notes_of l)) (nothing machine) ∙ none_shown (shown k)))
 
-  pub collecting_starts : (capture : Capture) (shown : ℕ → Bool) (machines : List M) (before : List ℕ) (left : Option (List ℕ)) (entries : List Entry) → ((machine : M) → outputs (setup machine) [] ≡ [])
-      → Stands capture before [] → Consumed setup consumed outputs [] machines → entries ≡ [] → Collecting capture (map setup machines) shown machines before left left entries
-  collecting_starts capture shown machines before left entries nothing stands fresh empty = record {
+  pub collecting_starts : (capture : Capture) (shown : ℕ → Bool) (machines : List M) (before : List ℕ) (then : Told) (left : Option (List ℕ)) (entries : List Entry) → ((machine : M) → outputs (setup machine) [] ≡ [])
+      → ToldAt then left → Stands capture before then [] → Consumed setup consumed outputs [] machines → entries ≡ [] → Collecting capture (map setup machines) shown machines before then left left entries
+  collecting_starts capture shown machines before then left entries nothing at stands fresh empty = record {
     given = [];
-    gave = gave_nothing capture before left stands;
+    gave = gave_nothing capture before then left at stands;
     same = refl;
     stand = fresh;
     gathered = λ i. ap (filter (is_of i)) empty ∙ nothing_yet shown 0 i machines nothing;
   }
 
-  pub collecting_on : (old new : Capture) (setups : List S) (shown : ℕ → Bool) (olds news : List M) (before : List ℕ) (left_old left_now left_new : Option (List ℕ)) (entries more : List Entry) (run : Run)
-      → Collecting old setups shown olds before left_old left_now entries → Next old new left_now left_new (Ok (Some run)) → FedAll setup consumed outputs (map Sample (samples run)) shown olds news entries more
-      → Collecting new setups shown news before left_old left_new more
-  collecting_on old new setups shown olds news before left_old left_now left_new entries more run so_far next fed = record {
+  pub collecting_on : (old new : Capture) (setups : List S) (shown : ℕ → Bool) (olds news : List M) (before : List ℕ) (then : Told) (left_old left_now left_new : Option (List ℕ)) (entries more : List Entry) (run : Run)
+      → Collecting old setups shown olds before then left_old left_now entries → Next old new left_now left_new (Ok (Some run)) → FedAll setup consumed outputs (map Sample (samples run)) shown olds news entries more
+      → Collecting new setups shown news before then left_old left_new more
+  collecting_on old new setups shown olds news before then left_old left_now left_new entries more run so_far next fed = record {
     given = so_far.given ++ samples run;
-    gave = gave_run old new before left_old left_now left_new so_far.given run so_far.gave next;
+    gave = gave_run old new before then left_old left_now left_new so_far.given run so_far.gave next;
     same = setups_stay (map Sample (samples run)) olds news fed.added fed.each ∙ so_far.same;
     stand = consumed_on so_far.given (samples run) olds news fed.added fed.each so_far.stand;
     gathered = subst (λ (l : List S). Gathered outputs l shown more (so_far.given ++ samples run)) so_far.same
@@ -165,11 +166,12 @@ module _ {M S : Type 0} (setup : M → S) (consumed : M → List Item → Type 0
   }
 
 -- want of memory leaves what a failed write leaves: a front
-pub lists_no_room : (capture : List ℕ → Stop → Captured) (Whole Front : List ℕ → Type 0) (before : List ℕ) (left_old left_new : Option (List ℕ)) → Lists capture Whole Front before left_old left_new Write
-    → Lists capture Whole Front before left_old left_new NoMemory
-lists_no_room capture Whole Front before left_old left_new lists = record {
+pub lists_no_room : (capture : List ℕ → Told → Captured) (Whole Front : List ℕ → Type 0) (before : List ℕ) (then : Told) (left_old left_new : Option (List ℕ)) → Lists capture Whole Front before then left_old left_new Write
+    → Lists capture Whole Front before then left_old left_new NoMemory
+lists_no_room capture Whole Front before then left_old left_new lists = record {
   bytes = lists.bytes;
   told = lists.told;
+  later = lists.later;
   taken = lists.taken;
   at_end = lists.at_end;
   says = lists.says;
@@ -181,18 +183,19 @@ pub gathered_listing : {S : Type 0} (outputs : S → List Item → List Out) (se
 gathered_listing outputs setups instances shown entries sorted given is gathered =
     ap (note_lines instances) (is ∙ instances_make_listing entries (entries_from 0 (shown_from shown 0 (notes_on outputs setups given))) gathered)
 
-module _ (capture : List ℕ → Stop → Captured) (Whole Front : List ℕ → Type 0) (listing : List ℕ → List ℕ) (before : List ℕ) (left_old left_new old new : Option (List ℕ)) where
+module _ (capture : List ℕ → Told → Captured) (Whole Front : List ℕ → Type 0) (listing : List ℕ → List ℕ) (before : List ℕ) (then : Told) (left_old left_new old new : Option (List ℕ)) where
   -- the work came to an end, and all that was gathered is written
-  pub decodes_whole : ((given : List ℕ) → Whole given → Appends old new (listing given)) → (ending : ListingEnd) → ending ≢ NoMemory → ending ≢ Write → Lists capture Whole Front before left_old left_new ending
-      → Decodes capture listing before left_old left_new old new ending
+  pub decodes_whole : ((given : List ℕ) → Whole given → Appends old new (listing given)) → (ending : ListingEnd) → ending ≢ NoMemory → ending ≢ Write → Lists capture Whole Front before then left_old left_new ending
+      → Decodes capture listing before then left_old left_new old new ending
   decodes_whole written ending room reads lists = record {
     bytes = lists.bytes;
     told = lists.told;
+    later = lists.later;
     taken = lists.taken;
     at_end = lists.at_end;
     says = by (before ++ lists.bytes) lists.told ending room reads lists.says;
   } where
-    by : (bytes : List ℕ) (told : Stop) (ending : ListingEnd) → ending ≢ NoMemory → ending ≢ Write → Says capture Whole Front bytes told ending → DecodeSays capture listing bytes told old new ending
+    by : (bytes : List ℕ) (told : Told) (ending : ListingEnd) → ending ≢ NoMemory → ending ≢ Write → Says capture Whole Front bytes told ending → DecodeSays capture listing bytes told old new ending
     by bytes told Done room reads s = (s.0, s.1, written _ s.2)
     by bytes told Read room reads s = (s.0, written _ s.1)
     by bytes told (Fault fault) room reads s = (s.0, written _ s.1)
@@ -200,16 +203,17 @@ module _ (capture : List ℕ → Stop → Captured) (Whole Front : List ℕ → 
     by bytes told NoMemory room reads s = absurd (room refl)
 
   -- a write failed then, and a front is written
-  pub decodes_front : ((given : List ℕ) → Whole given → AppendsFront old new (listing given)) → (ending : ListingEnd) → ending ≢ NoMemory → ending ≢ Write → Lists capture Whole Front before left_old left_new ending
-      → Decodes capture listing before left_old left_new old new Write
+  pub decodes_front : ((given : List ℕ) → Whole given → AppendsFront old new (listing given)) → (ending : ListingEnd) → ending ≢ NoMemory → ending ≢ Write → Lists capture Whole Front before then left_old left_new ending
+      → Decodes capture listing before then left_old left_new old new Write
   decodes_front written ending room reads lists = record {
     bytes = lists.bytes;
     told = lists.told;
+    later = lists.later;
     taken = lists.taken;
     at_end = lists.at_end;
     says = by (before ++ lists.bytes) lists.told ending room reads lists.says;
   } where
-    by : (bytes : List ℕ) (told : Stop) (ending : ListingEnd) → ending ≢ NoMemory → ending ≢ Write → Says capture Whole Front bytes told ending → DecodeSays capture listing bytes told old new Write
+    by : (bytes : List ℕ) (told : Told) (ending : ListingEnd) → ending ≢ NoMemory → ending ≢ Write → Says capture Whole Front bytes told ending → DecodeSays capture listing bytes told old new Write
     by bytes told Done room reads s = written _ s.2
     by bytes told Read room reads s = written _ s.1
     by bytes told (Fault fault) room reads s = written _ s.1
@@ -217,11 +221,12 @@ module _ (capture : List ℕ → Stop → Captured) (Whole Front : List ℕ → 
     by bytes told NoMemory room reads s = absurd (room refl)
 
 -- there was no memory before anything was written
-pub decodes_nothing : (capture : List ℕ → Stop → Captured) (Whole Front : List ℕ → Type 0) (listing : List ℕ → List ℕ) (before : List ℕ) (left_old left_new old : Option (List ℕ)) (ending : ListingEnd)
-    → Lists capture Whole Front before left_old left_new ending → Decodes capture listing before left_old left_new old old NoMemory
-decodes_nothing capture Whole Front listing before left_old left_new old ending lists = record {
+pub decodes_nothing : (capture : List ℕ → Told → Captured) (Whole Front : List ℕ → Type 0) (listing : List ℕ → List ℕ) (before : List ℕ) (then : Told) (left_old left_new old : Option (List ℕ)) (ending : ListingEnd)
+    → Lists capture Whole Front before then left_old left_new ending → Decodes capture listing before then left_old left_new old old NoMemory
+decodes_nothing capture Whole Front listing before then left_old left_new old ending lists = record {
   bytes = lists.bytes;
   told = lists.told;
+  later = lists.later;
   taken = lists.taken;
   at_end = lists.at_end;
   says = appends_nothing old;

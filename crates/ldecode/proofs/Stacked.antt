@@ -8,7 +8,7 @@ use Rattle.la_base.specs.declared.samples.TheConstants.{MOST_PINS}
 use Rattle.la_base.specs.declared.wires.Note.{Note}
 use Rattle.la_base.specs.declared.wires.Out.{Out}
 use Rattle.la_base.specs.declared.wires.Wire.TheVariants.{Logic}
-use Rattle.la_io.specs.Capture.{Cut}
+use Rattle.la_io.specs.Capture.{Told, Cut}
 use Rattle.capture_any.specs.declared.form.Form.{Form}
 use Rattle.decoder_core.specs.Inputs.{Sample}
 use Rattle.decoder_set.specs.Kinds.{kind_row}
@@ -33,7 +33,8 @@ use Rattle.stack_spec.specs.declared.bound.Bound.{Bound}
 use Rattle.stack_spec.specs.declared.faults.BindFault.{BindFault}
 use Rattle.stack_spec.specs.declared.stack.Stack.{Stack}
 use Rattle.ldecode.specs.Asking.{AsksStack, CanBind, CannotBind, HasHead, IsFormOf, SearchBound, SearchRefused, StackBound, StackRefused, Stacks, nodes_of}
-use Rattle.ldecode.specs.Decoding.{decode_listing, input_of, note_lines, notes_of, outputs_behind, shown_from}
+use Rattle.ldecode.specs.Decoding.{decode_listing, note_lines, notes_of, shown_from}
+use Rattle.decoder_core.specs.Trees.{input_of, outputs_behind}
 use Rattle.ldecode.specs.Feeding.{Consumed, notes_on, samples_listing}
 use Rattle.note_order.specs.Order.{listed}
 use Rattle.ldecode.proofs.Working.{at_head, can_at_head}
@@ -93,15 +94,15 @@ module _ (values : Values) (names : List (List ℕ)) (rate : Rate) (accepted : A
       cc
 
   -- the same where the head was read
-  module _ (form : Form) (named : IsFormOf values form) (bytes : List ℕ) (head : HasHead form bytes Cut names rate) where
+  module _ (form : Form) (named : IsFormOf values form) (bytes : List ℕ) (told : Told) (head : HasHead form bytes told names rate) where
     pub one_fault : (fault : BindFault) → bound_of MOST_PINS names rate accepted.instances ≡ Err fault → (other : BindFault) → CannotBind values [] Cut other → fault ≡ other
-    one_fault fault refused other c = one_refusal fault refused other (at_head values names rate form named bytes head other c)
+    one_fault fault refused other c = one_refusal fault refused other (at_head values names rate form named bytes told head other c)
 
     pub refused_cannot : (fault : BindFault) → bound_of MOST_PINS names rate accepted.instances ≡ Err fault → CanBind values [] Cut → ⊥
-    refused_cannot fault refused c = refused_not_bound fault refused (can_at_head values names rate form named bytes head c)
+    refused_cannot fault refused c = refused_not_bound fault refused (can_at_head values names rate form named bytes told head c)
 
     pub bound_refuses_none : (bounds : List BoundInstance) → bound_of MOST_PINS names rate accepted.instances ≡ Ok bounds → (other : BindFault) → CannotBind values [] Cut other → ⊥
-    bound_refuses_none bounds bound other c = bound_not_refused bounds bound other (at_head values names rate form named bytes head other c)
+    bound_refuses_none bounds bound other c = bound_not_refused bounds bound other (at_head values names rate form named bytes told head other c)
 
 -- decoders that have consumed nothing have consumed no samples
 pub fresh : (machines : List AnyDecoder) → All (λ decoder. HasConsumed decoder []) machines → Consumed setup_of HasConsumed outs_of [] machines
@@ -140,12 +141,12 @@ outs_on samples bounds = map (λ b. outs_of b.setup (map Sample samples)) bounds
 
 -- then each reads the samples
 behind : (samples : List ℕ) (before : List (List Out)) (instances : List Instance) (bounds : List BoundInstance) → length instances ≡ length bounds → AllHeads instances
-    → outputs_behind samples before (nodes_of instances bounds) ≡ before ++ outs_on samples bounds
+    → outputs_behind outs_of samples before (nodes_of instances bounds) ≡ before ++ outs_on samples bounds
 behind samples before [] [] count heads = sym (append-nil before)
 behind samples before [] (b ∷ bounds) count heads = absurd (omega (arith, count))
 behind samples before (i ∷ instances) [] count heads = absurd (omega (arith, count))
 behind samples before (i ∷ instances) (b ∷ bounds) count heads =
-    ap (λ (parent : Option ℕ). outputs_behind samples (before ++ outs_of b.setup (input_of samples before parent) ∷ []) (nodes_of instances bounds)) heads.0
+    ap (λ (parent : Option ℕ). outputs_behind outs_of samples (before ++ outs_of b.setup (input_of samples before parent) ∷ []) (nodes_of instances bounds)) heads.0
     ∙ behind samples (before ++ outs_of b.setup (map Sample samples) ∷ []) instances bounds (omega (arith, count)) heads.1
     ∙ append_assoc before (outs_of b.setup (map Sample samples) ∷ []) (outs_on samples bounds)
 

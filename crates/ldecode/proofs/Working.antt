@@ -3,12 +3,13 @@ use Rattle.std.proofs.Common.{◌≡◌, ℕ, ◌≤◌, ◌⊎◌, inl, inr, Li
 use Rattle.std.proofs.KnownBytes.{Consumes-nil, Consumes-trans}
 use Rattle.std.proofs.Props.{props}
 use Rattle.la_base.specs.declared.samples.Rate.{Rate}
-use Rattle.la_io.specs.Capture.{Stop as Told, Cut, Bad, Unread, Good as GoodHead, Captured}
+use Rattle.la_io.specs.Capture.{Told, AtEnd, Cut, Bad, Unread, Good as GoodHead, Captured}
 use Rattle.la_io.specs.Causes.{Rose}
 use Rattle.la_io.specs.Grown.{appends_nothing}
 use Rattle.la_io.specs.declared.fault.CaptureError.{CaptureError}
 use Rattle.la_io.specs.declared.fault.CaptureError.TheVariants as error
-use Rattle.capture_any.specs.Captures.{capture_of}
+use Rattle.capture_any.specs.Captures.{Later, capture_of}
+use Rattle.std.proofs.lemmas.List.{append-nil}
 use Rattle.capture_any.specs.Listings.{Lists, ReadCause, WriteCause}
 use Rattle.capture_any.specs.Reading.{CaptureCause, Opens, capture_by, form_of, names_of, pins_of, rate_of}
 use Rattle.capture_any.specs.declared.capture.Capture.{Capture}
@@ -23,7 +24,9 @@ use Rattle.words.specs.Rates.{RateNumbers, numbers_of}
 use Rattle.words.specs.Settings.{Values}
 use Rattle.stack_spec.specs.Accepting.{Accepted, is_shown}
 use Rattle.ldecode.specs.Asking.{AsksFor, AsksStack, CanBind, CannotBind, HasHead, IsFormOf, SearchBound, SearchRefused, StackBound, StackRefused}
-use Rattle.ldecode.specs.Decoding.{Decodes, Node, decode_listing}
+use Rattle.ldecode.specs.Decoding.{Decodes, decode_listing}
+use Rattle.decoder_core.specs.Trees.{Node}
+use Rattle.decoder_set.specs.declared.setup.Setup.{Setup}
 use Rattle.ldecode.specs.Headline.{Completes, Decoded, OnRefusal, OrNoMemory, Searched, SinkCause, SourceCause, Works, WorksOn}
 use Rattle.ldecode.specs.Notices.{status_at_head, status_of}
 use Rattle.ldecode.specs.declared.status.Status.TheVariants.{Bind, NoMemory}
@@ -51,20 +54,28 @@ pub one_head : (values : Values) (form other : Form) (bytes : List ℕ) (told : 
     → HasHead form [] Cut names rate → HasHead other bytes told others other_rate → (names ≡ others) × (rate ≡ other_rate)
 one_head values form other bytes told names others rate other_rate is also head here =
     let same = one_form values form other is also in
-    let stays : HasHead form bytes told names rate = head_stays.good form [] [] bytes told names rate head in
-    let both : GoodHead names rate ≡ GoodHead others other_rate = sym stays ∙ ap (λ (f : Form). (capture_of f [] bytes told).head) same ∙ here in
-    (cc, cc)
+    let stays : HasHead form bytes told names rate = head_stays.good form [] [] bytes told names rate.num rate.den head in
+    let both : GoodHead names rate.num rate.den ≡ GoodHead others other_rate.num other_rate.den = sym stays ∙ ap (λ (f : Form). (capture_of f [] bytes told).head) same ∙ here in
+    (cc, one_rate rate other_rate (cc) (cc))
+
+-- a good head stays, as long as nothing comes behind a told end
+head_later : (form : Form) (before bytes : List ℕ) (then now : Told) (names : List (List ℕ)) (rate : Rate) → Later then bytes now → HasHead form before then names rate → HasHead form (before ++ bytes) now names rate
+head_later form before bytes AtEnd now names rate later head =
+    let none = later.none refl in
+    let still = later.still refl in
+    subst (λ (l : List ℕ). HasHead form l now names rate) (sym (append-nil before) ∙ ap (λ (l : List ℕ). before ++ l) (sym none)) (subst (λ (t : Told). HasHead form before t names rate) (sym still) head)
+head_later form before bytes Cut now names rate later head = head_stays.good form [] before bytes now names rate.num rate.den head
 
 -- what can be bound at the head of no bytes, or not, is so at every head
-module _ (values : Values) (names : List (List ℕ)) (rate : Rate) (form : Form) (named : IsFormOf values form) (bytes : List ℕ) (head : HasHead form bytes Cut names rate) where
+module _ (values : Values) (names : List (List ℕ)) (rate : Rate) (form : Form) (named : IsFormOf values form) (bytes : List ℕ) (told : Told) (head : HasHead form bytes told names rate) where
   pub at_head : (fault : BindFault) → CannotBind values [] Cut fault → SearchRefused values names fault ⊎ StackRefused values names rate fault
   at_head fault c =
-      let same = one_head values c.form form bytes Cut c.names names c.rate rate c.form_is named c.head head in
+      let same = one_head values c.form form bytes told c.names names c.rate rate c.form_is named c.head head in
       subst (λ (n : List (List ℕ)). SearchRefused values n fault ⊎ StackRefused values n rate fault) same.0 (subst (λ (r : Rate). SearchRefused values c.names fault ⊎ StackRefused values c.names r fault) same.1 c.refused)
 
   pub can_at_head : CanBind values [] Cut → SearchBound values names ⊎ StackBound values names rate
   can_at_head c =
-      let same = one_head values c.form form bytes Cut c.names names c.rate rate c.form_is named c.head head in
+      let same = one_head values c.form form bytes told c.names names c.rate rate c.form_is named c.head head in
       subst (λ (n : List (List ℕ)). SearchBound values n ⊎ StackBound values n rate) same.0 (subst (λ (r : Rate). SearchBound values c.names ⊎ StackBound values c.names r) same.1 c.bound)
 
 module _ (values : Values) (form : Form) (named : IsFormOf values form) (left_old left_mid old : Option (List ℕ)) where
@@ -96,27 +107,27 @@ module _ (values : Values) (form : Form) (named : IsFormOf values form) (left_ol
   pub head_refuses_none : (why : CaptureError) → Opens form left_old left_mid (Err why) → (fault : BindFault) → CannotBind values [] Cut fault → OrNoMemory (Bind fault) (status_at_head why)
   head_refuses_none (error.Fault problem) opens fault cannot =
       let same = one_form values cannot.form form cannot.form_is named in
-      let stays = head_stays.good cannot.form [] [] opens.bytes opens.opened.0 cannot.names cannot.rate cannot.head in
-      let both : GoodHead cannot.names cannot.rate ≡ Bad problem = sym stays ∙ ap (λ (f : Form). (capture_of f [] opens.bytes opens.opened.0).head) same ∙ opens.opened.2 in
+      let stays = head_stays.good cannot.form [] [] opens.bytes opens.opened.0 cannot.names cannot.rate.num cannot.rate.den cannot.head in
+      let both : GoodHead cannot.names cannot.rate.num cannot.rate.den ≡ Bad problem = sym stays ∙ ap (λ (f : Form). (capture_of f [] opens.bytes opens.opened.0).head) same ∙ opens.opened.2 in
       cc
   head_refuses_none error.Read opens fault cannot =
       let same = one_form values cannot.form form cannot.form_is named in
-      let stays = head_stays.good cannot.form [] [] opens.bytes Cut cannot.names cannot.rate cannot.head in
-      let both : GoodHead cannot.names cannot.rate ≡ Unread = sym stays ∙ ap (λ (f : Form). (capture_of f [] opens.bytes Cut).head) same ∙ opens.opened in
+      let stays = head_stays.good cannot.form [] [] opens.bytes Cut cannot.names cannot.rate.num cannot.rate.den cannot.head in
+      let both : GoodHead cannot.names cannot.rate.num cannot.rate.den ≡ Unread = sym stays ∙ ap (λ (f : Form). (capture_of f [] opens.bytes Cut).head) same ∙ opens.opened in
       cc
   head_refuses_none error.NoMemory opens fault cannot = inr refl
 
   module _ (capture : Capture) (opens : Opens form left_old left_mid (Ok capture)) where
-    head_of : HasHead form opens.bytes Cut (names_of capture) (rate_of capture)
-    head_of = opens.opened.1
+    head_of : HasHead form opens.bytes opens.opened.0 (names_of capture) (rate_of capture)
+    head_of = opens.opened.3
 
     -- a channel isn't there
     pub binding_fails : (fault : BindFault) → SearchRefused values (names_of capture) fault ⊎ StackRefused values (names_of capture) (rate_of capture) fault → WorksOn values left_old left_mid old old (Bind fault)
     binding_fails fault refused = record {
       bytes = opens.bytes;
-      told = Cut;
+      told = opens.opened.0;
       taken = opens.consumed;
-      at_end = λ e. cc;
+      at_end = opens.opened.1;
       works = (record { form = form; names = names_of capture; rate = rate_of capture; form_is = named; head = head_of; refused = refused }, appends_nothing old);
     }
 
@@ -131,15 +142,15 @@ module _ (values : Values) (form : Form) (named : IsFormOf values form) (left_ol
     }
 
     module _ (now : Capture) (pins : List ℕ) (form_stays : form_of now ≡ form) (pins_are : pins_of now ≡ pins) (left_new new : Option (List ℕ)) where
-      head_on : (bytes : List ℕ) (told : Told) → HasHead form (opens.bytes ++ bytes) told (names_of capture) (rate_of capture)
-      head_on bytes told = head_stays.good form [] opens.bytes bytes told (names_of capture) (rate_of capture) head_of
+      head_on : (bytes : List ℕ) (told : Told) → Later opens.opened.0 bytes told → HasHead form (opens.bytes ++ bytes) told (names_of capture) (rate_of capture)
+      head_on bytes told later = head_later form opens.bytes bytes opens.opened.0 told (names_of capture) (rate_of capture) later head_of
 
-      as_opened : (Whole Front : List ℕ → Type 0) (end : ListingEnd) → Lists (capture_by now) Whole Front opens.bytes left_mid left_new end → Lists (capture_of form pins) Whole Front opens.bytes left_mid left_new end
-      as_opened Whole Front end lists = subst (λ (f : List ℕ → Told → Captured). Lists f Whole Front opens.bytes left_mid left_new end) (λ i bytes told. capture_of (form_stays i) (pins_are i) bytes told) lists
+      as_opened : (Whole Front : List ℕ → Type 0) (end : ListingEnd) → Lists (capture_by now) Whole Front opens.bytes opens.opened.0 left_mid left_new end → Lists (capture_of form pins) Whole Front opens.bytes opens.opened.0 left_mid left_new end
+      as_opened Whole Front end lists = subst (λ (f : List ℕ → Told → Captured). Lists f Whole Front opens.bytes opens.opened.0 left_mid left_new end) (λ i bytes told. capture_of (form_stays i) (pins_are i) bytes told) lists
 
       -- a search came to its end
       pub search_ends : (alts : List Alt) (end : ListingEnd) → AsksFor values (names_of capture) pins alts
-          → Lists (capture_by now) (λ samples. WholeListing samples alts old new) (λ samples. ListingFront samples alts old new) opens.bytes left_mid left_new end → WorksOn values left_old left_new old new (status_of end)
+          → Lists (capture_by now) (λ samples. WholeListing samples alts old new) (λ samples. ListingFront samples alts old new) opens.bytes opens.opened.0 left_mid left_new end → WorksOn values left_old left_new old new (status_of end)
       search_ends alts end asks lists =
           let l = as_opened (λ samples. WholeListing samples alts old new) (λ samples. ListingFront samples alts old new) end lists in
           record {
@@ -147,7 +158,7 @@ module _ (values : Values) (form : Form) (named : IsFormOf values form) (left_ol
             told = l.told;
             taken = Consumes-trans left_old left_mid left_new opens.bytes l.bytes opens.consumed l.taken;
             at_end = l.at_end;
-            works = by end (record { form = form; names = names_of capture; rate = rate_of capture; form_is = named; head = head_on l.bytes l.told; pins = pins; alts = alts; asks = asks; says = l.says });
+            works = by end (record { form = form; names = names_of capture; rate = rate_of capture; form_is = named; head = head_on l.bytes l.told l.later; pins = pins; alts = alts; asks = asks; says = l.says });
           }
         where
           by : {bytes : List ℕ} {told : Told} (end : ListingEnd) → Searched values bytes told old new end → Works values bytes told old new (status_of end)
@@ -158,17 +169,17 @@ module _ (values : Values) (form : Form) (named : IsFormOf values form) (left_ol
           by ends.NoMemory s = inl (inl s)
 
       -- a decoding came to its end
-      pub decoding_ends : (accepted : Accepted) (nodes : List Node) (end : ListingEnd) → AsksStack values (names_of capture) (rate_of capture) pins accepted nodes
-          → Decodes (capture_by now) (decode_listing accepted.instances (is_shown accepted.shown) nodes) opens.bytes left_mid left_new old new end → WorksOn values left_old left_new old new (status_of end)
+      pub decoding_ends : (accepted : Accepted) (nodes : List (Node Setup)) (end : ListingEnd) → AsksStack values (names_of capture) (rate_of capture) pins accepted nodes
+          → Decodes (capture_by now) (decode_listing accepted.instances (is_shown accepted.shown) nodes) opens.bytes opens.opened.0 left_mid left_new old new end → WorksOn values left_old left_new old new (status_of end)
       decoding_ends accepted nodes end asks decodes =
-          let d = subst (λ (f : List ℕ → Told → Captured). Decodes f (decode_listing accepted.instances (is_shown accepted.shown) nodes) opens.bytes left_mid left_new old new end)
+          let d = subst (λ (f : List ℕ → Told → Captured). Decodes f (decode_listing accepted.instances (is_shown accepted.shown) nodes) opens.bytes opens.opened.0 left_mid left_new old new end)
           (λ i bytes told. capture_of (form_stays i) (pins_are i) bytes told) decodes in
           record {
             bytes = opens.bytes ++ d.bytes;
             told = d.told;
             taken = Consumes-trans left_old left_mid left_new opens.bytes d.bytes opens.consumed d.taken;
             at_end = d.at_end;
-            works = by end (record { form = form; names = names_of capture; rate = rate_of capture; form_is = named; head = head_on d.bytes d.told; pins = pins; accepted = accepted; nodes = nodes; asks = asks; says = d.says });
+            works = by end (record { form = form; names = names_of capture; rate = rate_of capture; form_is = named; head = head_on d.bytes d.told d.later; pins = pins; accepted = accepted; nodes = nodes; asks = asks; says = d.says });
           }
         where
           by : {bytes : List ℕ} {told : Told} (end : ListingEnd) → Decoded values bytes told old new end → Works values bytes told old new (status_of end)

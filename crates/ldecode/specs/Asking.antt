@@ -2,7 +2,7 @@
 use Rattle.std.specs.Prelude.{ℕ, ◌≡◌, ◌+◌, ◌⊎◌, List, [], ◌∷◌, map, None, Result, Ok, Err}
 use Rattle.la_base.specs.declared.samples.Rate.{Rate}
 use Rattle.la_base.specs.declared.samples.TheConstants.{MOST_PINS}
-use Rattle.la_io.specs.Capture.{Stop as Told, Good}
+use Rattle.la_io.specs.Capture.{Told, Good}
 use Rattle.text_parts.specs.Reading.{then_read}
 use Rattle.capture_any.specs.Captures.{capture_of}
 use Rattle.capture_any.specs.declared.form.Form.{Form}
@@ -22,7 +22,8 @@ use Rattle.stack_spec.specs.Binding as binding
 use Rattle.stack_spec.specs.Instances.{Instance}
 use Rattle.stack_spec.specs.declared.faults.BindFault.{BindFault}
 use Rattle.stack_spec.specs.declared.faults.StackFault.{StackFault}
-use Rattle.ldecode.specs.Decoding.{Node}
+use Rattle.decoder_core.specs.Trees.{Node}
+use Rattle.decoder_set.specs.declared.setup.Setup.{Setup}
 
 -- the values name this form of capture
 abbrev pub IsFormOf : Values → Form → Type 0
@@ -30,7 +31,7 @@ IsFormOf values (Raw channels rate) = (values.format ≡ format.Raw) × (channel
 
 -- in this form the bytes have a head, with these names of channels and this rate
 abbrev pub HasHead : Form → List ℕ → Told → List (List ℕ) → Rate → Type 0
-HasHead form bytes told names rate = (capture_of form [] bytes told).head ≡ Good names rate
+HasHead form bytes told names rate = (capture_of form [] bytes told).head ≡ Good names rate.num rate.den
 
 -- the fault of an item, in this entry
 abbrev pub in_entry : ℕ → Result (List Bound) ItemFault → Result (List Bound) BindFault
@@ -121,13 +122,13 @@ pub record AsksFor (values : Values) (names : List (List ℕ)) (pins : List ℕ)
   pub asks : EachAsks [] search.bounds alts
 
 -- the decoders of instances that are bound
-abbrev pub nodes_of : List Instance → List BoundInstance → List Node
+abbrev pub nodes_of : List Instance → List BoundInstance → List (Node Setup)
 nodes_of [] bounds = []
 nodes_of (instance ∷ instances) [] = []
 nodes_of (instance ∷ instances) (bound ∷ bounds) = record { setup = bound.setup; parent = instance.parent } ∷ nodes_of instances bounds
 
 -- the values ask for this stack, with these decoders at these pins
-pub record AsksStack (values : Values) (names : List (List ℕ)) (rate : Rate) (pins : List ℕ) (accepted : Accepted) (nodes : List Node) : Type 0 where
+pub record AsksStack (values : Values) (names : List (List ℕ)) (rate : Rate) (pins : List ℕ) (accepted : Accepted) (nodes : List (Node Setup)) : Type 0 where
   pub stack : StackBound values names rate
   pub accepted_is : accepted ≡ stack.accepted
   pub pins_are : pins ≡ binding.pins_of stack.bounds

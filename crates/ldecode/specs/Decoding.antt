@@ -2,15 +2,16 @@
 use Rattle.std.specs.Prelude.{ℕ, ◌≡◌, ◌+◌, Bool, if◌then◌else◌, List, [], ◌∷◌, ◌++◌, map, codes, slice_get, Option, Some, None}
 use Rattle.std.specs.Fmt.{decimal}
 use Rattle.std.specs.Io.KnownBytes.{Appends, Consumes, IsAtEnd}
-use Rattle.la_io.specs.Capture.{Stop as Told, AtEnd, Cut, Clean, Faulty, Captured}
+use Rattle.la_io.specs.Capture.{Told, AtEnd, Cut, Clean, Faulty, Captured}
 use Rattle.la_io.specs.Causes.{AppendsFront}
+use Rattle.capture_any.specs.Captures.{Later, ToldAt}
 use Rattle.capture_any.specs.declared.end.ListingEnd.{ListingEnd}
 use Rattle.capture_any.specs.declared.end.ListingEnd.TheVariants.{Done, Read, Write, Fault, NoMemory}
 use Rattle.std.specs.List.{flat_map}
 use Rattle.la_base.specs.declared.wires.Note.{Note}
 use Rattle.la_base.specs.declared.wires.Out.{Out}
 use Rattle.la_base.specs.declared.wires.Out.TheVariants.{Note as NoteOut, Piece as PieceOut, Packet as PacketOut}
-use Rattle.decoder_core.specs.Inputs.{Item, Sample, Pack}
+use Rattle.decoder_core.specs.Trees.{Node, given}
 use Rattle.decoder_set.specs.Kinds.{kind_row}
 use Rattle.decoder_set.specs.declared.kinds.Kind.{Kind}
 use Rattle.decoder_set.specs.Setups.{note_text, outs_of}
@@ -25,36 +26,6 @@ notes_of [] = []
 notes_of (NoteOut note ∷ outs) = note ∷ notes_of outs
 notes_of (PieceOut piece ∷ outs) = notes_of outs
 notes_of (PacketOut packet ∷ outs) = notes_of outs
-
--- the packets among outputs, as the input of what stands on them
-abbrev pub packets_of : List Out → List Item
-packets_of [] = []
-packets_of (NoteOut note ∷ outs) = packets_of outs
-packets_of (PieceOut piece ∷ outs) = packets_of outs
-packets_of (PacketOut packet ∷ outs) = Pack packet ∷ packets_of outs
-
-abbrev pub packets_in : Option (List Out) → List Item
-packets_in None = []
-packets_in (Some outs) = packets_of outs
-
--- what an instance reads: the samples, or the packets of the instance that it stands on, of those before it
-abbrev pub input_of : List ℕ → List (List Out) → Option ℕ → List Item
-input_of samples before None = map Sample samples
-input_of samples before (Some parent) = packets_in (slice_get before parent)
-
--- a decoder of a stack: its setup, and the place of the instance that it stands on
-pub record Node : Type 0 where
-  pub setup : Setup
-  pub parent : Option ℕ
-
--- all outputs of decoders on samples, behind those of the decoders before them
-abbrev pub outputs_behind : List ℕ → List (List Out) → List Node → List (List Out)
-outputs_behind samples before [] = before
-outputs_behind samples before (node ∷ nodes) = outputs_behind samples (before ++ outs_of node.setup (input_of samples before node.parent) ∷ []) nodes
-
--- all outputs of the decoders of a stack on samples
-abbrev pub given : List Node → List ℕ → List (List Out)
-given nodes samples = outputs_behind samples [] nodes
 
 -- notes, or none where they aren't shown
 abbrev pub where_shown : Bool → List Note → List Note
@@ -80,8 +51,8 @@ abbrev pub note_lines : List Instance → List Entry → List ℕ
 note_lines instances entries = flat_map (note_line instances) entries
 
 -- the listing of a stack: the notes of all instances that are shown, by start, then by instance, then as they were given
-abbrev pub decode_listing : List Instance → (ℕ → Bool) → List Node → List ℕ → List ℕ
-decode_listing instances shown nodes samples = note_lines instances (listed (shown_from shown 0 (map notes_of (given nodes samples))))
+abbrev pub decode_listing : List Instance → (ℕ → Bool) → List (Node Setup) → List ℕ → List ℕ
+decode_listing instances shown nodes samples = note_lines instances (listed (shown_from shown 0 (map notes_of (given outs_of samples nodes))))
 
 -- what the end of a decoding says of the bytes that were taken, and of what was written: the listing of the samples that these
 -- bytes settle; a front of it where a write failed; nothing where memory lacked
@@ -92,10 +63,11 @@ DecodeSays capture listing bytes told old new (Fault fault) = ((capture bytes to
 DecodeSays capture listing bytes told old new Write = AppendsFront old new (listing (capture bytes told).settled)
 DecodeSays capture listing bytes told old new NoMemory = Appends old new []
 
--- behind the bytes `before` these were taken, the source told their end or didn't, and the end says what it says of all of them
-pub record Decodes (capture : List ℕ → Told → Captured) (listing : List ℕ → List ℕ) (before : List ℕ) (left_old left_new old new : Option (List ℕ)) (end : ListingEnd) : Type 0 where
+-- behind the bytes `before`, whose end was told then or not, these were taken, the source told their end or didn't, and the end says what it says of all of them
+pub record Decodes (capture : List ℕ → Told → Captured) (listing : List ℕ → List ℕ) (before : List ℕ) (early : Told) (left_old left_new old new : Option (List ℕ)) (end : ListingEnd) : Type 0 where
   pub bytes : List ℕ
   pub told : Told
   pub taken : Consumes left_old left_new bytes
-  pub at_end : told ≡ AtEnd → IsAtEnd left_new
+  pub later : Later early bytes told
+  pub at_end : ToldAt told left_new
   pub says : DecodeSays capture listing (before ++ bytes) told old new end

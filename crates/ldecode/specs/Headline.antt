@@ -2,7 +2,7 @@
 use Rattle.std.specs.Prelude.{ℕ, ◌≡◌, ◌≤◌, ◌⊎◌, List, [], Option, Ok, Err}
 use Rattle.std.specs.Io.KnownBytes.{Appends, Consumes, IsAtEnd}
 use Rattle.la_base.specs.declared.samples.Rate.{Rate}
-use Rattle.la_io.specs.Capture.{Stop as Told, AtEnd, Cut, Head, Bad, Unread}
+use Rattle.la_io.specs.Capture.{Told, AtEnd, Cut, Head, Bad, Unread}
 use Rattle.la_io.specs.Causes.{AppendsFront, Rose}
 use Rattle.capture_any.specs.Captures.{capture_of}
 use Rattle.capture_any.specs.Listings.{Fails, Says}
@@ -15,7 +15,9 @@ use Rattle.words.specs.Lexer.{Text}
 use Rattle.words.specs.Settings.{Values, settings_of}
 use Rattle.stack_spec.specs.Accepting.{Accepted, is_shown}
 use Rattle.ldecode.specs.Asking.{AsksFor, AsksStack, CannotBind, HasHead, HasStackFault, IsFormOf}
-use Rattle.ldecode.specs.Decoding.{DecodeSays, Node, decode_listing}
+use Rattle.ldecode.specs.Decoding.{DecodeSays, decode_listing}
+use Rattle.decoder_core.specs.Trees.{Node}
+use Rattle.decoder_set.specs.declared.setup.Setup.{Setup}
 use Rattle.ldecode.specs.Notices.{notice_of}
 use Rattle.ldecode.specs.declared.status.Status.{Status}
 use Rattle.ldecode.specs.declared.status.Status.TheVariants.{Done, Words, Stack, Bind, ReadFault, Capture, WriteFault, NoMemory}
@@ -41,7 +43,7 @@ pub record Decoded (values : Values) (bytes : List ℕ) (told : Told) (old new :
   pub head : HasHead form bytes told names rate
   pub pins : List ℕ
   pub accepted : Accepted
-  pub nodes : List Node
+  pub nodes : List (Node Setup)
   pub asks : AsksStack values names rate pins accepted nodes
   pub says : DecodeSays (capture_of form pins) (decode_listing accepted.instances (is_shown accepted.shown) nodes) bytes told old new end
 

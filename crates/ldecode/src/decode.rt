@@ -2,6 +2,8 @@
 ghost use Rattle.std.specs.Prelude.{◌≡◌, ◌≢◌, [], ℕ, List, length, map, true, OnOk};
 ghost use Rattle.std.specs.Io.KnownBytes.{Appends};
 ghost use Rattle.la_io.specs.Causes.{AppendsFront, HasCause};
+ghost use Rattle.la_io.specs.Capture.{Told};
+ghost use Rattle.capture_any.specs.Captures.{ToldAt};
 ghost use Rattle.capture_any.specs.Listings.{Lists, ReadCause, WriteCause};
 ghost use Rattle.capture_any.specs.Reading.{Stands, capture_by, is_open_of};
 ghost use Rattle.stack_spec.specs.Accepting.{is_shown};
@@ -30,8 +32,8 @@ fn collect<S: Source, M: Machine>(
     requires is_open { is_open_of capture.old ≡ true }
     requires each { length machines.old ≡ length (instances_in stack.now) }
     requires empty { entries.old.items ≡ [] }
-    ensures gathers { (before : List ℕ) → Stands capture.old before [] → Consumed M.setup M.consumed M.outputs [] machines.old
-        → Lists (capture_by capture.old) (Gathered M.outputs (map M.setup machines.old) (is_shown (stack_meaning stack.now).shown) entries.new.items) (λ _. result ≡ ListingEnd.NoMemory) before (S.left source.old) (S.left source.new) result }
+    ensures gathers { (before : List ℕ) (told : Told) → ToldAt told (S.left source.old) → Stands capture.old before told [] → Consumed M.setup M.consumed M.outputs [] machines.old
+        → Lists (capture_by capture.old) (Gathered M.outputs (map M.setup machines.old) (is_shown (stack_meaning stack.now).shown) entries.new.items) (λ _. result ≡ ListingEnd.NoMemory) before told (S.left source.old) (S.left source.new) result }
     ensures read { ReadCause (S.faults source.old) (S.faults source.new) result }
     ensures unwritten { result ≢ ListingEnd.Write }
 {
@@ -79,8 +81,8 @@ pub fn decode<S: Source, K: Sink, M: Machine + Drop>(
 ) -> ListingEnd
     requires is_open { is_open_of capture.old ≡ true }
     requires each { length machines.items ≡ length (instances_in stack.now) }
-    ensures lists { (before : List ℕ) → Stands capture.old before [] → Consumed M.setup M.consumed M.outputs [] machines.items
-        → Decodes (capture_by capture.old) (samples_listing M.outputs (map M.setup machines.items) (instances_in stack.now) (is_shown (stack_meaning stack.now).shown)) before
+    ensures lists { (before : List ℕ) (told : Told) → ToldAt told (S.left source.old) → Stands capture.old before told [] → Consumed M.setup M.consumed M.outputs [] machines.items
+        → Decodes (capture_by capture.old) (samples_listing M.outputs (map M.setup machines.items) (instances_in stack.now) (is_shown (stack_meaning stack.now).shown)) before told
         (S.left source.old) (S.left source.new) (K.written sink.old) (K.written sink.new) result }
     ensures read { ReadCause (S.faults source.old) (S.faults source.new) result }
     ensures write { WriteCause (K.faults sink.old) (K.faults sink.new) result }

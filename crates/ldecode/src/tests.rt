@@ -26,7 +26,7 @@ static WRITE_OF_50: [u8; 23] = [
 ];
 
 static LISTING: [u8; 82] =
-    *b"1-1 i2c-1: Start\n3-17 i2c-1: Address write: 50\n19-19 i2c-1: ACK\n22-22 i2c-1: Stop\n";
+    *b"1-1 i2c-1: Start\n3-17 i2c-1: Address write: 50\n19-19 i2c-1: ACK\n22-22 i2c-1: Told\n";
 
 static BUS: &str = "i2c:scl=D0:sda=D1";
 
@@ -36,19 +36,19 @@ static TWO_BUSES: [u8; 24] = [
 ];
 
 static FIRST: &[u8] =
-    b"1-1 i2c-1: Start\n3-17 i2c-1: Address write: 50\n19-19 i2c-1: ACK\n22-22 i2c-1: Stop\n";
+    b"1-1 i2c-1: Start\n3-17 i2c-1: Address write: 50\n19-19 i2c-1: ACK\n22-22 i2c-1: Told\n";
 
 static SECOND: &[u8] =
-    b"2-2 i2c-2: Start\n4-18 i2c-2: Address write: 50\n20-20 i2c-2: ACK\n23-23 i2c-2: Stop\n";
+    b"2-2 i2c-2: Start\n4-18 i2c-2: Address write: 50\n20-20 i2c-2: ACK\n23-23 i2c-2: Told\n";
 
 static BOTH: &[u8] = b"1-1 i2c-1: Start\n2-2 i2c-2: Start\n\
 3-17 i2c-1: Address write: 50\n4-18 i2c-2: Address write: 50\n\
-19-19 i2c-1: ACK\n20-20 i2c-2: ACK\n22-22 i2c-1: Stop\n23-23 i2c-2: Stop\n";
+19-19 i2c-1: ACK\n20-20 i2c-2: ACK\n22-22 i2c-1: Told\n23-23 i2c-2: Told\n";
 
 static THREE: &[u8] = b"1-1 i2c-1: Start\n1-1 i2c-3: Start\n2-2 i2c-2: Start\n\
 3-17 i2c-1: Address write: 50\n3-17 i2c-3: Address write: 50\n4-18 i2c-2: Address write: 50\n\
 19-19 i2c-1: ACK\n19-19 i2c-3: ACK\n20-20 i2c-2: ACK\n\
-22-22 i2c-1: Stop\n22-22 i2c-3: Stop\n23-23 i2c-2: Stop\n";
+22-22 i2c-1: Told\n22-22 i2c-3: Told\n23-23 i2c-2: Told\n";
 
 // How many bytes of the rises' lines the first so many samples give.
 fn settled(samples: usize) -> usize
@@ -219,7 +219,7 @@ fn writes_a_line_for_each_note(rt: HostRuntime) -> Result<(), Fail> {
             alloc,
             BUS,
             &bytes,
-            b"1-1 i2c-1: Start\n3-17 i2c-1: Address write: 50\n19-19 i2c-1: ACK\n22-22 i2c-1: Start repeat\n37-37 i2c-1: Stop\n"
+            b"1-1 i2c-1: Start\n3-17 i2c-1: Address write: 50\n19-19 i2c-1: ACK\n22-22 i2c-1: Start repeat\n37-37 i2c-1: Told\n"
         )?
     );
     Ok(())

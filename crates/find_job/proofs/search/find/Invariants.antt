@@ -1,6 +1,8 @@
 use Rattle.std.proofs.Common.{◌≡◌, ◌≤◌, ◌-◌, ◌^◌, List, [], ℕ, true}
 use Rattle.wait_cond.specs.Conds.{cond_alts}
 use Rattle.wait_cond.specs.Waiting.{alts_of, consumed_by}
+use Rattle.la_io.specs.Capture.{Told}
+use Rattle.capture_any.specs.Captures.{ToldAt}
 use Rattle.capture_any.specs.Reading.{Stands, given_by, is_open_of}
 use Rattle.capture_any.proofs.ListingLemmas.{SameCapture}
 use Rattle.find_job.proofs.Searching.{Searching}
@@ -10,8 +12,8 @@ abbrev pub invariant-loop-run : goal.invariant-loop-run
 invariant-loop-run g l = record {
   is_open : is_open_of l.capture ≡ true;
   same : SameCapture l.initial.capture l.capture;
-  searching : (before : List ℕ) → Stands l.initial.capture before []
-      → Searching l.capture l.waiter before (g.S.Source.left l.initial.source) (g.S.Source.left l.source) (g.K.Sink.written l.initial.sink) (g.K.Sink.written l.sink);
+  searching : (before : List ℕ) (told : Told) → ToldAt told (g.S.Source.left l.initial.source) → Stands l.initial.capture before told []
+      → Searching l.capture l.waiter before told (g.S.Source.left l.initial.source) (g.S.Source.left l.source) (g.K.Sink.written l.initial.sink) (g.K.Sink.written l.sink);
   alts : alts_of l.waiter ≡ cond_alts l.fn.cond;
   room : consumed_by l.waiter ≤ given_by l.capture;
   read : g.S.Source.faults l.source ≡ g.S.Source.faults l.initial.source;

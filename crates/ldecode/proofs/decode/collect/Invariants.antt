@@ -1,4 +1,6 @@
 use Rattle.std.proofs.Common.{◌≡◌, ◌-◌, ◌^◌, ℕ, List, [], map, true}
+use Rattle.la_io.specs.Capture.{Told}
+use Rattle.capture_any.specs.Captures.{ToldAt}
 use Rattle.capture_any.specs.Reading.{Stands, is_open_of, given_by}
 use Rattle.capture_any.proofs.ListingLemmas.{SameCapture}
 use Rattle.stack_spec.specs.Accepting.{is_shown}
@@ -13,8 +15,8 @@ invariant-loop-run g l =
     record {
       is_open : is_open_of l.capture ≡ true;
       same : SameCapture l.initial.capture l.capture;
-      so_far : (before : List ℕ) → Stands l.initial.capture before [] → Consumed machine.setup machine.consumed machine.outputs [] l.initial.machines
-          → Collecting machine.setup machine.consumed machine.outputs l.capture (map machine.setup l.initial.machines) (is_shown (stack_meaning l.stack).shown) l.machines before (g.S.Source.left l.initial.source) (g.S.Source.left l.source) l.entries.items;
+      so_far : (before : List ℕ) (told : Told) → ToldAt told (g.S.Source.left l.initial.source) → Stands l.initial.capture before told [] → Consumed machine.setup machine.consumed machine.outputs [] l.initial.machines
+          → Collecting machine.setup machine.consumed machine.outputs l.capture (map machine.setup l.initial.machines) (is_shown (stack_meaning l.stack).shown) l.machines before told (g.S.Source.left l.initial.source) (g.S.Source.left l.source) l.entries.items;
       read : g.S.Source.faults l.source ≡ g.S.Source.faults l.initial.source;
     }
 

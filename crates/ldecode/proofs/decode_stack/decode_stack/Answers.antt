@@ -57,7 +57,7 @@ returns-in-Err-Fault-bind-clause-bind g c other cannot =
     let refused = subst (λ (n : List (List ℕ)). Binds MOST_PINS n (rate_of capture) accepted.instances (Err (Fault fault))) c.names.ensures
     (subst (λ (r : Rate). Binds MOST_PINS c.names.result.now r accepted.instances (Err (Fault fault))) c.rate.ensures
     (subst (λ (e : BindError). Binds MOST_PINS c.names.result.now c.rate.result accepted.instances (Err e)) c.in-Err-Fault-bind.field-0-is c.in-Err-Fault-bind.ensures.binds)) in
-    subst (λ (f : BindFault). OrNoMemory (Bind other) (Bind f)) (sym c.in-Err-Fault-bind.fault-is) (inl (ap Bind (one_fault values (names_of capture) (rate_of capture) accepted stacks c.form_of.result c.form_of.ensures.named opens.bytes opens.opened.1 fault refused other cannot)))
+    subst (λ (f : BindFault). OrNoMemory (Bind other) (Bind f)) (sym c.in-Err-Fault-bind.fault-is) (inl (ap Bind (one_fault values (names_of capture) (rate_of capture) accepted stacks c.form_of.result c.form_of.ensures.named opens.bytes opens.opened.0 opens.opened.3 fault refused other cannot)))
 
 pub returns-in-Err-Fault-bind-clause-complete : goal.returns-in-Err-Fault-bind-clause-complete
 returns-in-Err-Fault-bind-clause-complete g c can no_read no_write =
@@ -70,7 +70,7 @@ returns-in-Err-Fault-bind-clause-complete g c can no_read no_write =
     let refused = subst (λ (n : List (List ℕ)). Binds MOST_PINS n (rate_of capture) accepted.instances (Err (Fault fault))) c.names.ensures
     (subst (λ (r : Rate). Binds MOST_PINS c.names.result.now r accepted.instances (Err (Fault fault))) c.rate.ensures
     (subst (λ (e : BindError). Binds MOST_PINS c.names.result.now c.rate.result accepted.instances (Err e)) c.in-Err-Fault-bind.field-0-is c.in-Err-Fault-bind.ensures.binds)) in
-    refused_cannot values (names_of capture) (rate_of capture) accepted stacks c.form_of.result c.form_of.ensures.named opens.bytes opens.opened.1 fault refused can
+    refused_cannot values (names_of capture) (rate_of capture) accepted stacks c.form_of.result c.form_of.ensures.named opens.bytes opens.opened.0 opens.opened.3 fault refused can
 
 pub returns-clause-bind : goal.returns-clause-bind
 returns-clause-bind g c other cannot =
@@ -82,7 +82,7 @@ returns-clause-bind g c other cannot =
     let bound = c.in-Ok-bind.bound in
     let is_bound = subst (λ (n : List (List ℕ)). Binds MOST_PINS n (rate_of capture) accepted.instances (Ok bound)) c.names.ensures
     (subst (λ (r : Rate). Binds MOST_PINS c.names.result.now r accepted.instances (Ok bound)) c.rate.ensures c.in-Ok-bind.ensures.binds) in
-    absurd (bound_refuses_none values (names_of capture) (rate_of capture) accepted stacks c.form_of.result c.form_of.ensures.named opens.bytes opens.opened.1 is_bound.read is_bound.reads other cannot)
+    absurd (bound_refuses_none values (names_of capture) (rate_of capture) accepted stacks c.form_of.result c.form_of.ensures.named opens.bytes opens.opened.0 opens.opened.3 is_bound.read is_bound.reads other cannot)
 
 pub returns-clause-works : goal.returns-clause-works
 returns-clause-works g c =
@@ -101,9 +101,9 @@ returns-clause-works g c =
     let new = g.K.Sink.written c.decode.new.sink in
     let left = g.S.Source.left in
     let asks = stack_asks values (names_of capture) (rate_of capture) accepted stacks bound.pins.items is_bound.read is_bound.reads is_bound.pins in
-    let lists = c.decode.ensures.lists opens.bytes (c.select.ensures.stands opens.bytes opens.opened.0) (fresh bound.machines.items is_bound.consumed) in
+    let lists = c.decode.ensures.lists opens.bytes opens.opened.0 opens.opened.1 (c.select.ensures.stands opens.bytes opens.opened.0 opens.opened.2) (fresh bound.machines.items is_bound.consumed) in
     let same = bound_listing (names_of capture) (rate_of capture) accepted.instances bound is_bound c.in-Ok-bind.ensures.forest c.in-Ok-bind.ensures.kinds shown in
-    let named = subst (λ (f : List ℕ → List ℕ). Decodes (capture_by now) f opens.bytes (left c.open.new.source) (left c.decode.new.source) old new c.decode.result) (λ i samples. same samples i) lists in
+    let named = subst (λ (f : List ℕ → List ℕ). Decodes (capture_by now) f opens.bytes opens.opened.0 (left c.open.new.source) (left c.decode.new.source) old new c.decode.result) (λ i samples. same samples i) lists in
     subst (λ (status : Status). WorksOn values (left c.args.source.now) (left c.decode.new.source) old new status) (sym c.from.ensures)
     (decoding_ends values c.form_of.result c.form_of.ensures.named (left c.args.source.now) (left c.open.new.source) old capture opens now bound.pins.items
     (c.select.ensures.form ∙ c.in-Ok-open.ensures.form) c.select.ensures.pins (left c.decode.new.source) new accepted nodes c.decode.result asks named)

@@ -43,7 +43,7 @@ returns-in-Err-Fault-clause-bind g c other cannot =
     let s = the_search c.args.settings.now c.requires.job (c.requires.readable.good refl) in
     let terms = subst (λ (l : List ChainWord). AreTerms l s.0) (sym c.deref.ensures.value) s.1 in
     let refused = subst (λ (n : List (List ℕ)). Chooses n s.0 (Err (Fault c.in-Err-Fault.fault))) c.names.ensures (subst (λ (e : BindError). Chooses c.names.result.now s.0 (Err e)) c.in-Err-Fault.field-0-is (c.in-Err-Fault.ensures.chooses s.0 terms)) in
-    inl (ap Bind (one_fault values (names_of capture) (rate_of capture) s.0 s.2 c.form_of.result c.form_of.ensures.named opens.bytes opens.opened.1 c.in-Err-Fault.fault refused other cannot))
+    inl (ap Bind (one_fault values (names_of capture) (rate_of capture) s.0 s.2 c.form_of.result c.form_of.ensures.named opens.bytes opens.opened.0 opens.opened.3 c.in-Err-Fault.fault refused other cannot))
 
 pub returns-in-Err-Fault-clause-complete : goal.returns-in-Err-Fault-clause-complete
 returns-in-Err-Fault-clause-complete g c can no_read no_write =
@@ -53,7 +53,7 @@ returns-in-Err-Fault-clause-complete g c can no_read no_write =
     let s = the_search c.args.settings.now c.requires.job (c.requires.readable.good refl) in
     let terms = subst (λ (l : List ChainWord). AreTerms l s.0) (sym c.deref.ensures.value) s.1 in
     let refused = subst (λ (n : List (List ℕ)). Chooses n s.0 (Err (Fault c.in-Err-Fault.fault))) c.names.ensures (subst (λ (e : BindError). Chooses c.names.result.now s.0 (Err e)) c.in-Err-Fault.field-0-is (c.in-Err-Fault.ensures.chooses s.0 terms)) in
-    refused_cannot values (names_of capture) (rate_of capture) s.0 s.2 c.form_of.result c.form_of.ensures.named opens.bytes opens.opened.1 c.in-Err-Fault.fault refused can
+    refused_cannot values (names_of capture) (rate_of capture) s.0 s.2 c.form_of.result c.form_of.ensures.named opens.bytes opens.opened.0 opens.opened.3 c.in-Err-Fault.fault refused can
 
 pub returns-clause-bind : goal.returns-clause-bind
 returns-clause-bind g c other cannot =
@@ -64,7 +64,7 @@ returns-clause-bind g c other cannot =
     let s = the_search c.args.settings.now c.requires.job (c.requires.readable.good refl) in
     let terms = subst (λ (l : List ChainWord). AreTerms l s.0) (sym c.deref.ensures.value) s.1 in
     let chosen = subst (λ (n : List (List ℕ)). Chooses n s.0 (Ok wanted)) c.names.ensures (c.in-Ok-bind_words.ensures.chooses s.0 terms) in
-    absurd (chosen_refuses_none values (names_of capture) (rate_of capture) s.0 s.2 c.form_of.result c.form_of.ensures.named opens.bytes opens.opened.1 wanted.pins.items (cond_alts wanted.cond) chosen other cannot)
+    absurd (chosen_refuses_none values (names_of capture) (rate_of capture) s.0 s.2 c.form_of.result c.form_of.ensures.named opens.bytes opens.opened.0 opens.opened.3 wanted.pins.items (cond_alts wanted.cond) chosen other cannot)
 
 pub returns-clause-works : goal.returns-clause-works
 returns-clause-works g c =
@@ -77,7 +77,7 @@ returns-clause-works g c =
     let terms = subst (λ (l : List ChainWord). AreTerms l s.0) (sym c.deref.ensures.value) s.1 in
     let chosen = subst (λ (n : List (List ℕ)). Chooses n s.0 (Ok wanted)) c.names.ensures (c.in-Ok-bind_words.ensures.chooses s.0 terms) in
     let asks = search_asks values (names_of capture) (rate_of capture) s.0 s.2 wanted.pins.items (cond_alts wanted.cond) chosen in
-    let lists = c.find_buffered.ensures.finds opens.bytes (c.select.ensures.stands opens.bytes opens.opened.0) in
+    let lists = c.find_buffered.ensures.finds opens.bytes opens.opened.0 opens.opened.1 (c.select.ensures.stands opens.bytes opens.opened.0 opens.opened.2) in
     subst (λ (status : Status). WorksOn values (g.S.Source.left c.args.source.now) (g.S.Source.left c.find_buffered.new.source) (g.K.Sink.written c.args.sink.now) (g.K.Sink.written c.find_buffered.new.sink) status) (sym c.from.ensures)
     (search_ends values c.form_of.result c.form_of.ensures.named (g.S.Source.left c.args.source.now) (g.S.Source.left c.open.new.source) (g.K.Sink.written c.args.sink.now) capture opens now wanted.pins.items
     (c.select.ensures.form ∙ c.in-Ok.ensures.form) c.select.ensures.pins (g.S.Source.left c.find_buffered.new.source) (g.K.Sink.written c.find_buffered.new.sink) (cond_alts wanted.cond) c.find_buffered.result asks lists)

@@ -1,4 +1,5 @@
-use Rattle.std.proofs.Common.{◌≡◌, [], rules, arith}
+use Rattle.std.proofs.Common.{◌≡◌, [], rules, arith, refl}
+use Rattle.la_io.specs.Capture.{Cut}
 use Rattle.std.proofs.KnownBytes.{Consumes-nil}
 use Rattle.capture_raw.specs.Raw.{raw_names}
 use Rattle.capture_raw.specs.Reader.{raw_channels, raw_rate}
@@ -14,8 +15,10 @@ returns-in-Ok-clause-opens g c =
       bytes = [];
       consumed = Consumes-nil (g.S.Source.left c.args.source.now);
       opened = (
+        Cut,
+        λ e. cc,
         record {
-          stands = c.open.ensures.new;
+          stands = (refl, c.open.ensures.new);
           few = omega (arith, c.open.ensures.new.taken);
         },
         opened_head c.args.form (raw_channels c.open.result) (raw_rate c.open.result) c.in-Ok.names is named,

@@ -22,7 +22,7 @@ returns-then-taken-ge-MOST_BYTES-clause-next g c =
       told = tt;
       means = λ before given st.
           let after = stands_same s.channels l.channels s.pins.items l.pins.items l.held (before ++ inv.took.0) given inv.channels (ap (λ (p : ArrayVec ℕ). p.items) inv.pins) (stands_more (unit_len s.channels) some s.pins.items _ _ _ _ inv.took.0 before given inv.took.1 st) in
-          ends_full l.channels (unit_some l.channels l.channels_fit.0) l.rate l.pins.items l.held (before ++ inv.took.0) given short c.bytes.ensures.few after (omega (arith, c.taken.ensures));
+          ends_full l.channels (unit_some l.channels l.channels_fit.0) l.rate l.pins.items l.held (before ++ inv.took.0) given short c.bytes.ensures.few after (omega (arith, c.taken.ensures.taken));
     }
 
 -- the source told its end
@@ -39,7 +39,7 @@ returns-in-Ok-eq0-clause-next g c =
     let bytes = inv.took.0 ++ reads.bytes in
     let none : length reads.bytes ≡ 0 = omega (arith, reads.count, c.in-Ok-eq0.field-0-is) in
     let short : length front.bytes < unit_len l.channels = omega (arith, unit_is, c.unit-unit.ensures.unit, ap length c.bytes.ensures.bytes, none, ap length reads.takes.held, length-append l.held.bytes reads.bytes) in
-    let below : front.taken < 2 ^ 60 = omega (arith, none, reads.takes.taken, c.taken.ensures) in
+    let below : front.taken < 2 ^ 60 = omega (arith, none, reads.takes.taken, c.taken.ensures.taken) in
     let told = ended_told (g.S.Source.left c.more.new.source) (front.taken - length front.bytes) (length front.bytes == 0) c.at_end.result (reads.at_end (omega arith)) c.at_end.ensures in
     record {
       bytes = bytes;
@@ -63,7 +63,7 @@ returns-in-Err-clause-next g c =
     let took = takes_on _ _ _ _ _ _ inv.took.0 reads.bytes inv.took.1 reads.takes in
     let bytes = inv.took.0 ++ reads.bytes in
     let short : length front.bytes < unit_len l.channels = omega (arith, unit_is, c.unit-unit.ensures.unit, ap length c.bytes.ensures.bytes, reads.none, ap length reads.takes.held, length-append l.held.bytes reads.bytes) in
-    let below : front.taken < 2 ^ 60 = omega (arith, reads.none, reads.takes.taken, c.taken.ensures) in
+    let below : front.taken < 2 ^ 60 = omega (arith, reads.none, reads.takes.taken, c.taken.ensures.taken) in
     record {
       bytes = bytes;
       consumed = took.consumed;

@@ -1,5 +1,5 @@
 use Rattle.std.proofs.Common.{◌≡◌, ◌-◌, ◌≤◌, List, ℕ, length, true}
-use Rattle.capture_raw.specs.Held.{Takes}
+use Rattle.la_io.specs.Intake.{Takes}
 use Rattle.capture_raw.proofs.reader.RawReader.next.Given as goal
 
 abbrev pub invariant-loop-self : goal.invariant-loop-self

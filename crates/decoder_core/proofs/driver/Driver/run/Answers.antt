@@ -3,7 +3,7 @@ use Rattle.std.proofs.lemmas.List.{append-nil, length-map, length-replicate, tak
 use Rattle.la_base.specs.declared.wires.Out.{Out}
 use Rattle.la_base.specs.Samples.{samples}
 use Rattle.wait_cond.specs.Waiting.{Waits, wait_from, consumed_by}
-use Rattle.decoder_core.specs.Inputs.{Item, Sample, counted}
+use Rattle.decoder_core.specs.Inputs.{Item, Sample, counted_samples}
 use Rattle.decoder_core.specs.Driving.{Drives}
 use Rattle.decoder_core.specs.Laws.{StopsIn}
 use Rattle.decoder_core.proofs.Counting.{parts_of_run}
@@ -19,14 +19,14 @@ returns-then-before-ge-MOST_SAMPLES-clause-step g c =
     let goes = λ (input : List Item) (d : Drives m.stands m.alts s.machine s.waiter input).
     through m.setup m.outs m.stands m.alts g.met.L.LogicMachine.quiet s.machine s.waiter input d s.waiter [] front
     (spent m.setup m.outs m.stands m.alts g.met.L.LogicMachine.quiet s.machine s.waiter input d c.args.run (omega (arith, c.consumed-before.ensures.consumed)))
-    (subst (λ (l : List ℕ). Waits s.waiter l) (sym (append-nil (counted input))) d.waits) refl refl in
+    (subst (λ (l : List ℕ). Waits s.waiter l) (sym (append-nil (counted_samples input))) d.waits) refl refl in
     record {
       front = front;
       split = sym (append-nil front);
       some = λ some. some;
       more = tt;
       consumes = λ input d. (goes input d).0;
-      gives = λ input d. (goes input d).1 ∙ sym (append-nil (m.outs (m.setup s.machine) (counted input))) ∙ ap (λ (l : List Out). m.outs (m.setup s.machine) (counted input) ++ l) (sym c.requires);
+      gives = λ input d. (goes input d).1 ∙ sym (append-nil (m.outs (m.setup s.machine) (counted_samples input))) ∙ ap (λ (l : List Out). m.outs (m.setup s.machine) (counted_samples input) ++ l) (sym c.requires);
     }
 
 pub returns-in-Through-clause-step : goal.returns-in-Through-clause-step
@@ -40,14 +40,14 @@ returns-in-Through-clause-step g c =
     let goes = λ (input : List Item) (d : Drives m.stands m.alts s.machine s.waiter input).
     through m.setup m.outs m.stands m.alts g.met.L.LogicMachine.quiet s.machine s.waiter input d c.scan.new.self (samples part) front
     (part_counts m.setup m.outs m.stands m.alts g.met.L.LogicMachine.quiet s.machine s.waiter input d run part c.part_of.ensures.value len)
-    (c.in-Through.ensures.scanned (counted input) d.waits).0 c.in-Through.ensures.counts.from c.scan.ensures.alts in
+    (c.in-Through.ensures.scanned (counted_samples input) d.waits).0 c.in-Through.ensures.counts.from c.scan.ensures.alts in
     record {
       front = front;
       split = sym (append-nil front);
       some = λ some. some;
       more = tt;
       consumes = λ input d. (goes input d).0;
-      gives = λ input d. (goes input d).1 ∙ sym (append-nil (m.outs (m.setup s.machine) (counted input))) ∙ ap (λ (l : List Out). m.outs (m.setup s.machine) (counted input) ++ l) (sym c.requires);
+      gives = λ input d. (goes input d).1 ∙ sym (append-nil (m.outs (m.setup s.machine) (counted_samples input))) ∙ ap (λ (l : List Out). m.outs (m.setup s.machine) (counted_samples input) ++ l) (sym c.requires);
     }
 
 pub returns-in-Met-clause-step : goal.returns-in-Met-clause-step
@@ -64,15 +64,15 @@ returns-in-Met-clause-step g c =
     let used_fits : used ≤ part.len = omega (arith, counts.behind, counts.within, before) in
     let part_fits : part.len ≤ 2 ^ 60 - consumed_by s.waiter = omega (arith, c.part_of.ensures.len, before) in
     let run_fits : used ≤ run.len = omega (arith, used_fits, c.part_of.ensures.len) in
-    let seen = λ (input : List Item). take (wait_from s.waiter) (counted input) in
-    let more = λ (input : List Item). drop (wait_from s.waiter) (counted input) ++ samples part in
+    let seen = λ (input : List Item). take (wait_from s.waiter) (counted_samples input) in
+    let more = λ (input : List Item). drop (wait_from s.waiter) (counted_samples input) ++ samples part in
     let place = λ (input : List Item) (d : Drives m.stands m.alts s.machine s.waiter input).
-    let e : at + 1 ≡ length (counted input) + used = omega (arith, counts.behind, before, list_len m.setup m.outs m.stands m.alts g.met.L.LogicMachine.quiet s.machine s.waiter input d) in
+    let e : at + 1 ≡ length (counted_samples input) + used = omega (arith, counts.behind, before, list_len m.setup m.outs m.stands m.alts g.met.L.LogicMachine.quiet s.machine s.waiter input d) in
     counted_front m.setup m.outs m.stands m.alts g.met.L.LogicMachine.quiet s.machine s.waiter input d part used at run.value e used_fits c.part_of.ensures.value part_fits in
     let parts = λ (input : List Item) (d : Drives m.stands m.alts s.machine s.waiter input).
     seen_parts m.setup m.outs m.stands m.alts g.met.L.LogicMachine.quiet s.machine s.waiter input d (samples part) in
     let stops = λ (input : List Item) (d : Drives m.stands m.alts s.machine s.waiter input).
-    let scanned = c.in-Met.ensures.scanned (counted input) d.waits in
+    let scanned = c.in-Met.ensures.scanned (counted_samples input) d.waits in
     let is : StopsIn (m.alts s.machine) (seen input) (more input) at c.in-Met.value c.in-Met.met = record {
       stop = stop_seen m.setup m.outs m.stands m.alts g.met.L.LogicMachine.quiet s.machine s.waiter input d (samples part) at c.in-Met.met scanned.0;
       value_is = scanned.1 ∙ ap (λ (l : List ℕ). slice_index l at) (sym (parts input d));
@@ -84,13 +84,13 @@ returns-in-Met-clause-step g c =
       some = λ some. omega (arith, length-map (replicate used run.value) Sample, length-replicate used run.value, counts.behind, before);
       more = c.behind.ensures.more;
       consumes = λ input d.
-          let whole = counted input ++ samples part in
-          let scanned = c.in-Met.ensures.scanned (counted input) d.waits in
+          let whole = counted_samples input ++ samples part in
+          let scanned = c.in-Met.ensures.scanned (counted_samples input) d.waits in
           let cut = ap (λ (l : List ℕ). take (at + 1) l) (place input d) ∙ take-take (at + 1) (at + 1) whole (omega arith) ∙ ap (λ (l : List ℕ). take (at + 1) l) (sym (parts input d)) in
           let from = c.renew.ensures.from ∙ counts.from in
           record {
             waits = subst (λ (l : List ℕ). Waits c.renew.new.self l) (sym (place input d)) (c.renew.ensures.waits (take (at + 1) whole) scanned.3);
-            machine_stands = subst (λ (n : ℕ). m.stands c.resume.new.self (take n (counted (input ++ front)))) (sym from)
+            machine_stands = subst (λ (n : ℕ). m.stands c.resume.new.self (take n (counted_samples (input ++ front)))) (sym from)
                 (subst (λ (l : List ℕ). m.stands c.resume.new.self l) (sym cut) (c.resume.ensures.stands (seen input) (more input) d.machine_stands (stops input d)));
             cond = c.renew.ensures.alts ∙ c.cond.ensures;
           };

@@ -1,6 +1,6 @@
 use Rattle.std.proofs.Common.{◌∙◌, ◌++◌, ◌≤◌, sym, ap, subst, List, ℕ, length, take, drop, ◌-◌, ◌^◌}
 use Rattle.wait_cond.specs.Waiting.{wait_from}
-use Rattle.decoder_core.specs.Inputs.{counted, samples_in}
+use Rattle.decoder_core.specs.Inputs.{counted_samples, samples_in}
 use Rattle.decoder_core.proofs.Counting.{counted_more}
 use Rattle.decoder_core.proofs.Driven.{quiet_parts}
 use Rattle.decoder_core.proofs.driver.DriverMachine.floor.Goals as goal
@@ -10,7 +10,7 @@ pub returns-clause-floor : goal.returns-clause-floor
 returns-clause-floor g c = λ input d more new is.
     let m = g.L.LogicMachine in
     let s = c.args.self.now in
-    let list = counted input in
+    let list = counted_samples input in
     let q = quiet_parts m.setup m.outs m.stands m.alts g.met.L.LogicMachine.quiet s.machine s.waiter input d in
     let added = take (2 ^ 60 - length list) (samples_in more) in
     let outs = m.outs (m.setup s.machine) in
@@ -21,7 +21,7 @@ pub returns-clause-near : goal.returns-clause-near
 returns-clause-near g c = λ input d.
     let m = g.L.LogicMachine in
     let s = c.args.self.now in
-    let list = counted input in
+    let list = counted_samples input in
     let q = quiet_parts m.setup m.outs m.stands m.alts g.met.L.LogicMachine.quiet s.machine s.waiter input d in
     subst (λ (l : List ℕ). m.near (m.setup s.machine) l ≤ c.floor.result) q.2
     (c.floor.ensures.near (take (wait_from s.waiter) list) (drop (wait_from s.waiter) list) d.machine_stands q.0 (c.consumed.ensures.consumed ∙ q.1))

@@ -1,7 +1,7 @@
 use Rattle.std.proofs.Common.{◌∙◌, ◌++◌, ◌∷◌, ◌<◌, [], length, sym, ap, subst, List}
 use Rattle.std.proofs.lemmas.List.{append-nil}
 use Rattle.la_base.specs.declared.wires.Out.{Out}
-use Rattle.decoder_core.specs.Inputs.{Item, Pack, items_of, counted}
+use Rattle.decoder_core.specs.Inputs.{Item, Pack, items_of, counted_samples}
 use Rattle.decoder_core.specs.Driving.{Drives}
 use Rattle.decoder_core.proofs.Counting.{counted_packet, counted_nothing}
 use Rattle.decoder_core.proofs.Driven.{passed}
@@ -19,7 +19,7 @@ returns-in-Packet-clause-step g c =
       some = λ some. subst (λ (l : List Item). 0 < length l) (ap items_of c.in-Packet.is) some;
       more = tt;
       consumes = λ input d. (goes input d).0;
-      gives = λ input d. (goes input d).1 ∙ sym (append-nil (m.outs (m.setup s.machine) (counted input))) ∙ ap (λ (l : List Out). m.outs (m.setup s.machine) (counted input) ++ l) (sym c.requires);
+      gives = λ input d. (goes input d).1 ∙ sym (append-nil (m.outs (m.setup s.machine) (counted_samples input))) ∙ ap (λ (l : List Out). m.outs (m.setup s.machine) (counted_samples input) ++ l) (sym c.requires);
     }
 
 pub returns-in-End-clause-step : goal.returns-in-End-clause-step
@@ -34,5 +34,5 @@ returns-in-End-clause-step g c =
       some = λ some. subst (λ (l : List Item). 0 < length l) (ap items_of c.in-End.is) some;
       more = tt;
       consumes = λ input d. (goes input d).0;
-      gives = λ input d. (goes input d).1 ∙ sym (append-nil (m.outs (m.setup s.machine) (counted input))) ∙ ap (λ (l : List Out). m.outs (m.setup s.machine) (counted input) ++ l) (sym c.requires);
+      gives = λ input d. (goes input d).1 ∙ sym (append-nil (m.outs (m.setup s.machine) (counted_samples input))) ∙ ap (λ (l : List Out). m.outs (m.setup s.machine) (counted_samples input) ++ l) (sym c.requires);
     }

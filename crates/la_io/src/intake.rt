@@ -1,28 +1,25 @@
 // A buffer between a source and its reader.
-ghost use Rattle.std.specs.Prelude.{◌≡◌, ◌<◌, ◌≤◌, ◌+◌, ◌-◌, ◌^◌, [], length, slice_range, take, drop};
-ghost use Rattle.capture_raw.specs.Held.{Front, Reads};
+ghost use Rattle.std.specs.Prelude.{◌≡◌, ◌<◌, ◌≤◌, ◌+◌, ◌-◌, ◌^◌, [], length, slice_range, drop};
 ghost use Rattle.la_io.specs.Causes.{HasCause};
-ghost use Rattle.capture_raw.specs.declared.held.TheConstants.{ROOM};
+ghost use Rattle.la_io.specs.Intake.{Front, Reads};
 
-use la_io::{Failed, Source};
+use crate::{Failed, Source};
 use std::marker::Model;
 
-/// How many bytes there is room for.
-pub const ROOM: usize = 32_768;
-
-/// The most bytes that are taken.
+/// The most bytes that are taken from a source.
 pub const MOST_BYTES: u64 = 1 << 60;
 
-/// The bytes that were taken and are still needed, and how many were taken so far.
+/// The bytes that were taken from a source and are still needed, at most `ROOM`, and how many were
+/// taken so far.
 #[derive(Drop)]
-pub struct Held {
+pub struct Intake<const ROOM: usize> {
     buf: [u8; ROOM],
     start: usize,
     end: usize,
     taken: u64,
 }
 
-impl Model for Held {
+impl<const ROOM: usize> Model for Intake<ROOM> {
     ghost Value = { Front };
 
     ghost view = { λ s. record { bytes = slice_range s.buf s.start s.end; taken = s.taken } };
@@ -30,11 +27,12 @@ impl Model for Held {
     ghost invariant = { λ s. record { in_order : s.start ≤ s.end; within : s.end ≤ ROOM; few : s.taken ≤ 2 ^ 60; held : s.end - s.start ≤ s.taken } };
 }
 
-impl Held {
-    pub fn new() -> Held
+impl<const ROOM: usize> Intake<ROOM> {
+    /// Nothing was taken.
+    pub fn new() -> Self
         ensures { result ≡ record { bytes = []; taken = 0 } }
     {
-        Held {
+        Intake {
             buf: [0; ROOM],
             start: 0,
             end: 0,
@@ -42,16 +40,21 @@ impl Held {
         }
     }
 
+    /// The bytes that are held.
     pub fn bytes(&self) -> &[u8]
         ensures bytes { result.now ≡ self.now.bytes }
         ensures few { self.now.taken ≤ 2 ^ 60 }
         ensures held { length self.now.bytes ≤ self.now.taken }
+        ensures room { length self.now.bytes ≤ ROOM }
     {
-        &self.buf[self.start..self.end]
+        let all = &self.buf[..];
+        &all[self.start..self.end]
     }
 
+    /// How many bytes were taken.
     pub fn taken(&self) -> u64
-        ensures { result ≡ self.now.taken }
+        ensures taken { result ≡ self.now.taken }
+        ensures few { result ≤ 2 ^ 60 }
     {
         self.taken
     }
@@ -72,11 +75,12 @@ impl Held {
         ensures reads { Reads self.old self.new (S.left source.old) (S.left source.new) result }
         ensures cause { HasCause (S.faults source.old) (S.faults source.new) result }
     {
-        settle(&mut self.buf, self.start, self.end);
-        self.end -= self.start;
-        self.start = 0;
-        let room = room_behind(self.end, self.taken);
-        match source.read(&mut self.buf[self.end..self.end + room]) {
+        let held = self.end - self.start;
+        self.start = settle(&mut self.buf, self.start, self.end);
+        self.end = self.start + held;
+        let room = room_behind(self.end, self.taken, ROOM);
+        let all = &mut self.buf[..];
+        match source.read(&mut all[self.end..self.end + room]) {
             Ok(count) => {
                 self.end += count;
                 self.taken += count as u64;
@@ -87,23 +91,31 @@ impl Held {
     }
 }
 
-// Puts a part of the buffer to its front.
-fn settle(buf: &mut [u8], start: usize, end: usize)
+// Makes room behind a part of the buffer, and answers where that part begins now. It is moved to the
+// front where that is needed, or where the part is no longer than what was let go before it: so no
+// more bytes are moved in all than were taken.
+fn settle(buf: &mut [u8], start: usize, end: usize) -> usize
     requires order { start ≤ end }
     requires within { end ≤ length buf.old }
-    ensures { take (end - start) buf.new ≡ slice_range buf.old start end }
+    requires room { end - start < length buf.old }
+    ensures kept { slice_range buf.new result (result + (end - start)) ≡ slice_range buf.old start end }
+    ensures room { result + (end - start) < length buf.old }
 {
+    if end < buf.len() && start < end - start {
+        return start;
+    }
     buf.copy_within(start..end, 0);
+    0
 }
 
 // How much is to be read behind what is held.
-fn room_behind(end: usize, taken: u64) -> usize
-    requires room { end < ROOM }
+fn room_behind(end: usize, taken: u64, most: usize) -> usize
+    requires room { end < most }
     requires few { taken < 2 ^ 60 }
     ensures some { 0 < result }
-    ensures within { end + result ≤ ROOM }
+    ensures within { end + result ≤ most }
     ensures few { taken + result ≤ 2 ^ 60 }
 {
-    let free = (ROOM - end) as u64;
+    let free = (most - end) as u64;
     free.min(MOST_BYTES - taken) as usize
 }

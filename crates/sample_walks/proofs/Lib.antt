@@ -1,0 +1,4 @@
+pub mod WalkLaws
+pub mod AltLaws
+pub mod EventWalks
+pub mod HeldLaws
