@@ -29,8 +29,8 @@ counted_more input more =
     ap (λ (l : List ℕ). take (2 ^ 60) l) (samples_append input more) ∙ take_both (2 ^ 60) had (samples_in more)
     ∙ ap (λ (k : ℕ). take (2 ^ 60) had ++ take k (samples_in more)) room
 
-pub counted_samples : (input : List Item) (l : List ℕ) → counted_samples (input ++ map Sample l) ≡ counted_samples input ++ take (2 ^ 60 - length (counted_samples input)) l
-counted_samples input l =
+pub counted_more_samples : (input : List Item) (l : List ℕ) → counted_samples (input ++ map Sample l) ≡ counted_samples input ++ take (2 ^ 60 - length (counted_samples input)) l
+counted_more_samples input l =
     counted_more input (map Sample l) ∙ ap (λ (k : List ℕ). counted_samples input ++ take (2 ^ 60 - length (counted_samples input)) k) (samples_of_samples l)
 
 -- a packet, and nothing, don't count

@@ -11,7 +11,7 @@ use Rattle.wait_cond.specs.Waiting.{Waits, alts_of, wait_from, consumed_by}
 use Rattle.decoder_core.specs.Inputs.{Item, Sample, counted_samples}
 use Rattle.decoder_core.specs.Driving.{Drives}
 use Rattle.decoder_core.specs.Laws.{IsQuiet}
-use Rattle.decoder_core.proofs.Counting.{counted_samples, take_equal, samples_are, take_past}
+use Rattle.decoder_core.proofs.Counting.{counted_more_samples, take_equal, samples_are, take_past}
 
 module _ {L S : Type 0} (setup : L → S) (outs : S → List ℕ → List Out) (stands : L → List ℕ → Type 0) (alts : L → List Alt)
     (quiet : (machine : L) → IsQuiet (outs (setup machine)) (stands machine) (alts machine)) where
@@ -44,7 +44,7 @@ module _ {L S : Type 0} (setup : L → S) (outs : S → List ℕ → List Out) (
     pub part_counts : (run part : Run) → part.value ≡ run.value → part.len ≡ min run.len (2 ^ 60 - consumed_by waiter) → counted_samples (input ++ map Sample (samples run)) ≡ list ++ samples part
     part_counts run part same len =
         let room : 2 ^ 60 - length list ≡ 2 ^ 60 - consumed_by waiter = ap (λ (k : ℕ). 2 ^ 60 - k) list_len in
-        counted_samples input (samples run)
+        counted_more_samples input (samples run)
         ∙ ap (λ (l : List ℕ). list ++ l)
         (ap (λ (k : ℕ). take k (samples run)) room ∙ ap (λ (l : List ℕ). take (2 ^ 60 - consumed_by waiter) l) (samples_are run)
         ∙ take_equal (2 ^ 60 - consumed_by waiter) run.len run.value
@@ -84,7 +84,7 @@ module _ {L S : Type 0} (setup : L → S) (outs : S → List ℕ → List Out) (
     pub counted_front : (part : Run) (used at v : ℕ) → at + 1 ≡ length list + used → used ≤ part.len → part.value ≡ v → part.len ≤ 2 ^ 60 - consumed_by waiter
         → counted_samples (input ++ map Sample (replicate used v)) ≡ take (at + 1) (list ++ samples part)
     counted_front part used at v place within same room =
-        counted_samples input (replicate used v)
+        counted_more_samples input (replicate used v)
         ∙ ap (λ (l : List ℕ). list ++ l) (take_all (2 ^ 60 - length list) (replicate used v) (omega (arith, length-replicate used v, list_len)))
         ∙ sym (take_past list (samples part) used (at + 1) place
         ∙ ap (λ (l : List ℕ). list ++ l) (ap (λ (l : List ℕ). take used l) (samples_are part ∙ ap (λ (w : ℕ). replicate part.len w) same) ∙ take-replicate used part.len v within))
@@ -93,7 +93,7 @@ module _ {L S : Type 0} (setup : L → S) (outs : S → List ℕ → List Out) (
     pub spent : (run : Run) → 2 ^ 60 ≤ consumed_by waiter → counted_samples (input ++ map Sample (samples run)) ≡ list ++ []
     spent run full =
         let none : 2 ^ 60 - length list ≡ 0 = omega (arith, list_len) in
-        counted_samples input (samples run) ∙ ap (λ (k : ℕ). list ++ take k (samples run)) none
+        counted_more_samples input (samples run) ∙ ap (λ (k : ℕ). list ++ take k (samples run)) none
 
     -- the quiet samples behind the last stop
     pub quiet_parts : NoneMet (take (wait_from waiter) list ++ drop (wait_from waiter) list) (alts machine) (length (take (wait_from waiter) list)) (length (take (wait_from waiter) list ++ drop (wait_from waiter) list))
