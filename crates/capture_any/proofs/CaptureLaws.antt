@@ -7,7 +7,7 @@ use Rattle.capture_raw.proofs.Captures.{unit_some, settled_longer, fault_stays}
 use Rattle.capture_raw.proofs.Standing.{given_front}
 use Rattle.capture_raw.specs.Raw.{raw_names, raw_capture}
 use Rattle.capture_any.specs.Captures.{capture_of}
-use Rattle.capture_any.specs.Laws.{LongerExtends, FaultStays, HeadStays, PinsLeaveTheHead, GivenIsFront}
+use Rattle.capture_any.specs.Laws.{LongerExtends, FaultStays, HeadStays, PinsLeaveTheHead, PinsLeaveTheEnding, GivenIsFront}
 use Rattle.capture_any.specs.Reading.{StandsIn, form_in, pins_in, given_in}
 use Rattle.capture_any.specs.declared.form.Form.{Form}
 use Rattle.capture_any.specs.declared.form.Form.TheVariants.{Raw}
@@ -44,6 +44,10 @@ head_stays = record {
 pub pins_leave_the_head : PinsLeaveTheHead
 unfolding raw_capture
 pins_leave_the_head (Raw channels rate) pins others bytes told = refl
+
+pub pins_leave_the_ending : PinsLeaveTheEnding
+unfolding raw_capture
+pins_leave_the_ending (Raw channels rate) pins others bytes told = refl
 
 front_in : (reader : Reader) (bytes : List ℕ) (told : Told) (given : List ℕ) → StandsIn reader bytes told given → given_in reader ≤ 2 ^ 60
     → (rest : List ℕ) × ((capture_of (form_in reader) (pins_in reader) bytes told).settled ≡ given ++ rest)

@@ -8,9 +8,11 @@ use Rattle.la_base.specs.declared.samples.Run.{Run}
 use Rattle.la_io.specs.declared.fault.CaptureError.TheVariants.{Fault as FaultError, Read as ReadError, NoMemory as NoMemoryError}
 use Rattle.la_io.specs.declared.fault.CaptureFault.{CaptureFault}
 use Rattle.la_io.specs.Capture.{Told, AtEnd, Cut, Ending, Captured, Ends}
-use Rattle.capture_any.specs.Captures.{capture_of, Later, ToldAt}
+use Rattle.capture_any.specs.Captures.{capture_of, Later, ToldAt, WantsMemoryAt}
 use Rattle.capture_any.proofs.Telling.{later_on, later_still}
-use Rattle.capture_any.specs.Listings.{SettledFront, Says, Lists}
+use Rattle.capture_any.specs.Listings.{SettledFront, OfAll, OfFewer, Says, Lists}
+use Rattle.std.proofs.Math.Path.{transport}
+use Rattle.capture_any.specs.declared.form.Form.{Form}
 use Rattle.capture_any.specs.Reading.{Stands, Next, form_of, pins_of, capture_by}
 use Rattle.capture_any.specs.declared.capture.Capture.{Capture}
 use Rattle.capture_any.specs.declared.end.ListingEnd.{ListingEnd}
@@ -68,32 +70,28 @@ same_on first now next same form pins = record {
   pins = pins ∙ same.pins;
 }
 
--- they give the same
-pub same_by : (first now : Capture) → SameCapture first now → capture_by now ≡ capture_by first
-same_by first now same = λ i bytes told. capture_of (same.form i) (same.pins i) bytes told
+-- an end that leaves a front
+abbrev pub IsFront : ListingEnd → Type 0
+IsFront Done = ⊥
+IsFront Read = ⊥
+IsFront Write = Unit {0}
+IsFront (Fault fault) = ⊥
+IsFront NoMemory = Unit {0}
 
 module _ (first new : Capture) (same : SameCapture first new) (Whole Front : List ℕ → Type 0) (before : List ℕ) (then : Told) (left_old left_new : Option (List ℕ)) (given : List ℕ) where
   -- a front was written of what those samples list that were given, and more
-  pub lists_write : Gave new before then left_old left_new given → ((rest : List ℕ) → Front (given ++ rest)) → Lists (capture_by first) Whole Front before then left_old left_new Write
+  pub lists_write : Gave new before then left_old left_new given → ((rest : List ℕ) → Front (given ++ rest)) → Lists (form_of first) (pins_of first) Whole Front before then left_old left_new Write
   lists_write now front =
       let all = before ++ now.bytes in
       let settled = given_is_front new all now.told given now.stands in
-      let is : (capture_by first (take (length all) all) now.told).settled ≡ given ++ settled.0 =
-      (λ i. (capture_of (sym same.form i) (sym same.pins i) (take_all (length all) all (omega arith) i) now.told).settled) ∙ settled.1 in
+      let is : (capture_by first all now.told).settled ≡ given ++ settled.0 = (λ i. (capture_of (sym same.form i) (sym same.pins i) all now.told).settled) ∙ settled.1 in
       record {
         bytes = now.bytes;
         told = now.told;
         later = now.later;
         taken = now.taken;
         at_end = now.at_end;
-        says = record {
-          count = length all;
-          within = omega arith;
-          how = now.told;
-          cut = λ less. absurd (omega (arith, less));
-          whole = λ e. refl;
-          front = subst Front (sym is) (front settled.0);
-        };
+        says = OfAll (subst Front (sym is) (front settled.0));
       }
 
   module _ (old : Capture) (left_now : Option (List ℕ)) (so_far : Gave old before then left_old left_now given) where
@@ -113,7 +111,7 @@ module _ (first new : Capture) (same : SameCapture first new) (Whole Front : Lis
           subst (λ (c : Captured). Ends c given how) (λ i. capture_of (same.form i) (same.pins i) (append_assoc before so_far.bytes bytes i) told) ends
 
     -- the capture ended, and the listing is whole
-    pub lists_done : Next old new left_now left_new (Ok None) → Whole given → Lists (capture_by first) Whole Front before then left_old left_new Done
+    pub lists_done : Next old new left_now left_new (Ok None) → Whole given → Lists (form_of first) (pins_of first) Whole Front before then left_old left_new Done
     lists_done next whole =
         let answer = next.answers (before ++ so_far.bytes) so_far.told given so_far.at_end so_far.stands in
         let ends = all_ends next.bytes next.consumed answer.told _ answer.answers.1 in
@@ -127,7 +125,7 @@ module _ (first new : Capture) (same : SameCapture first new) (Whole Front : Lis
         }
 
     -- the capture has a fault, and the listing of what came before it is whole
-    pub lists_fault : (fault : CaptureFault) → Next old new left_now left_new (Err (FaultError fault)) → Whole given → Lists (capture_by first) Whole Front before then left_old left_new (Fault fault)
+    pub lists_fault : (fault : CaptureFault) → Next old new left_now left_new (Err (FaultError fault)) → Whole given → Lists (form_of first) (pins_of first) Whole Front before then left_old left_new (Fault fault)
     lists_fault fault next whole =
         let answer = next.answers (before ++ so_far.bytes) so_far.told given so_far.at_end so_far.stands in
         let ends = all_ends next.bytes next.consumed answer.told _ answer.answers in
@@ -141,7 +139,7 @@ module _ (first new : Capture) (same : SameCapture first new) (Whole Front : Lis
         }
 
     -- the source failed, and the listing of what came before is whole
-    pub lists_read : Next old new left_now left_new (Err ReadError) → Whole given → Lists (capture_by first) Whole Front before then left_old left_new Read
+    pub lists_read : Next old new left_now left_new (Err ReadError) → Whole given → Lists (form_of first) (pins_of first) Whole Front before then left_old left_new Read
     lists_read next whole =
         let answer = next.answers (before ++ so_far.bytes) so_far.told given so_far.at_end so_far.stands in
         let ends = all_ends next.bytes next.consumed answer.told _ answer.answers.1 in
@@ -155,42 +153,29 @@ module _ (first new : Capture) (same : SameCapture first new) (Whole Front : Lis
         }
 
     -- there was no memory to read on, and a front of the listing of what came before is written
-    pub lists_no_memory : Next old new left_now left_new (Err NoMemoryError) → Front given → Lists (capture_by first) Whole Front before then left_old left_new NoMemory
+    pub lists_no_memory : Next old new left_now left_new (Err NoMemoryError) → Front given → Lists (form_of first) (pins_of first) Whole Front before then left_old left_new NoMemory
     lists_no_memory next front =
         let answer = next.answers (before ++ so_far.bytes) so_far.told given so_far.at_end so_far.stands in
         let joined = append_assoc before so_far.bytes next.bytes in
         let is : given ≡ (capture_by first (take answer.answers.0 (before ++ (so_far.bytes ++ next.bytes))) Cut).settled =
-        answer.answers.2 ∙ (λ i. (capture_of (same.form i) (same.pins i) (take answer.answers.0 (joined i)) Cut).settled) in
+        answer.answers.3 ∙ (λ i. (capture_of (same.form i) (same.pins i) (take answer.answers.0 (joined i)) Cut).settled) in
         record {
           bytes = so_far.bytes ++ next.bytes;
           told = answer.told;
           later = all_later next.bytes next.consumed answer.told answer.later;
           taken = all_taken next.bytes next.consumed;
           at_end = answer.at_end;
-          says = record {
-            count = answer.answers.0;
-            within = omega (arith, answer.answers.1, ap length joined);
-            how = Cut;
-            cut = λ less. refl;
-            whole = λ e. absurd (omega (arith, e, answer.answers.1, ap length joined));
-            front = subst Front is front;
-          };
+          says = OfFewer answer.answers.0 (omega (arith, answer.answers.1, ap length joined)) (transport (λ i. WantsMemoryAt (same.form i) (joined i) answer.answers.0) answer.answers.2) (subst Front is front);
         }
 
-module _ (capture : List ℕ → Told → Captured) (Whole Front : List ℕ → Type 0) (before : List ℕ) (then : Told) (left_old left_new : Option (List ℕ)) where
+module _ (form : Form) (pins : List ℕ) (Whole Front : List ℕ → Type 0) (before : List ℕ) (then : Told) (left_old left_new : Option (List ℕ)) where
   module _ (More : List ℕ → Type 0) (on : (given : List ℕ) → Front given → More given) where
-    front_on : (bytes : List ℕ) (told : Told) → SettledFront capture Front bytes told → SettledFront capture More bytes told
-    front_on bytes told front = record {
-      count = front.count;
-      within = front.within;
-      how = front.how;
-      cut = front.cut;
-      whole = front.whole;
-      front = on _ front.front;
-    }
+    front_on : (bytes : List ℕ) (told : Told) → SettledFront form pins Front bytes told → SettledFront form pins More bytes told
+    front_on bytes told (OfAll front) = OfAll (on _ front)
+    front_on bytes told (OfFewer count less wants front) = OfFewer count less wants (on _ front)
 
     -- what was written is written otherwise, whole where it was whole and a front where it was a front
-    pub lists_on : (All : List ℕ → Type 0) → ((given : List ℕ) → Whole given → All given) → (end : ListingEnd) → Lists capture Whole Front before then left_old left_new end → Lists capture All More before then left_old left_new end
+    pub lists_on : (All : List ℕ → Type 0) → ((given : List ℕ) → Whole given → All given) → (end : ListingEnd) → Lists form pins Whole Front before then left_old left_new end → Lists form pins All More before then left_old left_new end
     lists_on All all_on end lists = record {
       bytes = lists.bytes;
       told = lists.told;
@@ -199,37 +184,35 @@ module _ (capture : List ℕ → Told → Captured) (Whole Front : List ℕ → 
       at_end = lists.at_end;
       says = says_on end lists.says;
     } where
-      says_on : (end : ListingEnd) → Says capture Whole Front (before ++ lists.bytes) lists.told end → Says capture All More (before ++ lists.bytes) lists.told end
+      says_on : (end : ListingEnd) → Says form pins Whole Front (before ++ lists.bytes) lists.told end → Says form pins All More (before ++ lists.bytes) lists.told end
       says_on Done s = (s.0, s.1, all_on _ s.2)
       says_on Read s = (s.0, all_on _ s.1)
       says_on Write s = front_on (before ++ lists.bytes) lists.told s
       says_on (Fault fault) s = (s.0, all_on _ s.1)
       says_on NoMemory s = front_on (before ++ lists.bytes) lists.told s
 
-    module _ (cut : (given : List ℕ) → Whole given → More given) (end : ListingEnd) (lists : Lists capture Whole Front before then left_old left_new end) where
-      cut_front : Whole (capture (before ++ lists.bytes) lists.told).settled → SettledFront capture More (before ++ lists.bytes) lists.told
-      cut_front whole =
-          let all = before ++ lists.bytes in
-          let same : take (length all) all ≡ all = take_all (length all) all (omega arith) in
-          record {
-            count = length all;
-            within = omega arith;
-            how = lists.told;
-            cut = λ less. absurd (omega (arith, less));
-            whole = λ e. refl;
-            front = subst (λ (l : List ℕ). More (capture l lists.told).settled) (sym same) (cut _ whole);
-          }
-
-      cut_says : (end : ListingEnd) → Says capture Whole Front (before ++ lists.bytes) lists.told end → SettledFront capture More (before ++ lists.bytes) lists.told
-      cut_says Done s = cut_front s.2
-      cut_says Read s = cut_front s.1
+    module _ (cut : (given : List ℕ) → Whole given → More given) (end : ListingEnd) (lists : Lists form pins Whole Front before then left_old left_new end) where
+      cut_says : (end : ListingEnd) → Says form pins Whole Front (before ++ lists.bytes) lists.told end → SettledFront form pins More (before ++ lists.bytes) lists.told
+      cut_says Done s = OfAll (cut _ s.2)
+      cut_says Read s = OfAll (cut _ s.1)
       cut_says Write s = front_on (before ++ lists.bytes) lists.told s
-      cut_says (Fault fault) s = cut_front s.1
+      cut_says (Fault fault) s = OfAll (cut _ s.1)
       cut_says NoMemory s = front_on (before ++ lists.bytes) lists.told s
 
-      -- a later write failed, so a front of it is written
-      pub lists_cut : (All : List ℕ → Type 0) → Lists capture All More before then left_old left_new Write
-      lists_cut All = record {
+      -- whatever came, a front of it is written
+      pub lists_cut : (All : List ℕ → Type 0) → (last : ListingEnd) → IsFront last → Lists form pins All More before then left_old left_new last
+      lists_cut All Done is = absurd is
+      lists_cut All Read is = absurd is
+      lists_cut All (Fault fault) is = absurd is
+      lists_cut All Write is = record {
+        bytes = lists.bytes;
+        told = lists.told;
+        later = lists.later;
+        taken = lists.taken;
+        at_end = lists.at_end;
+        says = cut_says end lists.says;
+      }
+      lists_cut All NoMemory is = record {
         bytes = lists.bytes;
         told = lists.told;
         later = lists.later;

@@ -31,3 +31,7 @@ HasNoHead (Raw channels rate) = Unit {0}
 -- a form whose samples take no memory
 abbrev pub TakesNoMemory : Form → Type 0
 TakesNoMemory (Raw channels rate) = Unit {0}
+
+-- a reader of this form may want memory with the samples given that the first `count` of the bytes settle which it took
+abbrev pub WantsMemoryAt : Form → List ℕ → ℕ → Type 0
+WantsMemoryAt (Raw channels rate) bytes count = ⊥

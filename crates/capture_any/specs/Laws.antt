@@ -28,6 +28,10 @@ pub record HeadStays : Type 0 where
 abbrev pub PinsLeaveTheHead : Type 0
 PinsLeaveTheHead = (form : Form) (pins others bytes : List ℕ) (told : Told) → (capture_of form pins bytes told).head ≡ (capture_of form others bytes told).head
 
+-- how the bytes end is the same whatever the pins are
+abbrev pub PinsLeaveTheEnding : Type 0
+PinsLeaveTheEnding = (form : Form) (pins others bytes : List ℕ) (told : Told) → (capture_of form pins bytes told).ending ≡ (capture_of form others bytes told).ending
+
 -- what a reader has given is a front of what the bytes that it took settle
 abbrev pub GivenIsFront : Type 0
 GivenIsFront = (capture : Capture) (bytes : List ℕ) (told : Told) (given : List ℕ) → Stands capture bytes told given → (rest : List ℕ) × ((capture_by capture bytes told).settled ≡ given ++ rest)

@@ -9,7 +9,7 @@ use Rattle.la_io.specs.declared.fault.CaptureError.TheVariants.{Fault, Read, NoM
 use Rattle.la_io.specs.Capture.{Told, AtEnd, Cut, Good, Bad, Unread, Clean, Faulty, Open, Captured, Ends}
 use Rattle.la_io.specs.Causes.{Rose}
 use Rattle.capture_raw.specs.Reader.{Stands as RawStands, raw_channels, raw_rate, raw_pins, raw_open, raw_given}
-use Rattle.capture_any.specs.Captures.{capture_of, Later, ToldAt}
+use Rattle.capture_any.specs.Captures.{capture_of, Later, ToldAt, WantsMemoryAt}
 use Rattle.capture_any.specs.declared.capture.Capture.{Capture}
 use Rattle.capture_any.specs.declared.form.Form.{Form}
 use Rattle.capture_any.specs.declared.form.Form.TheVariants.{Raw}
@@ -79,7 +79,7 @@ Answers capture bytes told given (Ok (Some run)) = Stands capture bytes told (gi
 Answers capture bytes told given (Ok None) = (told ≡ AtEnd) × Ends (capture_by capture bytes told) given Clean
 Answers capture bytes told given (Err (Fault fault)) = Ends (capture_by capture bytes told) given (Faulty fault)
 Answers capture bytes told given (Err Read) = (told ≡ Cut) × Ends (capture_by capture bytes told) given Open
-Answers capture bytes told given (Err NoMemory) = (count : ℕ) × (count < length bytes) × (given ≡ (capture_by capture (take count bytes) Cut).settled)
+Answers capture bytes told given (Err NoMemory) = (count : ℕ) × (count < length bytes) × WantsMemoryAt (form_of capture) bytes count × (given ≡ (capture_by capture (take count bytes) Cut).settled)
 
 -- the same, where these bytes were taken in this call, and whether the end was told before it
 pub record Answered (capture : Capture) (left : Option (List ℕ)) (before : List ℕ) (then : Told) (bytes given : List ℕ) (result : Result (Option Run) CaptureError) : Type 0 where

@@ -1,5 +1,5 @@
 // Laws of captures, each on a function that does nothing.
-ghost use Rattle.capture_any.specs.Laws.{LongerExtends, FaultStays, HeadStays, PinsLeaveTheHead, GivenIsFront};
+ghost use Rattle.capture_any.specs.Laws.{LongerExtends, FaultStays, HeadStays, PinsLeaveTheHead, PinsLeaveTheEnding, GivenIsFront};
 
 /// The settled samples of bytes that are cut are the first of those of every longer input.
 pub fn longer_extends()
@@ -19,6 +19,11 @@ pub fn head_stays()
 /// Which channels are selected says nothing of the head.
 pub fn pins_leave_the_head()
     ensures { PinsLeaveTheHead }
+{}
+
+/// Which channels are selected says nothing of how the bytes end.
+pub fn pins_leave_the_ending()
+    ensures { PinsLeaveTheEnding }
 {}
 
 /// What a reader has given are the first samples that the bytes settle which it took.

@@ -14,4 +14,7 @@ mod tests;
 pub use capture::Capture;
 pub use end::ListingEnd;
 pub use form::Form;
-pub use laws::{fault_stays, given_is_front, head_stays, longer_extends, pins_leave_the_head};
+pub use laws::{
+    fault_stays, given_is_front, head_stays, longer_extends, pins_leave_the_ending,
+    pins_leave_the_head,
+};

@@ -27,6 +27,10 @@ module _ (alts : List Alt) (old mid from new : Option (List ℕ)) where
     written = over _ front.written;
   }
 
+-- a sink that went on behind a buffer went on
+pub goes_through : {K : Type 0} (goes_on : K → K → Type 0) (old first last new : K) → first ≡ old → goes_on first last → last ≡ new → goes_on old new
+goes_through {K} goes_on old first last new from inner to = subst (λ (k : K). goes_on old k) to (subst (λ (k : K). goes_on k last) from inner)
+
 -- a source's count never falls
 pub read_later : (before now : ℕ) (end : ListingEnd) → ReadCause before now end → before ≤ now
 read_later before now Done c = omega (arith, c)

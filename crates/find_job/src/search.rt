@@ -4,7 +4,7 @@ ghost use Rattle.wait_cond.specs.Conds.{cond_alts};
 ghost use Rattle.la_io.specs.Capture.{Told};
 ghost use Rattle.capture_any.specs.Captures.{TakesNoMemory, ToldAt};
 ghost use Rattle.capture_any.specs.Listings.{Lists, ReadCause, WriteCause};
-ghost use Rattle.capture_any.specs.Reading.{Stands, capture_by, form_of, is_open_of, pins_of};
+ghost use Rattle.capture_any.specs.Reading.{Stands, form_of, is_open_of, pins_of};
 ghost use Rattle.find_job.specs.Finding.{WholeListing, ListingFront};
 
 use crate::FindEnd;
@@ -24,7 +24,7 @@ pub fn find<S: Source, K: Sink>(
     requires { is_open_of capture.old ≡ true }
     // What the end says of the bytes that were taken and of what was written.
     ensures finds { (before : List ℕ) (told : Told) → ToldAt told (S.left source.old) → Stands capture.old before told []
-        → Lists (capture_by capture.old) (λ samples. WholeListing samples (cond_alts cond) (K.written sink.old) (K.written sink.new))
+        → Lists (form_of capture.old) (pins_of capture.old) (λ samples. WholeListing samples (cond_alts cond) (K.written sink.old) (K.written sink.new))
         (λ samples. ListingFront samples (cond_alts cond) (K.written sink.old) (K.written sink.new)) before told (S.left source.old) (S.left source.new) result }
     // Read comes only where the source failed.
     ensures read { ReadCause (S.faults source.old) (S.faults source.new) result }
@@ -59,11 +59,12 @@ pub fn find_buffered<S: Source, K: Sink>(
 ) -> FindEnd
     requires { is_open_of capture.old ≡ true }
     ensures finds { (before : List ℕ) (told : Told) → ToldAt told (S.left source.old) → Stands capture.old before told []
-        → Lists (capture_by capture.old) (λ samples. WholeListing samples (cond_alts cond) (K.written sink.old) (K.written sink.new))
+        → Lists (form_of capture.old) (pins_of capture.old) (λ samples. WholeListing samples (cond_alts cond) (K.written sink.old) (K.written sink.new))
         (λ samples. ListingFront samples (cond_alts cond) (K.written sink.old) (K.written sink.new)) before told (S.left source.old) (S.left source.new) result }
     ensures read { ReadCause (S.faults source.old) (S.faults source.new) result }
     ensures write { WriteCause (K.faults sink.old) (K.faults sink.new) result }
     ensures memory { TakesNoMemory (form_of capture.old) → result ≢ FindEnd.NoMemory }
+    ensures goes_on { K.goes_on sink.old sink.new }
     ensures form { form_of capture.new ≡ form_of capture.old }
     ensures pins { pins_of capture.new ≡ pins_of capture.old }
 {
