@@ -1,5 +1,4 @@
 -- The gathering of all notes of a capture, as it goes on.
-use Rattle.std.specs.Io.KnownBytes.{Appends}
 use Rattle.la_io.specs.Causes.{AppendsFront}
 use Rattle.std.proofs.Common.{◌≡◌, ◌≢◌, ℕ, ◌+◌, ◌==◌, ◌<◌, Bool, true, false, cond, List, [], ◌∷◌, ◌++◌, length, map, Option, Some, Ok, refl, sym, ◌∙◌, ap, ap₂, subst, append_assoc, arith, suc, inl, inr, ◌⊎◌}
 use Rattle.std.specs.List.{filter}
@@ -18,13 +17,15 @@ use Rattle.capture_any.specs.Reading.{Stands, Next}
 use Rattle.capture_any.specs.declared.capture.Capture.{Capture}
 use Rattle.capture_any.proofs.ListingLemmas.{Gave, gave_nothing, gave_run}
 use Rattle.la_io.specs.Grown.{appends_nothing}
-use Rattle.la_io.specs.Capture.{Told, Captured}
-use Rattle.capture_any.specs.Listings.{Lists, Says}
+use Rattle.la_io.specs.Capture.{Told}
+use Rattle.capture_any.specs.Listings.{Lists, OfAll, Says}
+use Rattle.capture_any.specs.declared.form.Form.{Form}
+use Rattle.la_io.proofs.Fronts.{front_longer, front_whole}
 use Rattle.capture_any.specs.declared.end.ListingEnd.{ListingEnd}
 use Rattle.capture_any.specs.declared.end.ListingEnd.TheVariants.{Done, Fault, NoMemory, Read, Write}
 use Rattle.note_order.proofs.Entries.{instances_make_listing}
 use Rattle.stack_spec.specs.Instances.{Instance}
-use Rattle.ldecode.specs.Decoding.{Decodes, DecodeSays, note_lines, notes_of, shown_from, where_shown}
+use Rattle.ldecode.specs.Decoding.{note_lines, notes_of, shown_from, where_shown}
 use Rattle.ldecode.specs.Feeding.{Consumed, FedAll, FedEach, Gathered, notes_on, samples_listing}
 use Rattle.ldecode.proofs.NoteLemmas.{none_shown, shown-append}
 
@@ -166,9 +167,9 @@ module _ {M S : Type 0} (setup : M → S) (consumed : M → List Item → Type 0
   }
 
 -- want of memory leaves what a failed write leaves: a front
-pub lists_no_room : (capture : List ℕ → Told → Captured) (Whole Front : List ℕ → Type 0) (before : List ℕ) (then : Told) (left_old left_new : Option (List ℕ)) → Lists capture Whole Front before then left_old left_new Write
-    → Lists capture Whole Front before then left_old left_new NoMemory
-lists_no_room capture Whole Front before then left_old left_new lists = record {
+pub lists_no_room : (form : Form) (pins : List ℕ) (Whole Front : List ℕ → Type 0) (before : List ℕ) (then : Told) (left_old left_new : Option (List ℕ)) → Lists form pins Whole Front before then left_old left_new Write
+    → Lists form pins Whole Front before then left_old left_new NoMemory
+lists_no_room form pins Whole Front before then left_old left_new lists = record {
   bytes = lists.bytes;
   told = lists.told;
   later = lists.later;
@@ -183,11 +184,15 @@ pub gathered_listing : {S : Type 0} (outputs : S → List Item → List Out) (se
 gathered_listing outputs setups instances shown entries sorted given is gathered =
     ap (note_lines instances) (is ∙ instances_make_listing entries (entries_from 0 (shown_from shown 0 (notes_on outputs setups given))) gathered)
 
-module _ (capture : List ℕ → Told → Captured) (Whole Front : List ℕ → Type 0) (listing : List ℕ → List ℕ) (before : List ℕ) (then : Told) (left_old left_new old new : Option (List ℕ)) where
+-- nothing that was written is a front of any listing
+pub nothing_front : (old : Option (List ℕ)) (bytes : List ℕ) → AppendsFront old old bytes
+nothing_front old bytes = front_longer old old [] bytes (front_whole old old [] (appends_nothing old))
+
+module _ (form : Form) (pins : List ℕ) (Whole All Front : List ℕ → Type 0) (before : List ℕ) (then : Told) (left_old left_new : Option (List ℕ)) (ending : ListingEnd) (room : ending ≢ NoMemory) (reads : ending ≢ Write)
+    (lists : Lists form pins Whole (λ _. Unit {0}) before then left_old left_new ending) where
   -- the work came to an end, and all that was gathered is written
-  pub decodes_whole : ((given : List ℕ) → Whole given → Appends old new (listing given)) → (ending : ListingEnd) → ending ≢ NoMemory → ending ≢ Write → Lists capture Whole Front before then left_old left_new ending
-      → Decodes capture listing before then left_old left_new old new ending
-  decodes_whole written ending room reads lists = record {
+  pub lists_written : ((given : List ℕ) → Whole given → All given) → Lists form pins All Front before then left_old left_new ending
+  lists_written written = record {
     bytes = lists.bytes;
     told = lists.told;
     later = lists.later;
@@ -195,7 +200,7 @@ module _ (capture : List ℕ → Told → Captured) (Whole Front : List ℕ → 
     at_end = lists.at_end;
     says = by (before ++ lists.bytes) lists.told ending room reads lists.says;
   } where
-    by : (bytes : List ℕ) (told : Told) (ending : ListingEnd) → ending ≢ NoMemory → ending ≢ Write → Says capture Whole Front bytes told ending → DecodeSays capture listing bytes told old new ending
+    by : (bytes : List ℕ) (told : Told) (ending : ListingEnd) → ending ≢ NoMemory → ending ≢ Write → Says form pins Whole (λ _. Unit {0}) bytes told ending → Says form pins All Front bytes told ending
     by bytes told Done room reads s = (s.0, s.1, written _ s.2)
     by bytes told Read room reads s = (s.0, written _ s.1)
     by bytes told (Fault fault) room reads s = (s.0, written _ s.1)
@@ -203,9 +208,8 @@ module _ (capture : List ℕ → Told → Captured) (Whole Front : List ℕ → 
     by bytes told NoMemory room reads s = absurd (room refl)
 
   -- a write failed then, and a front is written
-  pub decodes_front : ((given : List ℕ) → Whole given → AppendsFront old new (listing given)) → (ending : ListingEnd) → ending ≢ NoMemory → ending ≢ Write → Lists capture Whole Front before then left_old left_new ending
-      → Decodes capture listing before then left_old left_new old new Write
-  decodes_front written ending room reads lists = record {
+  pub lists_broken : ((given : List ℕ) → Whole given → Front given) → Lists form pins All Front before then left_old left_new Write
+  lists_broken written = record {
     bytes = lists.bytes;
     told = lists.told;
     later = lists.later;
@@ -213,21 +217,9 @@ module _ (capture : List ℕ → Told → Captured) (Whole Front : List ℕ → 
     at_end = lists.at_end;
     says = by (before ++ lists.bytes) lists.told ending room reads lists.says;
   } where
-    by : (bytes : List ℕ) (told : Told) (ending : ListingEnd) → ending ≢ NoMemory → ending ≢ Write → Says capture Whole Front bytes told ending → DecodeSays capture listing bytes told old new Write
-    by bytes told Done room reads s = written _ s.2
-    by bytes told Read room reads s = written _ s.1
-    by bytes told (Fault fault) room reads s = written _ s.1
+    by : (bytes : List ℕ) (told : Told) (ending : ListingEnd) → ending ≢ NoMemory → ending ≢ Write → Says form pins Whole (λ _. Unit {0}) bytes told ending → Says form pins All Front bytes told Write
+    by bytes told Done room reads s = OfAll (written _ s.2)
+    by bytes told Read room reads s = OfAll (written _ s.1)
+    by bytes told (Fault fault) room reads s = OfAll (written _ s.1)
     by bytes told Write room reads s = absurd (reads refl)
     by bytes told NoMemory room reads s = absurd (room refl)
-
--- there was no memory before anything was written
-pub decodes_nothing : (capture : List ℕ → Told → Captured) (Whole Front : List ℕ → Type 0) (listing : List ℕ → List ℕ) (before : List ℕ) (then : Told) (left_old left_new old : Option (List ℕ)) (ending : ListingEnd)
-    → Lists capture Whole Front before then left_old left_new ending → Decodes capture listing before then left_old left_new old old NoMemory
-decodes_nothing capture Whole Front listing before then left_old left_new old ending lists = record {
-  bytes = lists.bytes;
-  told = lists.told;
-  later = lists.later;
-  taken = lists.taken;
-  at_end = lists.at_end;
-  says = appends_nothing old;
-}

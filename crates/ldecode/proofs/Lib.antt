@@ -7,3 +7,5 @@ pub mod Working
 pub mod Asked
 pub mod Stacked
 pub mod Running
+pub mod Exact
+pub mod Headlines

@@ -1,5 +1,5 @@
 -- What the settings of a decoding ask for, and the listing of decoders that are bound.
-use Rattle.std.proofs.Common.{◌≡◌, ℕ, ◌⊎◌, inl, inr, List, [], ◌∷◌, ◌++◌, length, map, All, Option, Some, None, Ok, Err, refl, sym, ◌∙◌, ap, ap₂, append_assoc, arith, suc, Bor, Bool}
+use Rattle.std.proofs.Common.{◌≡◌, ℕ, ◌⊎◌, inr, List, [], ◌∷◌, ◌++◌, length, map, All, Option, Some, None, Ok, Err, refl, sym, ◌∙◌, ap, ap₂, append_assoc, arith, suc, Bor, Bool}
 use Rattle.std.specs.Prelude.{option_map, slice_get}
 use Rattle.std.specs.Option.{option_copied}
 use Rattle.std.proofs.lemmas.List.{append-nil}
@@ -8,8 +8,6 @@ use Rattle.la_base.specs.declared.samples.TheConstants.{MOST_PINS}
 use Rattle.la_base.specs.declared.wires.Note.{Note}
 use Rattle.la_base.specs.declared.wires.Out.{Out}
 use Rattle.la_base.specs.declared.wires.Wire.TheVariants.{Logic}
-use Rattle.la_io.specs.Capture.{Told, Cut}
-use Rattle.capture_any.specs.declared.form.Form.{Form}
 use Rattle.decoder_core.specs.Inputs.{Sample}
 use Rattle.decoder_set.specs.Kinds.{kind_row}
 use Rattle.decoder_set.specs.Opening.{HasConsumed, setup_of}
@@ -21,7 +19,7 @@ use Rattle.decoder_set.specs.declared.setup.Setup.{Setup}
 use Rattle.text_parts.specs.Chains.{chain_of}
 use Rattle.text_parts.specs.declared.chain.ChainWord.{ChainWord}
 use Rattle.words.specs.Settings.{Values, meaning_of}
-use Rattle.words.specs.declared.kinds.Job.TheVariants.{Decode, Find}
+use Rattle.words.specs.declared.kinds.Job.TheVariants.{Decode}
 use Rattle.words.specs.declared.settings.Settings.{Settings}
 use Rattle.stack_spec.specs.Accepting.{Accepted, stack_of}
 use Rattle.stack_spec.specs.BindSteps.{IsBound}
@@ -32,12 +30,11 @@ use Rattle.stack_spec.specs.Stacks.{stack_meaning}
 use Rattle.stack_spec.specs.declared.bound.Bound.{Bound}
 use Rattle.stack_spec.specs.declared.faults.BindFault.{BindFault}
 use Rattle.stack_spec.specs.declared.stack.Stack.{Stack}
-use Rattle.ldecode.specs.Asking.{AsksStack, CanBind, CannotBind, HasHead, IsFormOf, SearchBound, SearchRefused, StackBound, StackRefused, Stacks, nodes_of}
+use Rattle.ldecode.specs.Asking.{AsksStack, SearchRefused, StackRefused, Stacks, nodes_of}
 use Rattle.ldecode.specs.Decoding.{decode_listing, note_lines, notes_of, shown_from}
 use Rattle.decoder_core.specs.Trees.{input_of, outputs_behind}
 use Rattle.ldecode.specs.Feeding.{Consumed, notes_on, samples_listing}
 use Rattle.note_order.specs.Order.{listed}
-use Rattle.ldecode.proofs.Working.{at_head, can_at_head}
 
 -- the names that are shown, as the code hands them on
 seen_show : (seen : Option (Bor ChainWord)) (kept : Option ChainWord) → option_copied seen ≡ kept → option_map (λ (chain : Bor ChainWord). chain_of chain.now) seen ≡ option_map chain_of kept
@@ -52,13 +49,10 @@ the_stack settings chains seen stack job chains_are show_is gives = record {
   stack = sym (ap₂ (λ l s. stack_of (map chain_of l) s None) chains_are (seen_show seen settings.show show_is)) ∙ gives;
 }
 
-one_stack : (values : Values) (some other : Accepted) → Stacks values some → Stacks values other → some ≡ other
+pub one_stack : (values : Values) (some other : Accepted) → Stacks values some → Stacks values other → some ≡ other
 one_stack values some other a b = let both = sym a.stack ∙ b.stack in cc
 
 module _ (values : Values) (names : List (List ℕ)) (rate : Rate) (accepted : Accepted) (stacks : Stacks values accepted) where
-  no_search : values.job ≡ Find → ⊥
-  no_search job = let both = sym stacks.job ∙ job in cc
-
   pub stack_asks : (pins : List ℕ) (bounds : List BoundInstance) → bound_of MOST_PINS names rate accepted.instances ≡ Ok bounds → pins ≡ Rattle.stack_spec.specs.Binding.pins_of bounds
       → AsksStack values names rate pins accepted (nodes_of accepted.instances bounds)
   stack_asks pins bounds bound pins_are = record {
@@ -68,41 +62,8 @@ module _ (values : Values) (names : List (List ℕ)) (rate : Rate) (accepted : A
     nodes_are = refl;
   }
 
-  module _ (fault : BindFault) (refused : bound_of MOST_PINS names rate accepted.instances ≡ Err fault) where
-    pub stack_refused : SearchRefused values names fault ⊎ StackRefused values names rate fault
-    stack_refused = inr (record { accepted = accepted; stacks = stacks; refused = refused })
-
-    one_refusal : (other : BindFault) → SearchRefused values names other ⊎ StackRefused values names rate other → fault ≡ other
-    one_refusal other (inl s) = absurd (no_search s.searches.job)
-    one_refusal other (inr s) =
-        let same = one_stack values accepted s.accepted stacks s.stacks in
-        let both = sym refused ∙ ap (λ (a : Accepted). bound_of MOST_PINS names rate a.instances) same ∙ s.refused in
-        cc
-
-    refused_not_bound : SearchBound values names ⊎ StackBound values names rate → ⊥
-    refused_not_bound (inl s) = no_search s.searches.job
-    refused_not_bound (inr s) =
-        let same = one_stack values accepted s.accepted stacks s.stacks in
-        let both = sym refused ∙ ap (λ (a : Accepted). bound_of MOST_PINS names rate a.instances) same ∙ s.bound in
-        cc
-
-  bound_not_refused : (bounds : List BoundInstance) → bound_of MOST_PINS names rate accepted.instances ≡ Ok bounds → (other : BindFault) → SearchRefused values names other ⊎ StackRefused values names rate other → ⊥
-  bound_not_refused bounds bound other (inl s) = no_search s.searches.job
-  bound_not_refused bounds bound other (inr s) =
-      let same = one_stack values accepted s.accepted stacks s.stacks in
-      let both = sym bound ∙ ap (λ (a : Accepted). bound_of MOST_PINS names rate a.instances) same ∙ s.refused in
-      cc
-
-  -- the same where the head was read
-  module _ (form : Form) (named : IsFormOf values form) (bytes : List ℕ) (told : Told) (head : HasHead form bytes told names rate) where
-    pub one_fault : (fault : BindFault) → bound_of MOST_PINS names rate accepted.instances ≡ Err fault → (other : BindFault) → CannotBind values [] Cut other → fault ≡ other
-    one_fault fault refused other c = one_refusal fault refused other (at_head values names rate form named bytes told head other c)
-
-    pub refused_cannot : (fault : BindFault) → bound_of MOST_PINS names rate accepted.instances ≡ Err fault → CanBind values [] Cut → ⊥
-    refused_cannot fault refused c = refused_not_bound fault refused (can_at_head values names rate form named bytes told head c)
-
-    pub bound_refuses_none : (bounds : List BoundInstance) → bound_of MOST_PINS names rate accepted.instances ≡ Ok bounds → (other : BindFault) → CannotBind values [] Cut other → ⊥
-    bound_refuses_none bounds bound other c = bound_not_refused bounds bound other (at_head values names rate form named bytes told head other c)
+  pub stack_refused : (fault : BindFault) → bound_of MOST_PINS names rate accepted.instances ≡ Err fault → SearchRefused values names fault ⊎ StackRefused values names rate fault
+  stack_refused fault refused = inr (record { accepted = accepted; stacks = stacks; refused = refused })
 
 -- decoders that have consumed nothing have consumed no samples
 pub fresh : (machines : List AnyDecoder) → All (λ decoder. HasConsumed decoder []) machines → Consumed setup_of HasConsumed outs_of [] machines

@@ -3,15 +3,15 @@ use Rattle.std.proofs.Common.{◌≡◌, ℕ, ◌≤◌, ◌⊎◌, inl, inr, Li
 use Rattle.std.proofs.KnownBytes.{Consumes-nil, Consumes-trans}
 use Rattle.std.proofs.Props.{props}
 use Rattle.la_base.specs.declared.samples.Rate.{Rate}
-use Rattle.la_io.specs.Capture.{Told, AtEnd, Cut, Bad, Unread, Good as GoodHead, Captured}
-use Rattle.la_io.specs.Causes.{Rose}
+use Rattle.la_io.specs.Capture.{Told, AtEnd, Cut, Head}
+use Rattle.la_io.specs.Causes.{AppendsFront}
 use Rattle.la_io.specs.Grown.{appends_nothing}
 use Rattle.la_io.specs.declared.fault.CaptureError.{CaptureError}
 use Rattle.la_io.specs.declared.fault.CaptureError.TheVariants as error
-use Rattle.capture_any.specs.Captures.{Later, capture_of}
+use Rattle.capture_any.specs.Captures.{HasNoHead, Later, capture_of}
 use Rattle.std.proofs.lemmas.List.{append-nil}
-use Rattle.capture_any.specs.Listings.{Lists, ReadCause, WriteCause}
-use Rattle.capture_any.specs.Reading.{CaptureCause, Opens, capture_by, form_of, names_of, pins_of, rate_of}
+use Rattle.capture_any.specs.Listings.{Lists, ReadCause, Says, WriteCause}
+use Rattle.capture_any.specs.Reading.{CaptureCause, Opens, form_of as capture_form, names_of, pins_of, rate_of}
 use Rattle.capture_any.specs.declared.capture.Capture.{Capture}
 use Rattle.capture_any.specs.declared.end.ListingEnd.{ListingEnd}
 use Rattle.capture_any.specs.declared.end.ListingEnd.TheVariants as ends
@@ -23,11 +23,13 @@ use Rattle.wait_cond.specs.declared.alt.Alt.{Alt}
 use Rattle.words.specs.Rates.{RateNumbers, numbers_of}
 use Rattle.words.specs.Settings.{Values}
 use Rattle.stack_spec.specs.Accepting.{Accepted, is_shown}
-use Rattle.ldecode.specs.Asking.{AsksFor, AsksStack, CanBind, CannotBind, HasHead, IsFormOf, SearchBound, SearchRefused, StackBound, StackRefused}
-use Rattle.ldecode.specs.Decoding.{Decodes, decode_listing}
+use Rattle.ldecode.specs.Asking.{AsksFor, AsksStack, HasHead, IsFormOf, IsJudged, NamesNoHead, SearchRefused, StackRefused}
+use Rattle.ldecode.specs.Decoding.{decode_listing}
+use Rattle.std.specs.Io.KnownBytes.{Appends}
+use Rattle.std.proofs.Math.Path.{transport}
 use Rattle.decoder_core.specs.Trees.{Node}
 use Rattle.decoder_set.specs.declared.setup.Setup.{Setup}
-use Rattle.ldecode.specs.Headline.{Completes, Decoded, OnRefusal, OrNoMemory, Searched, SinkCause, SourceCause, Works, WorksOn}
+use Rattle.ldecode.specs.Headline.{SinkCause, SourceCause, WhereUnread, Worked, Works, WorksOn}
 use Rattle.ldecode.specs.Notices.{status_at_head, status_of}
 use Rattle.ldecode.specs.declared.status.Status.TheVariants.{Bind, NoMemory}
 use Rattle.stack_spec.specs.declared.faults.BindFault.{BindFault}
@@ -49,14 +51,9 @@ one_form values (Raw channels rate) (Raw others other) is also =
     let rates : rate ≡ other = one_rate rate other (ap (λ (n : RateNumbers). n.num) same) (ap (λ (n : RateNumbers). n.den) same) in
     λ i. Raw (count i) (rates i)
 
--- what the head of no bytes names is what every head of this form names
-pub one_head : (values : Values) (form other : Form) (bytes : List ℕ) (told : Told) (names others : List (List ℕ)) (rate other_rate : Rate) → IsFormOf values form → IsFormOf values other
-    → HasHead form [] Cut names rate → HasHead other bytes told others other_rate → (names ≡ others) × (rate ≡ other_rate)
-one_head values form other bytes told names others rate other_rate is also head here =
-    let same = one_form values form other is also in
-    let stays : HasHead form bytes told names rate = head_stays.good form [] [] bytes told names rate.num rate.den head in
-    let both : GoodHead names rate.num rate.den ≡ GoodHead others other_rate.num other_rate.den = sym stays ∙ ap (λ (f : Form). (capture_of f [] bytes told).head) same ∙ here in
-    (cc, one_rate rate other_rate (cc) (cc))
+-- they have one head with these bytes
+pub one_head : (values : Values) (form other : Form) (bytes : List ℕ) (told : Told) (one : Head) → IsFormOf values form → IsFormOf values other → (capture_of form [] bytes told).head ≡ one → (capture_of other [] bytes told).head ≡ one
+one_head values form other bytes told one is also head = ap (λ (f : Form). (capture_of f [] bytes told).head) (one_form values other form also is) ∙ head
 
 -- a good head stays, as long as nothing comes behind a told end
 head_later : (form : Form) (before bytes : List ℕ) (then now : Told) (names : List (List ℕ)) (rate : Rate) → Later then bytes now → HasHead form before then names rate → HasHead form (before ++ bytes) now names rate
@@ -66,19 +63,22 @@ head_later form before bytes AtEnd now names rate later head =
     subst (λ (l : List ℕ). HasHead form l now names rate) (sym (append-nil before) ∙ ap (λ (l : List ℕ). before ++ l) (sym none)) (subst (λ (t : Told). HasHead form before t names rate) (sym still) head)
 head_later form before bytes Cut now names rate later head = head_stays.good form [] before bytes now names rate.num rate.den head
 
--- what can be bound at the head of no bytes, or not, is so at every head
-module _ (values : Values) (names : List (List ℕ)) (rate : Rate) (form : Form) (named : IsFormOf values form) (bytes : List ℕ) (told : Told) (head : HasHead form bytes told names rate) where
-  pub at_head : (fault : BindFault) → CannotBind values [] Cut fault → SearchRefused values names fault ⊎ StackRefused values names rate fault
-  at_head fault c =
-      let same = one_head values c.form form bytes told c.names names c.rate rate c.form_is named c.head head in
-      subst (λ (n : List (List ℕ)). SearchRefused values n fault ⊎ StackRefused values n rate fault) same.0 (subst (λ (r : Rate). SearchRefused values c.names fault ⊎ StackRefused values c.names r fault) same.1 c.refused)
+-- work that came to its end, as what the status of that end says
+worked : (values : Values) (bytes : List ℕ) (told : Told) (old new : Option (List ℕ)) (end : ListingEnd) → (end ≡ ends.Read → told ≡ Cut) → Worked values bytes told old new end → Works values bytes told old new (status_of end)
+worked values bytes told old new ends.Done cut w = w
+worked values bytes told old new ends.Read cut w = (cut refl, inl w)
+worked values bytes told old new ends.Write cut w = w
+worked values bytes told old new (ends.Fault fault) cut w = inl w
+worked values bytes told old new ends.NoMemory cut w = inl w
 
-  pub can_at_head : CanBind values [] Cut → SearchBound values names ⊎ StackBound values names rate
-  can_at_head c =
-      let same = one_head values c.form form bytes told c.names names c.rate rate c.form_is named c.head head in
-      subst (λ (n : List (List ℕ)). SearchBound values n ⊎ StackBound values n rate) same.0 (subst (λ (r : Rate). SearchBound values c.names ⊎ StackBound values c.names r) same.1 c.bound)
+read_is_cut : (form : Form) (pins : List ℕ) (Whole Front : List ℕ → Type 0) (bytes : List ℕ) (told : Told) (end : ListingEnd) → end ≡ ends.Read → Says form pins Whole Front bytes told end → told ≡ Cut
+read_is_cut form pins Whole Front bytes told ends.Done is says = cc
+read_is_cut form pins Whole Front bytes told ends.Read is says = says.0
+read_is_cut form pins Whole Front bytes told ends.Write is says = cc
+read_is_cut form pins Whole Front bytes told (ends.Fault fault) is says = cc
+read_is_cut form pins Whole Front bytes told ends.NoMemory is says = cc
 
-module _ (values : Values) (form : Form) (named : IsFormOf values form) (left_old left_mid old : Option (List ℕ)) where
+module _ (values : Values) (form : Form) (named : IsFormOf values form) (judged : IsJudged values) (left_old left_mid old : Option (List ℕ)) where
   -- the capture can't be opened
   pub opening_fails : (why : CaptureError) → Opens form left_old left_mid (Err why) → WorksOn values left_old left_mid old old (status_at_head why)
   opening_fails (error.Fault fault) opens = record {
@@ -86,14 +86,14 @@ module _ (values : Values) (form : Form) (named : IsFormOf values form) (left_ol
     told = opens.opened.0;
     taken = opens.consumed;
     at_end = opens.opened.1;
-    works = inr (record { form = form; form_is = named; head_is = opens.opened.2; unwritten = appends_nothing old });
+    works = inr (record { form = form; form_is = named; judged = judged; head_is = opens.opened.2 }, appends_nothing old);
   }
   opening_fails error.Read opens = record {
     bytes = opens.bytes;
     told = Cut;
     taken = opens.consumed;
     at_end = λ e. cc;
-    works = (refl, inr (record { form = form; form_is = named; head_is = opens.opened; unwritten = appends_nothing old }));
+    works = (refl, inr (record { form = form; form_is = named; judged = judged; head_is = opens.opened }, appends_nothing old));
   }
   opening_fails error.NoMemory opens = record {
     bytes = opens.bytes;
@@ -102,20 +102,6 @@ module _ (values : Values) (form : Form) (named : IsFormOf values form) (left_ol
     at_end = λ e. cc;
     works = inr (appends_nothing old);
   }
-
-  -- where the head is no good one, no channel is refused
-  pub head_refuses_none : (why : CaptureError) → Opens form left_old left_mid (Err why) → (fault : BindFault) → CannotBind values [] Cut fault → OrNoMemory (Bind fault) (status_at_head why)
-  head_refuses_none (error.Fault problem) opens fault cannot =
-      let same = one_form values cannot.form form cannot.form_is named in
-      let stays = head_stays.good cannot.form [] [] opens.bytes opens.opened.0 cannot.names cannot.rate.num cannot.rate.den cannot.head in
-      let both : GoodHead cannot.names cannot.rate.num cannot.rate.den ≡ Bad problem = sym stays ∙ ap (λ (f : Form). (capture_of f [] opens.bytes opens.opened.0).head) same ∙ opens.opened.2 in
-      cc
-  head_refuses_none error.Read opens fault cannot =
-      let same = one_form values cannot.form form cannot.form_is named in
-      let stays = head_stays.good cannot.form [] [] opens.bytes Cut cannot.names cannot.rate.num cannot.rate.den cannot.head in
-      let both : GoodHead cannot.names cannot.rate.num cannot.rate.den ≡ Unread = sym stays ∙ ap (λ (f : Form). (capture_of f [] opens.bytes Cut).head) same ∙ opens.opened in
-      cc
-  head_refuses_none error.NoMemory opens fault cannot = inr refl
 
   module _ (capture : Capture) (opens : Opens form left_old left_mid (Ok capture)) where
     head_of : HasHead form opens.bytes opens.opened.0 (names_of capture) (rate_of capture)
@@ -141,16 +127,16 @@ module _ (values : Values) (form : Form) (named : IsFormOf values form) (left_ol
       works = inr (appends_nothing old);
     }
 
-    module _ (now : Capture) (pins : List ℕ) (form_stays : form_of now ≡ form) (pins_are : pins_of now ≡ pins) (left_new new : Option (List ℕ)) where
+    module _ (now : Capture) (pins : List ℕ) (form_stays : capture_form now ≡ form) (pins_are : pins_of now ≡ pins) (left_new new : Option (List ℕ)) where
       head_on : (bytes : List ℕ) (told : Told) → Later opens.opened.0 bytes told → HasHead form (opens.bytes ++ bytes) told (names_of capture) (rate_of capture)
       head_on bytes told later = head_later form opens.bytes bytes opens.opened.0 told (names_of capture) (rate_of capture) later head_of
 
-      as_opened : (Whole Front : List ℕ → Type 0) (end : ListingEnd) → Lists (capture_by now) Whole Front opens.bytes opens.opened.0 left_mid left_new end → Lists (capture_of form pins) Whole Front opens.bytes opens.opened.0 left_mid left_new end
-      as_opened Whole Front end lists = subst (λ (f : List ℕ → Told → Captured). Lists f Whole Front opens.bytes opens.opened.0 left_mid left_new end) (λ i bytes told. capture_of (form_stays i) (pins_are i) bytes told) lists
+      as_opened : (Whole Front : List ℕ → Type 0) (end : ListingEnd) → Lists (capture_form now) (pins_of now) Whole Front opens.bytes opens.opened.0 left_mid left_new end → Lists form pins Whole Front opens.bytes opens.opened.0 left_mid left_new end
+      as_opened Whole Front end lists = transport (λ i. Lists (form_stays i) (pins_are i) Whole Front opens.bytes opens.opened.0 left_mid left_new end) lists
 
       -- a search came to its end
       pub search_ends : (alts : List Alt) (end : ListingEnd) → AsksFor values (names_of capture) pins alts
-          → Lists (capture_by now) (λ samples. WholeListing samples alts old new) (λ samples. ListingFront samples alts old new) opens.bytes opens.opened.0 left_mid left_new end → WorksOn values left_old left_new old new (status_of end)
+          → Lists (capture_form now) (pins_of now) (λ samples. WholeListing samples alts old new) (λ samples. ListingFront samples alts old new) opens.bytes opens.opened.0 left_mid left_new end → WorksOn values left_old left_new old new (status_of end)
       search_ends alts end asks lists =
           let l = as_opened (λ samples. WholeListing samples alts old new) (λ samples. ListingFront samples alts old new) end lists in
           record {
@@ -158,36 +144,22 @@ module _ (values : Values) (form : Form) (named : IsFormOf values form) (left_ol
             told = l.told;
             taken = Consumes-trans left_old left_mid left_new opens.bytes l.bytes opens.consumed l.taken;
             at_end = l.at_end;
-            works = by end (record { form = form; names = names_of capture; rate = rate_of capture; form_is = named; head = head_on l.bytes l.told l.later; pins = pins; alts = alts; asks = asks; says = l.says });
+            works = worked values (opens.bytes ++ l.bytes) l.told old new end (λ is. read_is_cut form pins (λ samples. WholeListing samples alts old new) (λ samples. ListingFront samples alts old new) (opens.bytes ++ l.bytes) l.told end is l.says) (inl (record { form = form; names = names_of capture; rate = rate_of capture; form_is = named; head = head_on l.bytes l.told l.later; pins = pins; alts = alts; asks = asks; says = l.says }));
           }
-        where
-          by : {bytes : List ℕ} {told : Told} (end : ListingEnd) → Searched values bytes told old new end → Works values bytes told old new (status_of end)
-          by ends.Done s = inl s
-          by ends.Read s = (s.says.0, inl (inl s))
-          by ends.Write s = inl s
-          by (ends.Fault fault) s = inl (inl s)
-          by ends.NoMemory s = inl (inl s)
 
       -- a decoding came to its end
       pub decoding_ends : (accepted : Accepted) (nodes : List (Node Setup)) (end : ListingEnd) → AsksStack values (names_of capture) (rate_of capture) pins accepted nodes
-          → Decodes (capture_by now) (decode_listing accepted.instances (is_shown accepted.shown) nodes) opens.bytes opens.opened.0 left_mid left_new old new end → WorksOn values left_old left_new old new (status_of end)
-      decoding_ends accepted nodes end asks decodes =
-          let d = subst (λ (f : List ℕ → Told → Captured). Decodes f (decode_listing accepted.instances (is_shown accepted.shown) nodes) opens.bytes opens.opened.0 left_mid left_new old new end)
-          (λ i bytes told. capture_of (form_stays i) (pins_are i) bytes told) decodes in
+          → Lists (capture_form now) (pins_of now) (λ samples. Appends old new (decode_listing accepted.instances (is_shown accepted.shown) nodes samples)) (λ samples. AppendsFront old new (decode_listing accepted.instances (is_shown accepted.shown) nodes samples)) opens.bytes opens.opened.0 left_mid left_new end
+          → WorksOn values left_old left_new old new (status_of end)
+      decoding_ends accepted nodes end asks lists =
+          let l = as_opened (λ samples. Appends old new (decode_listing accepted.instances (is_shown accepted.shown) nodes samples)) (λ samples. AppendsFront old new (decode_listing accepted.instances (is_shown accepted.shown) nodes samples)) end lists in
           record {
-            bytes = opens.bytes ++ d.bytes;
-            told = d.told;
-            taken = Consumes-trans left_old left_mid left_new opens.bytes d.bytes opens.consumed d.taken;
-            at_end = d.at_end;
-            works = by end (record { form = form; names = names_of capture; rate = rate_of capture; form_is = named; head = head_on d.bytes d.told d.later; pins = pins; accepted = accepted; nodes = nodes; asks = asks; says = d.says });
+            bytes = opens.bytes ++ l.bytes;
+            told = l.told;
+            taken = Consumes-trans left_old left_mid left_new opens.bytes l.bytes opens.consumed l.taken;
+            at_end = l.at_end;
+            works = worked values (opens.bytes ++ l.bytes) l.told old new end (λ is. read_is_cut form pins (λ samples. Appends old new (decode_listing accepted.instances (is_shown accepted.shown) nodes samples)) (λ samples. AppendsFront old new (decode_listing accepted.instances (is_shown accepted.shown) nodes samples)) (opens.bytes ++ l.bytes) l.told end is l.says) (inr (record { form = form; names = names_of capture; rate = rate_of capture; form_is = named; head = head_on l.bytes l.told l.later; pins = pins; accepted = accepted; nodes = nodes; asks = asks; says = l.says }));
           }
-        where
-          by : {bytes : List ℕ} {told : Told} (end : ListingEnd) → Decoded values bytes told old new end → Works values bytes told old new (status_of end)
-          by ends.Done s = inr s
-          by ends.Read s = (s.says.0, inl (inr s))
-          by ends.Write s = inr s
-          by (ends.Fault fault) s = inl (inr s)
-          by ends.NoMemory s = inl (inr s)
 
 -- there was no memory before anything was read
 pub no_room : (values : Values) (left old : Option (List ℕ)) → WorksOn values left left old old NoMemory
@@ -199,18 +171,21 @@ no_room values left old = record {
   works = inr (appends_nothing old);
 }
 
--- what holds behind each end, and at a head that is no good one
-pub unread_at_end : (P : Type 0) (end : ListingEnd) → OnRefusal (status_of end) P
-unread_at_end P ends.Done = tt
-unread_at_end P ends.Read = tt
-unread_at_end P ends.Write = tt
-unread_at_end P (ends.Fault fault) = tt
-unread_at_end P ends.NoMemory = tt
+-- what holds behind each end, at a head that is no good one, and where binding failed
+pub unread_at_end : (N P : Type 0) (end : ListingEnd) → WhereUnread N (status_of end) P
+unread_at_end N P ends.Done = tt
+unread_at_end N P ends.Read = tt
+unread_at_end N P ends.Write = tt
+unread_at_end N P (ends.Fault fault) = tt
+unread_at_end N P ends.NoMemory = tt
 
-pub unread_at_head : (P : Type 0) (why : CaptureError) → OnRefusal (status_at_head why) P
-unread_at_head P (error.Fault fault) = tt
-unread_at_head P error.Read = tt
-unread_at_head P error.NoMemory = tt
+pub unread_at_head : (N P : Type 0) (why : CaptureError) → WhereUnread N (status_at_head why) P
+unread_at_head N P (error.Fault fault) = tt
+unread_at_head N P error.Read = tt
+unread_at_head N P error.NoMemory = tt
+
+pub no_head_here : (values : Values) (form : Form) → IsFormOf values form → NamesNoHead values → HasNoHead form
+no_head_here values form is n = subst HasNoHead (one_form values n.form form n.form_is is) n.no_head
 
 -- the causes of a run are those of its work
 pub source_cause : (before mid now : ℕ) (end : ListingEnd) → mid ≡ before → ReadCause mid now end → SourceCause before now (status_of end)
@@ -239,17 +214,3 @@ pub head_sink_cause : (count : ℕ) (why : CaptureError) → SinkCause count cou
 head_sink_cause count (error.Fault fault) = refl
 head_sink_cause count error.Read = refl
 head_sink_cause count error.NoMemory = refl
-
--- where nothing failed, the work came to an end of the capture
-pub completes : (read_before read_mid read_now write_before write_now : ℕ) (end : ListingEnd) → read_mid ≡ read_before → ReadCause read_mid read_now end → WriteCause write_before write_now end
-    → ¬ Rose read_before read_now → ¬ Rose write_before write_now → Completes (status_of end)
-completes read_before read_mid read_now write_before write_now ends.Done same r w no_read no_write = tt
-completes read_before read_mid read_now write_before write_now ends.Read same r w no_read no_write = no_read (subst (λ (n : ℕ). Rose n read_now) same r.1)
-completes read_before read_mid read_now write_before write_now ends.Write same r w no_read no_write = no_write w.1
-completes read_before read_mid read_now write_before write_now (ends.Fault fault) same r w no_read no_write = tt
-completes read_before read_mid read_now write_before write_now ends.NoMemory same r w no_read no_write = tt
-
-pub head_completes : (T : Type 0) (before now : ℕ) (why : CaptureError) → CaptureCause {T = T} before now (Err why) → ¬ Rose before now → Completes (status_at_head why)
-head_completes T before now (error.Fault fault) c no_read = tt
-head_completes T before now error.Read c no_read = no_read c.1
-head_completes T before now error.NoMemory c no_read = tt

@@ -2,9 +2,10 @@
 use Rattle.std.specs.Prelude.{ℕ, ◌≡◌, ◌+◌, ◌⊎◌, List, [], ◌∷◌, map, None, Result, Ok, Err}
 use Rattle.la_base.specs.declared.samples.Rate.{Rate}
 use Rattle.la_base.specs.declared.samples.TheConstants.{MOST_PINS}
-use Rattle.la_io.specs.Capture.{Told, Good}
+use Rattle.la_io.specs.Capture.{Told, Head, Good, Bad, Ending, Faulty}
+use Rattle.la_io.specs.declared.fault.CaptureFault.{CaptureFault}
 use Rattle.text_parts.specs.Reading.{then_read}
-use Rattle.capture_any.specs.Captures.{capture_of}
+use Rattle.capture_any.specs.Captures.{HasNoHead, capture_of}
 use Rattle.capture_any.specs.declared.form.Form.{Form}
 use Rattle.capture_any.specs.declared.form.Form.TheVariants.{Raw}
 use Rattle.wait_cond.specs.Binding.{Bound, Asks, bind_terms, pins_after}
@@ -83,6 +84,16 @@ pub record StackRefused (values : Values) (names : List (List ℕ)) (rate : Rate
   pub stacks : Stacks values accepted
   pub refused : bound_of MOST_PINS names rate accepted.instances ≡ Err fault
 
+-- words and, for a decoding, its stack have no fault
+abbrev pub IsJudged : Values → Type 0
+IsJudged values = (values.job ≡ Find) ⊎ ((accepted : Accepted) × Stacks values accepted)
+
+-- the values name a form of capture whose head takes no bytes
+pub record NamesNoHead (values : Values) : Type 0 where
+  pub form : Form
+  pub form_is : IsFormOf values form
+  pub no_head : HasNoHead form
+
 -- the alternatives of a search can be bound
 pub record SearchBound (values : Values) (names : List (List ℕ)) : Type 0 where
   pub alternatives : List (List Meaning)
@@ -114,6 +125,22 @@ pub record CanBind (values : Values) (bytes : List ℕ) (told : Told) : Type 0 w
   pub form_is : IsFormOf values form
   pub head : HasHead form bytes told names rate
   pub bound : SearchBound values names ⊎ StackBound values names rate
+
+-- the bytes have a good head to which all is bound, and this ending, on which the choice of channels has no bearing
+pub record EndsAs (values : Values) (bytes : List ℕ) (told : Told) (ending : Ending) : Type 0 where
+  pub can : CanBind values bytes told
+  pub ends : (capture_of can.form [] bytes told).ending ≡ ending
+
+-- the head of these bytes is this one
+pub record HeadIs (values : Values) (bytes : List ℕ) (told : Told) (head : Head) : Type 0 where
+  pub form : Form
+  pub form_is : IsFormOf values form
+  pub judged : IsJudged values
+  pub head_is : (capture_of form [] bytes told).head ≡ head
+
+-- the bytes have this fault: their head has it; or it is good, all is bound to it, and they end with it
+abbrev pub HasFault : Values → List ℕ → Told → CaptureFault → Type 0
+HasFault values bytes told fault = HeadIs values bytes told (Bad fault) ⊎ EndsAs values bytes told (Faulty fault)
 
 -- the values ask for these alternatives at these pins
 pub record AsksFor (values : Values) (names : List (List ℕ)) (pins : List ℕ) (alts : List Alt) : Type 0 where

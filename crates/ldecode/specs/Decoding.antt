@@ -1,12 +1,6 @@
 -- What `decode` writes: the notes of the instances in order, a line each.
-use Rattle.std.specs.Prelude.{ℕ, ◌≡◌, ◌+◌, Bool, if◌then◌else◌, List, [], ◌∷◌, ◌++◌, map, codes, slice_get, Option, Some, None}
+use Rattle.std.specs.Prelude.{ℕ, ◌+◌, Bool, if◌then◌else◌, List, [], ◌∷◌, ◌++◌, map, codes, slice_get, Option, Some, None}
 use Rattle.std.specs.Fmt.{decimal}
-use Rattle.std.specs.Io.KnownBytes.{Appends, Consumes, IsAtEnd}
-use Rattle.la_io.specs.Capture.{Told, AtEnd, Cut, Clean, Faulty, Captured}
-use Rattle.la_io.specs.Causes.{AppendsFront}
-use Rattle.capture_any.specs.Captures.{Later, ToldAt}
-use Rattle.capture_any.specs.declared.end.ListingEnd.{ListingEnd}
-use Rattle.capture_any.specs.declared.end.ListingEnd.TheVariants.{Done, Read, Write, Fault, NoMemory}
 use Rattle.std.specs.List.{flat_map}
 use Rattle.la_base.specs.declared.wires.Note.{Note}
 use Rattle.la_base.specs.declared.wires.Out.{Out}
@@ -53,21 +47,3 @@ note_lines instances entries = flat_map (note_line instances) entries
 -- the listing of a stack: the notes of all instances that are shown, by start, then by instance, then as they were given
 abbrev pub decode_listing : List Instance → (ℕ → Bool) → List (Node Setup) → List ℕ → List ℕ
 decode_listing instances shown nodes samples = note_lines instances (listed (shown_from shown 0 (map notes_of (given outs_of samples nodes))))
-
--- what the end of a decoding says of the bytes that were taken, and of what was written: the listing of the samples that these
--- bytes settle; a front of it where a write failed; nothing where memory lacked
-abbrev pub DecodeSays : (List ℕ → Told → Captured) → (List ℕ → List ℕ) → List ℕ → Told → Option (List ℕ) → Option (List ℕ) → ListingEnd → Type 0
-DecodeSays capture listing bytes told old new Done = (told ≡ AtEnd) × ((capture bytes told).ending ≡ Clean) × Appends old new (listing (capture bytes told).settled)
-DecodeSays capture listing bytes told old new Read = (told ≡ Cut) × Appends old new (listing (capture bytes told).settled)
-DecodeSays capture listing bytes told old new (Fault fault) = ((capture bytes told).ending ≡ Faulty fault) × Appends old new (listing (capture bytes told).settled)
-DecodeSays capture listing bytes told old new Write = AppendsFront old new (listing (capture bytes told).settled)
-DecodeSays capture listing bytes told old new NoMemory = Appends old new []
-
--- behind the bytes `before`, whose end was told then or not, these were taken, the source told their end or didn't, and the end says what it says of all of them
-pub record Decodes (capture : List ℕ → Told → Captured) (listing : List ℕ → List ℕ) (before : List ℕ) (early : Told) (left_old left_new old new : Option (List ℕ)) (end : ListingEnd) : Type 0 where
-  pub bytes : List ℕ
-  pub told : Told
-  pub taken : Consumes left_old left_new bytes
-  pub later : Later early bytes told
-  pub at_end : ToldAt told left_new
-  pub says : DecodeSays capture listing (before ++ bytes) told old new end

@@ -1,10 +1,11 @@
 -- What a run does: the status that its words, its capture and its failures give, and what is written with it.
-use Rattle.std.specs.Prelude.{ℕ, ◌≡◌, ◌≤◌, ◌⊎◌, List, [], Option, Ok, Err}
-use Rattle.std.specs.Io.KnownBytes.{Appends, Consumes, IsAtEnd}
+use Rattle.std.specs.Prelude.{ℕ, ◌≡◌, ◌≤◌, ◌⊎◌, List, [], Option, Some, Ok, Err}
+use Rattle.std.specs.Io.KnownBytes.{Appends, Consumes}
 use Rattle.la_base.specs.declared.samples.Rate.{Rate}
-use Rattle.la_io.specs.Capture.{Told, AtEnd, Cut, Head, Bad, Unread}
+use Rattle.la_io.specs.Capture.{Told, AtEnd, Cut, Bad, Unread, Clean}
 use Rattle.la_io.specs.Causes.{AppendsFront, Rose}
-use Rattle.capture_any.specs.Captures.{capture_of}
+use Rattle.la_io.specs.declared.fault.CaptureFault.{CaptureFault}
+use Rattle.capture_any.specs.Captures.{ToldAt}
 use Rattle.capture_any.specs.Listings.{Fails, Says}
 use Rattle.capture_any.specs.declared.end.ListingEnd.{ListingEnd}
 use Rattle.capture_any.specs.declared.end.ListingEnd.TheVariants as end
@@ -13,14 +14,33 @@ use Rattle.find_job.specs.Finding.{WholeListing, ListingFront}
 use Rattle.wait_cond.specs.declared.alt.Alt.{Alt}
 use Rattle.words.specs.Lexer.{Text}
 use Rattle.words.specs.Settings.{Values, settings_of}
+use Rattle.words.specs.declared.kinds.WordFault.{WordFault}
 use Rattle.stack_spec.specs.Accepting.{Accepted, is_shown}
-use Rattle.ldecode.specs.Asking.{AsksFor, AsksStack, CannotBind, HasHead, HasStackFault, IsFormOf}
-use Rattle.ldecode.specs.Decoding.{DecodeSays, decode_listing}
+use Rattle.stack_spec.specs.declared.faults.BindFault.{BindFault}
+use Rattle.stack_spec.specs.declared.faults.StackFault.{StackFault}
 use Rattle.decoder_core.specs.Trees.{Node}
 use Rattle.decoder_set.specs.declared.setup.Setup.{Setup}
+use Rattle.ldecode.specs.Asking.{AsksFor, AsksStack, CannotBind, EndsAs, HasFault, HasHead, HasStackFault, HeadIs, IsFormOf, NamesNoHead}
+use Rattle.ldecode.specs.Decoding.{decode_listing}
 use Rattle.ldecode.specs.Notices.{notice_of}
 use Rattle.ldecode.specs.declared.status.Status.{Status}
 use Rattle.ldecode.specs.declared.status.Status.TheVariants.{Done, Words, Stack, Bind, ReadFault, Capture, WriteFault, NoMemory}
+
+-- a stream before and after a run: its bytes, where it tells them (those that a source has left, those that a sink has got), and its
+-- count of failures
+pub record Stream : Type 0 where
+  pub old : Option (List ℕ)
+  pub new : Option (List ℕ)
+  pub failed_old : ℕ
+  pub failed_new : ℕ
+
+-- a stream by what it tells
+abbrev pub stream : {S : Type 0} → (S → Option (List ℕ)) → (S → ℕ) → S → S → Stream
+stream bytes faults old new = record { old = bytes old; new = bytes new; failed_old = faults old; failed_new = faults new }
+
+-- it failed: its count rose, or stands at the last value of its type
+abbrev pub DidFail : Stream → Type 0
+DidFail s = Rose s.failed_old s.failed_new
 
 -- the search that the values ask for came to this end
 pub record Searched (values : Values) (bytes : List ℕ) (told : Told) (old new : Option (List ℕ)) (end : ListingEnd) : Type 0 where
@@ -32,7 +52,7 @@ pub record Searched (values : Values) (bytes : List ℕ) (told : Told) (old new 
   pub pins : List ℕ
   pub alts : List Alt
   pub asks : AsksFor values names pins alts
-  pub says : Says (capture_of form pins) (λ samples. WholeListing samples alts old new) (λ samples. ListingFront samples alts old new) bytes told end
+  pub says : Says form pins (λ samples. WholeListing samples alts old new) (λ samples. ListingFront samples alts old new) bytes told end
 
 -- the decoding that the values ask for came to this end
 pub record Decoded (values : Values) (bytes : List ℕ) (told : Told) (old new : Option (List ℕ)) (end : ListingEnd) : Type 0 where
@@ -45,18 +65,12 @@ pub record Decoded (values : Values) (bytes : List ℕ) (told : Told) (old new :
   pub accepted : Accepted
   pub nodes : List (Node Setup)
   pub asks : AsksStack values names rate pins accepted nodes
-  pub says : DecodeSays (capture_of form pins) (decode_listing accepted.instances (is_shown accepted.shown) nodes) bytes told old new end
+  pub says : Says form pins (λ samples. Appends old new (decode_listing accepted.instances (is_shown accepted.shown) nodes samples))
+      (λ samples. AppendsFront old new (decode_listing accepted.instances (is_shown accepted.shown) nodes samples)) bytes told end
 
 -- the work that the values ask for came to this end
 abbrev pub Worked : Values → List ℕ → Told → Option (List ℕ) → Option (List ℕ) → ListingEnd → Type 0
 Worked values bytes told old new end = Searched values bytes told old new end ⊎ Decoded values bytes told old new end
-
--- the head of these bytes is no good one, and nothing was written
-pub record HeadEnds (values : Values) (bytes : List ℕ) (told : Told) (head : Head) (old new : Option (List ℕ)) : Type 0 where
-  pub form : Form
-  pub form_is : IsFormOf values form
-  pub head_is : (capture_of form [] bytes told).head ≡ head
-  pub unwritten : Appends old new []
 
 -- what a status says of good words, the bytes that were taken and what was written
 abbrev pub Works : Values → List ℕ → Told → Option (List ℕ) → Option (List ℕ) → Status → Type 0
@@ -64,8 +78,8 @@ Works values bytes told old new Done = Worked values bytes told old new end.Done
 Works values bytes told old new (Words fault) = ⊥
 Works values bytes told old new (Stack fault) = HasStackFault values fault × (bytes ≡ []) × Appends old new []
 Works values bytes told old new (Bind fault) = CannotBind values bytes told fault × Appends old new []
-Works values bytes told old new ReadFault = (told ≡ Cut) × (Worked values bytes told old new end.Read ⊎ HeadEnds values bytes told Unread old new)
-Works values bytes told old new (Capture fault) = Worked values bytes told old new (end.Fault fault) ⊎ HeadEnds values bytes told (Bad fault) old new
+Works values bytes told old new ReadFault = (told ≡ Cut) × (Worked values bytes told old new end.Read ⊎ (HeadIs values bytes told Unread × Appends old new []))
+Works values bytes told old new (Capture fault) = Worked values bytes told old new (end.Fault fault) ⊎ (HeadIs values bytes told (Bad fault) × Appends old new [])
 Works values bytes told old new WriteFault = Worked values bytes told old new end.Write
 Works values bytes told old new NoMemory = Worked values bytes told old new end.NoMemory ⊎ Appends old new []
 
@@ -74,7 +88,7 @@ pub record WorksOn (values : Values) (left_old left_new old new : Option (List �
   pub bytes : List ℕ
   pub told : Told
   pub taken : Consumes left_old left_new bytes
-  pub at_end : told ≡ AtEnd → IsAtEnd left_new
+  pub at_end : ToldAt told left_new
   pub works : Works values bytes told old new status
 
 -- the words are good, and this holds of their values
@@ -97,7 +111,7 @@ pub record Runs (words : List Text) (left_old left_new old new : Option (List �
   pub bytes : List ℕ
   pub told : Told
   pub taken : Consumes left_old left_new bytes
-  pub at_end : told ≡ AtEnd → IsAtEnd left_new
+  pub at_end : ToldAt told left_new
   pub tells : Tells words bytes told old new status
 
 -- ReadFault comes only where the source failed; where it failed it is this, WriteFault or NoMemory
@@ -126,29 +140,43 @@ SinkCause before now NoMemory = now ≡ before
 abbrev pub OrNoMemory : Status → Status → Type 0
 OrNoMemory expected status = (status ≡ expected) ⊎ (status ≡ NoMemory)
 
--- where words, stack and channels are good and nothing failed, a run is done, or its capture has a fault, or memory lacks
-abbrev pub Completes : Status → Type 0
-Completes Done = Unit {0}
-Completes (Words fault) = ⊥
-Completes (Stack fault) = ⊥
-Completes (Bind fault) = ⊥
-Completes ReadFault = ⊥
-Completes (Capture fault) = Unit {0}
-Completes WriteFault = ⊥
-Completes NoMemory = Unit {0}
-
--- a status behind which nothing was read
-abbrev pub OnRefusal : Status → Type 0 → Type 0
-OnRefusal Done P = Unit {0}
-OnRefusal (Words fault) P = P
-OnRefusal (Stack fault) P = P
-OnRefusal (Bind fault) P = P
-OnRefusal ReadFault P = Unit {0}
-OnRefusal (Capture fault) P = Unit {0}
-OnRefusal WriteFault P = Unit {0}
-OnRefusal NoMemory P = Unit {0}
+-- what holds where nothing was read: behind a fault of words or stack, and behind one of binding where the head takes no bytes
+abbrev pub WhereUnread : Type 0 → Status → Type 0 → Type 0
+WhereUnread NoHead Done P = Unit {0}
+WhereUnread NoHead (Words fault) P = P
+WhereUnread NoHead (Stack fault) P = P
+WhereUnread NoHead (Bind fault) P = NoHead → P
+WhereUnread NoHead ReadFault P = Unit {0}
+WhereUnread NoHead (Capture fault) P = Unit {0}
+WhereUnread NoHead WriteFault P = Unit {0}
+WhereUnread NoHead NoMemory P = Unit {0}
 
 -- the line of the status was written, whole where the notices didn't fail
-pub record Notified (faults_old faults_new : ℕ) (old new : Option (List ℕ)) (status : Status) : Type 0 where
-  pub front : AppendsFront old new (notice_of status)
-  pub whole : ¬ Rose faults_old faults_new → Appends old new (notice_of status)
+pub record Notified (notices : Stream) (status : Status) : Type 0 where
+  pub front : AppendsFront notices.old notices.new (notice_of status)
+  pub whole : ¬ DidFail notices → Appends notices.old notices.new (notice_of status)
+
+-- The promise of a run: for these words, what it did to its source, its sink and its notices, and the status that it answers. `same`
+-- says that the source is just as it was.
+pub record Headline (words : List Text) (source sink notices : Stream) (same : Type 0) (status : Status) : Type 0 where
+  -- these bytes were taken of the source, whose end it told or not
+  pub bytes : List ℕ
+  pub told : Told
+  pub taken : Consumes source.old source.new bytes
+  pub at_end : ToldAt told source.new
+  -- what the status says of them, and of what was written
+  pub tells : Tells words bytes told sink.old sink.new status
+  -- each refusal comes exactly where words, stack, channels or bytes have just this fault, but for want of memory
+  pub words_fault : (fault : WordFault) → settings_of words ≡ Err fault → OrNoMemory (Words fault) status
+  pub stack_fault : (fault : StackFault) → Good words (λ values. HasStackFault values fault) → OrNoMemory (Stack fault) status
+  pub bind_fault : (fault : BindFault) → Good words (λ values. CannotBind values bytes told fault) → OrNoMemory (Bind fault) status
+  pub capture_fault : (fault : CaptureFault) → Good words (λ values. HasFault values bytes told fault) → ¬ DidFail source → ¬ DidFail sink → OrNoMemory (Capture fault) status
+  -- where nothing is refused, what the source had left ends as it may, and nothing fails, the run is done, but for want of memory
+  pub complete : (left : List ℕ) → source.old ≡ Some left → Good words (λ values. EndsAs values left AtEnd Clean) → ¬ DidFail source → ¬ DidFail sink → OrNoMemory Done status
+  -- ReadFault comes only where the source failed, and WriteFault exactly where the sink failed
+  pub read : SourceCause source.failed_old source.failed_new status
+  pub write : SinkCause sink.failed_old sink.failed_new status
+  -- a refusal reads nothing
+  pub unread : WhereUnread (Good words NamesNoHead) status same
+  -- the notices have got the line of the status
+  pub notified : Notified notices status

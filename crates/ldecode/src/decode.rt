@@ -5,10 +5,10 @@ ghost use Rattle.la_io.specs.Causes.{AppendsFront, HasCause};
 ghost use Rattle.la_io.specs.Capture.{Told};
 ghost use Rattle.capture_any.specs.Captures.{ToldAt};
 ghost use Rattle.capture_any.specs.Listings.{Lists, ReadCause, WriteCause};
-ghost use Rattle.capture_any.specs.Reading.{Stands, capture_by, is_open_of};
+ghost use Rattle.capture_any.specs.Reading.{Stands, form_of, is_open_of, pins_of};
 ghost use Rattle.stack_spec.specs.Accepting.{is_shown};
 ghost use Rattle.stack_spec.specs.Stacks.{instances_in, stack_meaning};
-ghost use Rattle.ldecode.specs.Decoding.{Decodes, note_lines};
+ghost use Rattle.ldecode.specs.Decoding.{note_lines};
 ghost use Rattle.ldecode.specs.Feeding.{Consumed, Gathered, samples_listing};
 
 use crate::feed_all::feed_all;
@@ -33,7 +33,7 @@ fn collect<S: Source, M: Machine>(
     requires each { length machines.old ≡ length (instances_in stack.now) }
     requires empty { entries.old.items ≡ [] }
     ensures gathers { (before : List ℕ) (told : Told) → ToldAt told (S.left source.old) → Stands capture.old before told [] → Consumed M.setup M.consumed M.outputs [] machines.old
-        → Lists (capture_by capture.old) (Gathered M.outputs (map M.setup machines.old) (is_shown (stack_meaning stack.now).shown) entries.new.items) (λ _. result ≡ ListingEnd.NoMemory) before told (S.left source.old) (S.left source.new) result }
+        → Lists (form_of capture.old) (pins_of capture.old) (Gathered M.outputs (map M.setup machines.old) (is_shown (stack_meaning stack.now).shown) entries.new.items) (λ _. Unit {0}) before told (S.left source.old) (S.left source.new) result }
     ensures read { ReadCause (S.faults source.old) (S.faults source.new) result }
     ensures unwritten { result ≢ ListingEnd.Write }
 {
@@ -82,8 +82,8 @@ pub fn decode<S: Source, K: Sink, M: Machine + Drop>(
     requires is_open { is_open_of capture.old ≡ true }
     requires each { length machines.items ≡ length (instances_in stack.now) }
     ensures lists { (before : List ℕ) (told : Told) → ToldAt told (S.left source.old) → Stands capture.old before told [] → Consumed M.setup M.consumed M.outputs [] machines.items
-        → Decodes (capture_by capture.old) (samples_listing M.outputs (map M.setup machines.items) (instances_in stack.now) (is_shown (stack_meaning stack.now).shown)) before told
-        (S.left source.old) (S.left source.new) (K.written sink.old) (K.written sink.new) result }
+        → Lists (form_of capture.old) (pins_of capture.old) (λ samples. Appends (K.written sink.old) (K.written sink.new) (samples_listing M.outputs (map M.setup machines.items) (instances_in stack.now) (is_shown (stack_meaning stack.now).shown) samples))
+        (λ samples. AppendsFront (K.written sink.old) (K.written sink.new) (samples_listing M.outputs (map M.setup machines.items) (instances_in stack.now) (is_shown (stack_meaning stack.now).shown) samples)) before told (S.left source.old) (S.left source.new) result }
     ensures read { ReadCause (S.faults source.old) (S.faults source.new) result }
     ensures write { WriteCause (K.faults sink.old) (K.faults sink.new) result }
 {

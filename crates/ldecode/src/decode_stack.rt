@@ -1,15 +1,11 @@
 // A run of the job `decode`.
 ghost use Rattle.std.specs.Prelude.{◌≡◌, ◌≤◌, [], All, IfSome, length};
 ghost use Rattle.std.specs.String.{string_bytes};
-ghost use Rattle.la_io.specs.Capture.{Cut};
-ghost use Rattle.la_io.specs.Causes.{Rose};
-ghost use Rattle.stack_spec.specs.declared.faults.BindFault.{BindFault as ItsBindFault};
-ghost use Rattle.stack_spec.specs.declared.faults.StackFault.{StackFault as ItsStackFault};
 ghost use Rattle.words.specs.Readable.{IsReadable, IsShort};
 ghost use Rattle.words.specs.Settings.{meaning_of};
 ghost use Rattle.words.specs.declared.kinds.Job.TheVariants.{Decode};
-ghost use Rattle.ldecode.specs.Asking.{CanBind, CannotBind, HasStackFault};
-ghost use Rattle.ldecode.specs.Headline.{WorksOn, SourceCause, SinkCause, OrNoMemory, Completes, OnRefusal};
+ghost use Rattle.ldecode.specs.Asking.{NamesNoHead};
+ghost use Rattle.ldecode.specs.Headline.{WorksOn, SourceCause, SinkCause, WhereUnread};
 
 use crate::decode::decode;
 use crate::form::form_of;
@@ -31,12 +27,9 @@ pub fn decode_stack<S: Source, K: Sink>(
     requires readable { IsReadable Decode settings.now.chains.items }
     requires shown { IfSome settings.now.show IsShort }
     ensures works { WorksOn (meaning_of settings.now) (S.left source.old) (S.left source.new) (K.written sink.old) (K.written sink.new) result }
-    ensures stack { (fault : ItsStackFault) → HasStackFault (meaning_of settings.now) fault → OrNoMemory (Status.Stack fault) result }
-    ensures bind { (fault : ItsBindFault) → CannotBind (meaning_of settings.now) [] Cut fault → OrNoMemory (Status.Bind fault) result }
-    ensures unread { OnRefusal result (source.new ≡ source.old) }
+    ensures unread { WhereUnread (NamesNoHead (meaning_of settings.now)) result (source.new ≡ source.old) }
     ensures read { SourceCause (S.faults source.old) (S.faults source.new) result }
     ensures write { SinkCause (K.faults sink.old) (K.faults sink.new) result }
-    ensures complete { CanBind (meaning_of settings.now) [] Cut → ¬ Rose (S.faults source.old) (S.faults source.new) → ¬ Rose (K.faults sink.old) (K.faults sink.new) → Completes result }
 {
     let stack = match read_stack(alloc, &settings.chains, settings.show.as_ref(), None) {
         Ok(stack) => stack,

@@ -1,5 +1,5 @@
 // The form of the capture that the words name.
-ghost use Rattle.capture_any.specs.Captures.{IsForm, HasNoHead};
+ghost use Rattle.capture_any.specs.Captures.{IsForm};
 ghost use Rattle.words.specs.Settings.{meaning_of};
 ghost use Rattle.ldecode.specs.Asking.{IsFormOf};
 
@@ -10,7 +10,6 @@ use words::{Format, Settings};
 pub fn form_of(settings: &Settings) -> Form
     ensures named { IsFormOf (meaning_of settings.now) result }
     ensures fits { IsForm result }
-    ensures no_head { HasNoHead result }
 {
     match settings.format {
         Format::Raw => Form::Raw {

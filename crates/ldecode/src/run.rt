@@ -1,14 +1,8 @@
 // A whole run.
-ghost use Rattle.std.specs.Prelude.{◌≡◌, map, [], Err};
+ghost use Rattle.std.specs.Prelude.{◌≡◌, map};
 ghost use Rattle.std.specs.String.{string_bytes};
-ghost use Rattle.la_io.specs.Capture.{Cut};
-ghost use Rattle.la_io.specs.Causes.{Rose};
-ghost use Rattle.stack_spec.specs.declared.faults.BindFault.{BindFault};
-ghost use Rattle.stack_spec.specs.declared.faults.StackFault.{StackFault};
-ghost use Rattle.words.specs.Settings.{settings_of};
-ghost use Rattle.words.specs.declared.kinds.WordFault.{WordFault};
-ghost use Rattle.ldecode.specs.Asking.{CanBind, CannotBind, HasStackFault};
-ghost use Rattle.ldecode.specs.Headline.{Good, Runs, SourceCause, SinkCause, OrNoMemory, Completes, OnRefusal, Notified};
+ghost use Rattle.ldecode.specs.Asking.{NamesNoHead};
+ghost use Rattle.ldecode.specs.Headline.{Good, Headline, Notified, Runs, SinkCause, SourceCause, WhereUnread, stream};
 
 use crate::decode_stack::decode_stack;
 use crate::notices::notice;
@@ -26,13 +20,9 @@ fn run_words<S: Source, K: Sink>(
     sink: &mut K,
 ) -> Status
     ensures runs { Runs (map string_bytes words.now) (S.left source.old) (S.left source.new) (K.written sink.old) (K.written sink.new) result }
-    ensures words { (fault : WordFault) → settings_of (map string_bytes words.now) ≡ Err fault → OrNoMemory (Status.Words fault) result }
-    ensures stack { (fault : StackFault) → Good (map string_bytes words.now) (λ values. HasStackFault values fault) → OrNoMemory (Status.Stack fault) result }
-    ensures bind { (fault : BindFault) → Good (map string_bytes words.now) (λ values. CannotBind values [] Cut fault) → OrNoMemory (Status.Bind fault) result }
-    ensures unread { OnRefusal result (source.new ≡ source.old) }
+    ensures unread { WhereUnread (Good (map string_bytes words.now) NamesNoHead) result (source.new ≡ source.old) }
     ensures read { SourceCause (S.faults source.old) (S.faults source.new) result }
     ensures write { SinkCause (K.faults sink.old) (K.faults sink.new) result }
-    ensures complete { Good (map string_bytes words.now) (λ values. CanBind values [] Cut) → ¬ Rose (S.faults source.old) (S.faults source.new) → ¬ Rose (K.faults sink.old) (K.faults sink.new) → Completes result }
 {
     let settings = match read_words(alloc, words) {
         Ok(settings) => settings,
@@ -47,7 +37,7 @@ fn run_words<S: Source, K: Sink>(
 
 // Writes the line that tells of a status. Where the notices fail, a front of it is written.
 fn tell<E: Sink>(status: &Status, notices: &mut E)
-    ensures { Notified (E.faults notices.old) (E.faults notices.new) (E.written notices.old) (E.written notices.new) status.now }
+    ensures { Notified (stream E.written E.faults notices.old notices.new) status.now }
 {
     let line = notice(status);
     match write_whole(notices, line.bytes()) {
@@ -70,24 +60,7 @@ pub fn run_here<S: Source, K: Sink, E: Sink>(
     sink: &mut K,
     notices: &mut E,
 ) -> Status
-    // The headline: the bytes that were taken, what was written, and what the status says of both.
-    ensures runs { Runs (map string_bytes words.now) (S.left source.old) (S.left source.new) (K.written sink.old) (K.written sink.new) result }
-    // Words comes exactly where the words have a fault.
-    ensures words { (fault : WordFault) → settings_of (map string_bytes words.now) ≡ Err fault → OrNoMemory (Status.Words fault) result }
-    // Stack comes exactly where the words are good and their stack has a fault.
-    ensures stack { (fault : StackFault) → Good (map string_bytes words.now) (λ values. HasStackFault values fault) → OrNoMemory (Status.Stack fault) result }
-    // Bind comes exactly where words and stack are good and a channel can't be bound.
-    ensures bind { (fault : BindFault) → Good (map string_bytes words.now) (λ values. CannotBind values [] Cut fault) → OrNoMemory (Status.Bind fault) result }
-    // Nothing was read after a refusal.
-    ensures unread { OnRefusal result (source.new ≡ source.old) }
-    // ReadFault comes only where the source failed.
-    ensures read { SourceCause (S.faults source.old) (S.faults source.new) result }
-    // WriteFault comes exactly where the sink failed.
-    ensures write { SinkCause (K.faults sink.old) (K.faults sink.new) result }
-    // Where nothing is refused and nothing fails, the capture is read to its end or to its fault.
-    ensures complete { Good (map string_bytes words.now) (λ values. CanBind values [] Cut) → ¬ Rose (S.faults source.old) (S.faults source.new) → ¬ Rose (K.faults sink.old) (K.faults sink.new) → Completes result }
-    // The notices have got the line of the status.
-    ensures notices { Notified (E.faults notices.old) (E.faults notices.new) (E.written notices.old) (E.written notices.new) result }
+    ensures { Headline (map string_bytes words.now) (stream S.left S.faults source.old source.new) (stream K.written K.faults sink.old sink.new) (stream E.written E.faults notices.old notices.new) (source.new ≡ source.old) result }
 {
     let status = run_words(alloc, words, source, sink);
     tell(&status, notices);

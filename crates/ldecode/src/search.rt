@@ -1,13 +1,10 @@
 // A run of the job `find`.
 ghost use Rattle.std.specs.Prelude.{◌≡◌, []};
-ghost use Rattle.la_io.specs.Capture.{Cut};
-ghost use Rattle.la_io.specs.Causes.{Rose};
-ghost use Rattle.stack_spec.specs.declared.faults.BindFault.{BindFault as ItsBindFault};
 ghost use Rattle.words.specs.Readable.{IsReadable};
 ghost use Rattle.words.specs.Settings.{meaning_of};
 ghost use Rattle.words.specs.declared.kinds.Job.TheVariants.{Find};
-ghost use Rattle.ldecode.specs.Asking.{CanBind, CannotBind};
-ghost use Rattle.ldecode.specs.Headline.{WorksOn, SourceCause, SinkCause, OrNoMemory, Completes, OnRefusal};
+ghost use Rattle.ldecode.specs.Asking.{NamesNoHead};
+ghost use Rattle.ldecode.specs.Headline.{WorksOn, SourceCause, SinkCause, WhereUnread};
 
 use crate::alternatives::bind_words;
 use crate::form::form_of;
@@ -29,11 +26,9 @@ pub fn search<S: Source, K: Sink>(
     requires job { settings.now.job ≡ Find }
     requires readable { IsReadable Find settings.now.chains.items }
     ensures works { WorksOn (meaning_of settings.now) (S.left source.old) (S.left source.new) (K.written sink.old) (K.written sink.new) result }
-    ensures bind { (fault : ItsBindFault) → CannotBind (meaning_of settings.now) [] Cut fault → OrNoMemory (Status.Bind fault) result }
-    ensures unread { OnRefusal result (source.new ≡ source.old) }
+    ensures unread { WhereUnread (NamesNoHead (meaning_of settings.now)) result (source.new ≡ source.old) }
     ensures read { SourceCause (S.faults source.old) (S.faults source.new) result }
     ensures write { SinkCause (K.faults sink.old) (K.faults sink.new) result }
-    ensures complete { CanBind (meaning_of settings.now) [] Cut → ¬ Rose (S.faults source.old) (S.faults source.new) → ¬ Rose (K.faults sink.old) (K.faults sink.new) → Completes result }
 {
     let mut capture = match Capture::open(alloc, form_of(settings), source) {
         Ok(capture) => capture,

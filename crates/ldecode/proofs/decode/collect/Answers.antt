@@ -1,9 +1,8 @@
-use Rattle.std.proofs.Common.{◌≡◌, ◌++◌, Option, Ok, Err, map, refl, ◌∙◌, ap, subst}
+use Rattle.std.proofs.Common.{◌++◌, Option, Ok, Err, map, refl, ◌∙◌, ap, subst}
 use Rattle.la_base.specs.Samples.{samples}
 use Rattle.la_base.specs.declared.samples.Run.{Run}
 use Rattle.la_io.specs.declared.fault.CaptureError.{CaptureError}
-use Rattle.capture_any.specs.Reading.{Next, capture_by, stays_open}
-use Rattle.capture_any.specs.declared.end.ListingEnd.TheVariants.{Done, Fault, NoMemory, Read}
+use Rattle.capture_any.specs.Reading.{Next, form_of, pins_of, stays_open}
 use Rattle.capture_any.proofs.ListingLemmas.{gave_run, lists_done, lists_fault, lists_no_memory, lists_read, lists_write, same_on, same_still}
 use Rattle.stack_spec.specs.Accepting.{is_shown}
 use Rattle.stack_spec.specs.Stacks.{stack_meaning}
@@ -49,8 +48,8 @@ returns-in-Err-clause-gathers g c = λ before told at stands fresh.
     let s = i.so_far before told at stands fresh in
     let gave = gave_run c.loop-run.capture c.next.new.self before told (left c.args.source.now) (left c.loop-run.source) (left c.next.new.source) s.given c.in-Ok-Some.run' s.gave
     (subst (λ (r : Option Run). Next c.loop-run.capture c.next.new.self (left c.loop-run.source) (left c.next.new.source) (Ok r)) c.in-Ok-Some.field-0-is next.next) in
-    lists_no_room (capture_by c.args.capture.now) whole (λ _. NoMemory ≡ NoMemory) before told (left c.args.source.now) (left c.next.new.source)
-    (lists_write c.args.capture.now c.next.new.self (same_on c.args.capture.now c.loop-run.capture c.next.new.self i.same next.form next.pins) whole (λ _. NoMemory ≡ NoMemory) before told (left c.args.source.now) (left c.next.new.source) (s.given ++ samples c.in-Ok-Some.run') gave (λ rest. refl))
+    lists_no_room (form_of c.args.capture.now) (pins_of c.args.capture.now) whole (λ _. Unit {0}) before told (left c.args.source.now) (left c.next.new.source)
+    (lists_write c.args.capture.now c.next.new.self (same_on c.args.capture.now c.loop-run.capture c.next.new.self i.same next.form next.pins) whole (λ _. Unit {0}) before told (left c.args.source.now) (left c.next.new.source) (s.given ++ samples c.in-Ok-Some.run') gave (λ rest. tt))
 
 pub returns-in-Err-NoMemory-clause-gathers : goal.returns-in-Err-NoMemory-clause-gathers
 returns-in-Err-NoMemory-clause-gathers g c = λ before told at stands fresh.
@@ -60,8 +59,8 @@ returns-in-Err-NoMemory-clause-gathers g c = λ before told at stands fresh.
     let i = c.loop-run.invariant in
     let s = i.so_far before told at stands fresh in
     let next = c.in-Err-NoMemory.ensures in
-    lists_no_memory c.args.capture.now c.next.new.self (same_on c.args.capture.now c.loop-run.capture c.next.new.self i.same next.form next.pins) whole (λ _. NoMemory ≡ NoMemory) before told (left c.args.source.now) (left c.next.new.source) s.given
-    c.loop-run.capture (left c.loop-run.source) s.gave (subst (λ (e : CaptureError). Next c.loop-run.capture c.next.new.self (left c.loop-run.source) (left c.next.new.source) (Err e)) c.in-Err-NoMemory.field-0-is next.next) refl
+    lists_no_memory c.args.capture.now c.next.new.self (same_on c.args.capture.now c.loop-run.capture c.next.new.self i.same next.form next.pins) whole (λ _. Unit {0}) before told (left c.args.source.now) (left c.next.new.source) s.given
+    c.loop-run.capture (left c.loop-run.source) s.gave (subst (λ (e : CaptureError). Next c.loop-run.capture c.next.new.self (left c.loop-run.source) (left c.next.new.source) (Err e)) c.in-Err-NoMemory.field-0-is next.next) tt
 
 pub returns-in-Err-Read-clause-gathers : goal.returns-in-Err-Read-clause-gathers
 returns-in-Err-Read-clause-gathers g c = λ before told at stands fresh.
@@ -71,7 +70,7 @@ returns-in-Err-Read-clause-gathers g c = λ before told at stands fresh.
     let i = c.loop-run.invariant in
     let s = i.so_far before told at stands fresh in
     let next = c.in-Err-Read.ensures in
-    lists_read c.args.capture.now c.next.new.self (same_on c.args.capture.now c.loop-run.capture c.next.new.self i.same next.form next.pins) whole (λ _. Read ≡ NoMemory) before told (left c.args.source.now) (left c.next.new.source) s.given
+    lists_read c.args.capture.now c.next.new.self (same_on c.args.capture.now c.loop-run.capture c.next.new.self i.same next.form next.pins) whole (λ _. Unit {0}) before told (left c.args.source.now) (left c.next.new.source) s.given
     c.loop-run.capture (left c.loop-run.source) s.gave (subst (λ (e : CaptureError). Next c.loop-run.capture c.next.new.self (left c.loop-run.source) (left c.next.new.source) (Err e)) c.in-Err-Read.field-0-is next.next) s.gathered
 
 pub returns-in-Ok-None-clause-gathers : goal.returns-in-Ok-None-clause-gathers
@@ -82,7 +81,7 @@ returns-in-Ok-None-clause-gathers g c = λ before told at stands fresh.
     let i = c.loop-run.invariant in
     let s = i.so_far before told at stands fresh in
     let next = c.in-Ok-None.ensures in
-    lists_done c.args.capture.now c.next.new.self (same_on c.args.capture.now c.loop-run.capture c.next.new.self i.same next.form next.pins) whole (λ _. Done ≡ NoMemory) before told (left c.args.source.now) (left c.next.new.source) s.given
+    lists_done c.args.capture.now c.next.new.self (same_on c.args.capture.now c.loop-run.capture c.next.new.self i.same next.form next.pins) whole (λ _. Unit {0}) before told (left c.args.source.now) (left c.next.new.source) s.given
     c.loop-run.capture (left c.loop-run.source) s.gave (subst (λ (r : Option Run). Next c.loop-run.capture c.next.new.self (left c.loop-run.source) (left c.next.new.source) (Ok r)) c.in-Ok-None.field-0-is next.next) s.gathered
 
 pub returns-in-Err-Fault-clause-gathers : goal.returns-in-Err-Fault-clause-gathers
@@ -93,5 +92,5 @@ returns-in-Err-Fault-clause-gathers g c = λ before told at stands fresh.
     let i = c.loop-run.invariant in
     let s = i.so_far before told at stands fresh in
     let next = c.in-Err-Fault.ensures in
-    rw c.in-Err-Fault.fault-is (lists_fault c.args.capture.now c.next.new.self (same_on c.args.capture.now c.loop-run.capture c.next.new.self i.same next.form next.pins) whole (λ _. Fault c.in-Err-Fault.fault ≡ NoMemory) before told (left c.args.source.now) (left c.next.new.source) s.given
+    rw c.in-Err-Fault.fault-is (lists_fault c.args.capture.now c.next.new.self (same_on c.args.capture.now c.loop-run.capture c.next.new.self i.same next.form next.pins) whole (λ _. Unit {0}) before told (left c.args.source.now) (left c.next.new.source) s.given
     c.loop-run.capture (left c.loop-run.source) s.gave c.in-Err-Fault.fault (subst (λ (e : CaptureError). Next c.loop-run.capture c.next.new.self (left c.loop-run.source) (left c.next.new.source) (Err e)) c.in-Err-Fault.field-0-is next.next) s.gathered)

@@ -1,7 +1,7 @@
-use Rattle.std.proofs.Common.{ℕ, List, inl, sym, ◌∙◌, ap, subst, Ok, Err}
+use Rattle.std.proofs.Common.{ℕ, List, inr, sym, ◌∙◌, subst, Ok, Err}
 use Rattle.la_base.specs.declared.samples.TheConstants.{MOST_PINS}
 use Rattle.la_base.specs.declared.samples.Rate.{Rate}
-use Rattle.capture_any.specs.Reading.{capture_by, names_of, rate_of}
+use Rattle.capture_any.specs.Reading.{form_of, names_of, pins_of, rate_of}
 use Rattle.stack_spec.specs.Accepting.{is_shown}
 use Rattle.stack_spec.specs.BindSteps.{Binds}
 use Rattle.stack_spec.specs.Stacks.{stack_meaning}
@@ -10,12 +10,14 @@ use Rattle.stack_spec.specs.declared.faults.BindError.{BindError}
 use Rattle.stack_spec.specs.declared.faults.BindError.TheVariants.{Fault}
 use Rattle.words.specs.Settings.{meaning_of}
 use Rattle.ldecode.specs.Asking.{nodes_of}
-use Rattle.ldecode.specs.Decoding.{Decodes}
-use Rattle.ldecode.specs.Headline.{OrNoMemory, WorksOn}
+use Rattle.std.specs.Io.KnownBytes.{Appends}
+use Rattle.la_io.specs.Causes.{AppendsFront}
+use Rattle.capture_any.specs.Listings.{Lists}
+use Rattle.ldecode.specs.Headline.{WorksOn}
 use Rattle.ldecode.specs.declared.status.Status.{Status}
 use Rattle.ldecode.specs.declared.status.Status.TheVariants.{Bind}
-use Rattle.ldecode.proofs.Stacked.{bound_listing, bound_refuses_none, fresh, one_fault, refused_cannot, stack_asks, stack_refused, the_stack}
-use Rattle.ldecode.proofs.Working.{binding_fails, decoding_ends, head_refuses_none, no_room, opening_fails}
+use Rattle.ldecode.proofs.Stacked.{bound_listing, fresh, stack_asks, stack_refused, the_stack}
+use Rattle.ldecode.proofs.Working.{binding_fails, decoding_ends, no_head_here, no_room, opening_fails}
 use Rattle.ldecode.proofs.decode_stack.decode_stack.Goals as goal
 
 pub returns-in-Err-NoMemory-clause-works : goal.returns-in-Err-NoMemory-clause-works
@@ -24,14 +26,10 @@ returns-in-Err-NoMemory-clause-works g c = no_room (meaning_of c.args.settings.n
 pub returns-in-Err-clause-works : goal.returns-in-Err-clause-works
 returns-in-Err-clause-works g c =
     let values = meaning_of c.args.settings.now in
+    let accepted = stack_meaning c.in-Ok.stack in
+    let stacks = the_stack c.args.settings.now c.deref.result.now c.as_ref.result c.in-Ok.stack c.requires.job c.deref.ensures.value c.as_ref.ensures.value c.in-Ok.ensures.gives in
     subst (λ (s : Status). WorksOn values (g.S.Source.left c.args.source.now) (g.S.Source.left c.open.new.source) (g.K.Sink.written c.args.sink.now) (g.K.Sink.written c.args.sink.now) s) (sym c.status_at_head.ensures)
-    (opening_fails values c.form_of.result c.form_of.ensures.named _ _ _ c.in-Err.error c.in-Err.ensures.opens)
-
-pub returns-in-Err-clause-bind : goal.returns-in-Err-clause-bind
-returns-in-Err-clause-bind g c fault cannot =
-    let values = meaning_of c.args.settings.now in
-    subst (λ (s : Status). OrNoMemory (Bind fault) s) (sym c.status_at_head.ensures)
-    (head_refuses_none values c.form_of.result c.form_of.ensures.named (g.S.Source.left c.args.source.now) (g.S.Source.left c.open.new.source) (g.K.Sink.written c.args.sink.now) c.in-Err.error c.in-Err.ensures.opens fault cannot)
+    (opening_fails values c.form_of.result c.form_of.ensures.named (inr (accepted, stacks)) _ _ _ c.in-Err.error c.in-Err.ensures.opens)
 
 pub returns-in-Err-Fault-bind-clause-works : goal.returns-in-Err-Fault-bind-clause-works
 returns-in-Err-Fault-bind-clause-works g c =
@@ -44,45 +42,7 @@ returns-in-Err-Fault-bind-clause-works g c =
     (subst (λ (r : Rate). Binds MOST_PINS c.names.result.now r accepted.instances (Err (Fault fault))) c.rate.ensures
     (subst (λ (e : BindError). Binds MOST_PINS c.names.result.now c.rate.result accepted.instances (Err e)) c.in-Err-Fault-bind.field-0-is c.in-Err-Fault-bind.ensures.binds)) in
     subst (λ (f : BindFault). WorksOn values (g.S.Source.left c.args.source.now) (g.S.Source.left c.open.new.source) (g.K.Sink.written c.args.sink.now) (g.K.Sink.written c.args.sink.now) (Bind f)) (sym c.in-Err-Fault-bind.fault-is)
-    (binding_fails values c.form_of.result c.form_of.ensures.named _ _ _ capture c.in-Ok-open.ensures.opens fault (stack_refused values (names_of capture) (rate_of capture) accepted stacks fault refused))
-
-pub returns-in-Err-Fault-bind-clause-bind : goal.returns-in-Err-Fault-bind-clause-bind
-returns-in-Err-Fault-bind-clause-bind g c other cannot =
-    let values = meaning_of c.args.settings.now in
-    let capture = c.in-Ok-open.capture in
-    let opens = c.in-Ok-open.ensures.opens in
-    let accepted = stack_meaning c.in-Ok.stack in
-    let stacks = the_stack c.args.settings.now c.deref.result.now c.as_ref.result c.in-Ok.stack c.requires.job c.deref.ensures.value c.as_ref.ensures.value c.in-Ok.ensures.gives in
-    let fault = c.in-Err-Fault-bind.fault in
-    let refused = subst (λ (n : List (List ℕ)). Binds MOST_PINS n (rate_of capture) accepted.instances (Err (Fault fault))) c.names.ensures
-    (subst (λ (r : Rate). Binds MOST_PINS c.names.result.now r accepted.instances (Err (Fault fault))) c.rate.ensures
-    (subst (λ (e : BindError). Binds MOST_PINS c.names.result.now c.rate.result accepted.instances (Err e)) c.in-Err-Fault-bind.field-0-is c.in-Err-Fault-bind.ensures.binds)) in
-    subst (λ (f : BindFault). OrNoMemory (Bind other) (Bind f)) (sym c.in-Err-Fault-bind.fault-is) (inl (ap Bind (one_fault values (names_of capture) (rate_of capture) accepted stacks c.form_of.result c.form_of.ensures.named opens.bytes opens.opened.0 opens.opened.3 fault refused other cannot)))
-
-pub returns-in-Err-Fault-bind-clause-complete : goal.returns-in-Err-Fault-bind-clause-complete
-returns-in-Err-Fault-bind-clause-complete g c can no_read no_write =
-    let values = meaning_of c.args.settings.now in
-    let capture = c.in-Ok-open.capture in
-    let opens = c.in-Ok-open.ensures.opens in
-    let accepted = stack_meaning c.in-Ok.stack in
-    let stacks = the_stack c.args.settings.now c.deref.result.now c.as_ref.result c.in-Ok.stack c.requires.job c.deref.ensures.value c.as_ref.ensures.value c.in-Ok.ensures.gives in
-    let fault = c.in-Err-Fault-bind.fault in
-    let refused = subst (λ (n : List (List ℕ)). Binds MOST_PINS n (rate_of capture) accepted.instances (Err (Fault fault))) c.names.ensures
-    (subst (λ (r : Rate). Binds MOST_PINS c.names.result.now r accepted.instances (Err (Fault fault))) c.rate.ensures
-    (subst (λ (e : BindError). Binds MOST_PINS c.names.result.now c.rate.result accepted.instances (Err e)) c.in-Err-Fault-bind.field-0-is c.in-Err-Fault-bind.ensures.binds)) in
-    refused_cannot values (names_of capture) (rate_of capture) accepted stacks c.form_of.result c.form_of.ensures.named opens.bytes opens.opened.0 opens.opened.3 fault refused can
-
-pub returns-clause-bind : goal.returns-clause-bind
-returns-clause-bind g c other cannot =
-    let values = meaning_of c.args.settings.now in
-    let capture = c.in-Ok-open.capture in
-    let opens = c.in-Ok-open.ensures.opens in
-    let accepted = stack_meaning c.in-Ok.stack in
-    let stacks = the_stack c.args.settings.now c.deref.result.now c.as_ref.result c.in-Ok.stack c.requires.job c.deref.ensures.value c.as_ref.ensures.value c.in-Ok.ensures.gives in
-    let bound = c.in-Ok-bind.bound in
-    let is_bound = subst (λ (n : List (List ℕ)). Binds MOST_PINS n (rate_of capture) accepted.instances (Ok bound)) c.names.ensures
-    (subst (λ (r : Rate). Binds MOST_PINS c.names.result.now r accepted.instances (Ok bound)) c.rate.ensures c.in-Ok-bind.ensures.binds) in
-    absurd (bound_refuses_none values (names_of capture) (rate_of capture) accepted stacks c.form_of.result c.form_of.ensures.named opens.bytes opens.opened.0 opens.opened.3 is_bound.read is_bound.reads other cannot)
+    (binding_fails values c.form_of.result c.form_of.ensures.named (inr (accepted, stacks)) _ _ _ capture c.in-Ok-open.ensures.opens fault (stack_refused values (names_of capture) (rate_of capture) accepted stacks fault refused))
 
 pub returns-clause-works : goal.returns-clause-works
 returns-clause-works g c =
@@ -103,7 +63,11 @@ returns-clause-works g c =
     let asks = stack_asks values (names_of capture) (rate_of capture) accepted stacks bound.pins.items is_bound.read is_bound.reads is_bound.pins in
     let lists = c.decode.ensures.lists opens.bytes opens.opened.0 opens.opened.1 (c.select.ensures.stands opens.bytes opens.opened.0 opens.opened.2) (fresh bound.machines.items is_bound.consumed) in
     let same = bound_listing (names_of capture) (rate_of capture) accepted.instances bound is_bound c.in-Ok-bind.ensures.forest c.in-Ok-bind.ensures.kinds shown in
-    let named = subst (λ (f : List ℕ → List ℕ). Decodes (capture_by now) f opens.bytes opens.opened.0 (left c.open.new.source) (left c.decode.new.source) old new c.decode.result) (λ i samples. same samples i) lists in
+    let lists_of = λ (f : List ℕ → List ℕ). Lists (form_of now) (pins_of now) (λ samples. Appends old new (f samples)) (λ samples. AppendsFront old new (f samples)) opens.bytes opens.opened.0 (left c.open.new.source) (left c.decode.new.source) c.decode.result in
+    let named = subst lists_of (λ i samples. same samples i) lists in
     subst (λ (status : Status). WorksOn values (left c.args.source.now) (left c.decode.new.source) old new status) (sym c.from.ensures)
-    (decoding_ends values c.form_of.result c.form_of.ensures.named (left c.args.source.now) (left c.open.new.source) old capture opens now bound.pins.items
+    (decoding_ends values c.form_of.result c.form_of.ensures.named (inr (accepted, stacks)) (left c.args.source.now) (left c.open.new.source) old capture opens now bound.pins.items
     (c.select.ensures.form ∙ c.in-Ok-open.ensures.form) c.select.ensures.pins (left c.decode.new.source) new accepted nodes c.decode.result asks named)
+
+pub returns-in-Err-Fault-bind-clause-unread : goal.returns-in-Err-Fault-bind-clause-unread
+returns-in-Err-Fault-bind-clause-unread g c = λ names. c.in-Ok-open.ensures.unread (no_head_here (meaning_of c.args.settings.now) c.form_of.result c.form_of.ensures.named names)

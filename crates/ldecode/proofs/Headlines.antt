@@ -1,0 +1,195 @@
+-- The whole promise of a run, from what its status says.
+use Rattle.std.proofs.Common.{◌≡◌, ◌⊎◌, inl, inr, ℕ, List, [], ◌++◌, Option, Some, None, Err, refl, sym, ◌∙◌, ap, subst}
+use Rattle.std.proofs.lemmas.List.{append-nil}
+use Rattle.std.specs.Io.KnownBytes.{Appends, Consumes}
+use Rattle.la_io.specs.Capture.{Told, AtEnd, Cut, Bad, Unread, Ending, Clean, Faulty, Captured}
+use Rattle.la_io.specs.declared.fault.CaptureFault.{CaptureFault}
+use Rattle.capture_any.specs.Captures.{ToldAt, capture_of}
+use Rattle.capture_any.specs.declared.end.ListingEnd.{ListingEnd}
+use Rattle.capture_any.specs.declared.end.ListingEnd.TheVariants as end
+use Rattle.capture_any.specs.declared.form.Form.{Form}
+use Rattle.capture_any.proofs.CaptureLaws.{faults_stay, head_stays}
+use Rattle.words.specs.Lexer.{Text}
+use Rattle.words.specs.Settings.{Values, settings_of}
+use Rattle.words.specs.declared.kinds.WordFault.{WordFault}
+use Rattle.stack_spec.specs.declared.faults.BindFault.{BindFault}
+use Rattle.stack_spec.specs.declared.faults.StackFault.{StackFault}
+use Rattle.ldecode.specs.Asking.{CanBind, CannotBind, EndsAs, HasFault, HasStackFault, HeadIs, IsFormOf, NamesNoHead}
+use Rattle.ldecode.specs.Headline.{DidFail, Good, Headline, Notified, OrNoMemory, Runs, SinkCause, SourceCause, Stream, Tells, WhereUnread, Worked, Works}
+use Rattle.ldecode.specs.declared.status.Status.{Status}
+use Rattle.ldecode.specs.declared.status.Status.TheVariants.{Bind, Capture, Done, NoMemory, ReadFault, Stack, Words, WriteFault}
+use Rattle.ldecode.proofs.Exact.{bad_or_can, bad_or_cannot, can_or_cannot, can_or_stack, cannot_or_stack, head_or_stack, one_bad, one_ending, one_refusal, one_stack_fault, unread_or_cannot}
+use Rattle.ldecode.proofs.Running.{of_these}
+
+module _ (values : Values) (bytes : List ℕ) (told : Told) (old new : Option (List ℕ)) where
+  -- what work is done for is bound to a good head
+  worked_can : (e : ListingEnd) → Worked values bytes told old new e → CanBind values bytes told
+  worked_can e (inl s) = record { form = s.form; names = s.names; rate = s.rate; form_is = s.form_is; head = s.head; bound = inl s.asks.search }
+  worked_can e (inr d) = record { form = d.form; names = d.names; rate = d.rate; form_is = d.form_is; head = d.head; bound = inr d.asks.stack }
+
+  -- how the bytes end of work that is done, and of work that met a fault
+  ends_clean : (e : Ending) → Worked values bytes told old new end.Done → EndsAs values bytes told e → e ≡ Clean
+  ends_clean e (inl s) ends = one_ending values bytes told e ends s.form s.pins Clean s.form_is s.says.1
+  ends_clean e (inr d) ends = one_ending values bytes told e ends d.form d.pins Clean d.form_is d.says.1
+
+  ends_faulty : (e : Ending) (fault : CaptureFault) → Worked values bytes told old new (end.Fault fault) → EndsAs values bytes told e → e ≡ Faulty fault
+  ends_faulty e fault (inl s) ends = one_ending values bytes told e ends s.form s.pins (Faulty fault) s.form_is s.says.0
+  ends_faulty e fault (inr d) ends = one_ending values bytes told e ends d.form d.pins (Faulty fault) d.form_is d.says.0
+
+  works_stack : (status : Status) → Works values bytes told old new status → (fault : StackFault) → HasStackFault values fault → OrNoMemory (Stack fault) status
+  works_stack Done w fault s = absurd (can_or_stack values bytes told (worked_can end.Done w) fault s)
+  works_stack (Words other) w fault s = absurd w
+  works_stack (Stack other) w fault s = inl (ap Stack (one_stack_fault values other fault w.0 s))
+  works_stack (Bind other) w fault s = absurd (cannot_or_stack values bytes told other w.0 fault s)
+  works_stack ReadFault w fault s = absurd (by w.1)
+    where
+      by : Worked values bytes told old new end.Read ⊎ (HeadIs values bytes told Unread × Appends old new []) → ⊥
+      by (inl k) = can_or_stack values bytes told (worked_can end.Read k) fault s
+      by (inr h) = head_or_stack values bytes told Unread h.0 fault s
+  works_stack (Capture other) (inl k) fault s = absurd (can_or_stack values bytes told (worked_can (end.Fault other) k) fault s)
+  works_stack (Capture other) (inr h) fault s = absurd (head_or_stack values bytes told (Bad other) h.0 fault s)
+  works_stack WriteFault w fault s = absurd (can_or_stack values bytes told (worked_can end.Write w) fault s)
+  works_stack NoMemory w fault s = inr refl
+
+  works_bind : (status : Status) → Works values bytes told old new status → (fault : BindFault) → CannotBind values bytes told fault → OrNoMemory (Bind fault) status
+  works_bind Done w fault c = absurd (can_or_cannot values bytes told (worked_can end.Done w) fault c)
+  works_bind (Words other) w fault c = absurd w
+  works_bind (Stack other) w fault c = absurd (cannot_or_stack values bytes told fault c other w.0)
+  works_bind (Bind other) w fault c = inl (ap Bind (one_refusal values bytes told other fault w.0 c))
+  works_bind ReadFault w fault c = absurd (by w.1)
+    where
+      by : Worked values bytes told old new end.Read ⊎ (HeadIs values bytes told Unread × Appends old new []) → ⊥
+      by (inl k) = can_or_cannot values bytes told (worked_can end.Read k) fault c
+      by (inr h) = unread_or_cannot values bytes told h.0 fault c
+  works_bind (Capture other) (inl k) fault c = absurd (can_or_cannot values bytes told (worked_can (end.Fault other) k) fault c)
+  works_bind (Capture other) (inr h) fault c = absurd (bad_or_cannot values bytes told other h.0 fault c)
+  works_bind WriteFault w fault c = absurd (can_or_cannot values bytes told (worked_can end.Write w) fault c)
+  works_bind NoMemory w fault c = inr refl
+
+  module _ (source sink : Stream) (no_read : ¬ DidFail source) (no_write : ¬ DidFail sink) where
+    works_fault : (status : Status) → Works values bytes told old new status → SourceCause source.failed_old source.failed_new status → SinkCause sink.failed_old sink.failed_new status
+        → (fault : CaptureFault) → HasFault values bytes told fault → OrNoMemory (Capture fault) status
+    works_fault Done w r k fault (inl h) = absurd (bad_or_can values bytes told fault h (worked_can end.Done w))
+    works_fault Done w r k fault (inr e) = let both : Faulty fault ≡ Clean = ends_clean (Faulty fault) w e in cc
+    works_fault (Words other) w r k fault has = absurd w
+    works_fault (Stack other) w r k fault (inl h) = absurd (head_or_stack values bytes told (Bad fault) h other w.0)
+    works_fault (Stack other) w r k fault (inr e) = absurd (can_or_stack values bytes told e.can other w.0)
+    works_fault (Bind other) w r k fault (inl h) = absurd (bad_or_cannot values bytes told fault h other w.0)
+    works_fault (Bind other) w r k fault (inr e) = absurd (can_or_cannot values bytes told e.can other w.0)
+    works_fault ReadFault w r k fault has = absurd (no_read r.1)
+    works_fault (Capture other) (inl w) r k fault (inl h) = absurd (bad_or_can values bytes told fault h (worked_can (end.Fault other) w))
+    works_fault (Capture other) (inl w) r k fault (inr e) =
+        let both : Faulty fault ≡ Faulty other = ends_faulty (Faulty fault) other w e in
+        let same : other ≡ fault = cc in
+        inl (ap Capture same)
+    works_fault (Capture other) (inr b) r k fault (inl h) = inl (ap Capture (one_bad values bytes told other fault b.0 h))
+    works_fault (Capture other) (inr b) r k fault (inr e) = absurd (bad_or_can values bytes told other b.0 e.can)
+    works_fault WriteFault w r k fault has = absurd (no_write k.1)
+    works_fault NoMemory w r k fault has = inr refl
+
+-- what holds of the bytes that were taken holds of all that were left
+module _ (values : Values) where
+  whole_cannot : (bytes rest : List ℕ) (told : Told) → (told ≡ AtEnd → rest ≡ []) → (fault : BindFault) → CannotBind values bytes told fault → CannotBind values (bytes ++ rest) AtEnd fault
+  whole_cannot bytes rest AtEnd none fault c = subst (λ (l : List ℕ). CannotBind values l AtEnd fault) (sym (append-nil bytes) ∙ ap (λ (l : List ℕ). bytes ++ l) (sym (none refl))) c
+  whole_cannot bytes rest Cut none fault c = record {
+    form = c.form;
+    names = c.names;
+    rate = c.rate;
+    form_is = c.form_is;
+    head = head_stays.good c.form [] bytes rest AtEnd c.names c.rate.num c.rate.den c.head;
+    refused = c.refused;
+  }
+
+  whole_bad : (bytes rest : List ℕ) (told : Told) → (told ≡ AtEnd → rest ≡ []) → (fault : CaptureFault) → HeadIs values bytes told (Bad fault) → HeadIs values (bytes ++ rest) AtEnd (Bad fault)
+  whole_bad bytes rest AtEnd none fault h = subst (λ (l : List ℕ). HeadIs values l AtEnd (Bad fault)) (sym (append-nil bytes) ∙ ap (λ (l : List ℕ). bytes ++ l) (sym (none refl))) h
+  whole_bad bytes rest Cut none fault h = record {
+    form = h.form;
+    form_is = h.form_is;
+    judged = h.judged;
+    head_is = head_stays.bad h.form [] bytes rest AtEnd fault h.head_is;
+  }
+
+  whole_faulty : (bytes rest : List ℕ) (told : Told) → (told ≡ AtEnd → rest ≡ []) → (form : Form) (pins : List ℕ) (fault : CaptureFault) → (capture_of form pins bytes told).ending ≡ Faulty fault → (capture_of form pins (bytes ++ rest) AtEnd).ending ≡ Faulty fault
+  whole_faulty bytes rest AtEnd none form pins fault is = subst (λ (l : List ℕ). (capture_of form pins l AtEnd).ending ≡ Faulty fault) (sym (append-nil bytes) ∙ ap (λ (l : List ℕ). bytes ++ l) (sym (none refl))) is
+  whole_faulty bytes rest Cut none form pins fault is = ap (λ (c : Captured). c.ending) (faults_stay form pins bytes rest AtEnd fault is) ∙ is
+
+  works_complete : (bytes rest : List ℕ) (told : Told) → (told ≡ AtEnd → rest ≡ []) → (old new : Option (List ℕ)) (source sink : Stream) → ¬ DidFail source → ¬ DidFail sink → (status : Status) → Works values bytes told old new status
+      → SourceCause source.failed_old source.failed_new status → SinkCause sink.failed_old sink.failed_new status → EndsAs values (bytes ++ rest) AtEnd Clean → OrNoMemory Done status
+  works_complete bytes rest told none old new source sink no_read no_write Done w r k e = inl refl
+  works_complete bytes rest told none old new source sink no_read no_write (Words other) w r k e = absurd w
+  works_complete bytes rest told none old new source sink no_read no_write (Stack other) w r k e = absurd (can_or_stack values (bytes ++ rest) AtEnd e.can other w.0)
+  works_complete bytes rest told none old new source sink no_read no_write (Bind other) w r k e = absurd (can_or_cannot values (bytes ++ rest) AtEnd e.can other (whole_cannot bytes rest told none other w.0))
+  works_complete bytes rest told none old new source sink no_read no_write ReadFault w r k e = absurd (no_read r.1)
+  works_complete bytes rest told none old new source sink no_read no_write (Capture other) (inl w) r k e = by w
+    where
+      wrong : (form : Form) (pins : List ℕ) → IsFormOf values form → (capture_of form pins bytes told).ending ≡ Faulty other → OrNoMemory Done (Capture other)
+      wrong form pins is ends =
+          let both : Clean ≡ Faulty other = one_ending values (bytes ++ rest) AtEnd Clean e form pins (Faulty other) is (whole_faulty bytes rest told none form pins other ends) in
+          cc
+
+      by : Worked values bytes told old new (end.Fault other) → OrNoMemory Done (Capture other)
+      by (inl s) = wrong s.form s.pins s.form_is s.says.0
+      by (inr d) = wrong d.form d.pins d.form_is d.says.0
+  works_complete bytes rest told none old new source sink no_read no_write (Capture other) (inr b) r k e = absurd (bad_or_can values (bytes ++ rest) AtEnd other (whole_bad bytes rest told none other b.0) e.can)
+  works_complete bytes rest told none old new source sink no_read no_write WriteFault w r k e = absurd (no_write k.1)
+  works_complete bytes rest told none old new source sink no_read no_write NoMemory w r k e = inr refl
+
+-- a status is want of memory, or a fault of the words, or speaks of good words
+outcome : (words : List Text) (bytes : List ℕ) (told : Told) (old new : Option (List ℕ)) (status : Status) → Tells words bytes told old new status
+    → (status ≡ NoMemory) ⊎ (((fault : WordFault) × (settings_of words ≡ Err fault) × (status ≡ Words fault)) ⊎ Good words (λ values. Works values bytes told old new status))
+outcome words bytes told old new Done t = inr (inr t)
+outcome words bytes told old new (Words fault) t = inr (inl (fault, t.0, refl))
+outcome words bytes told old new (Stack fault) t = inr (inr t)
+outcome words bytes told old new (Bind fault) t = inr (inr t)
+outcome words bytes told old new ReadFault t = inr (inr t)
+outcome words bytes told old new (Capture fault) t = inr (inr t)
+outcome words bytes told old new WriteFault t = inr (inr t)
+outcome words bytes told old new NoMemory t = inl refl
+
+-- what was left of a source, by what was taken and what is left
+left_over : (left bytes : List ℕ) (told : Told) (new : Option (List ℕ)) → Consumes (Some left) new bytes → ToldAt told new → (rest : List ℕ) × (left ≡ bytes ++ rest) × (told ≡ AtEnd → rest ≡ [])
+left_over left bytes told None taken at_end = absurd taken
+left_over left bytes told (Some rest) taken at_end = (rest, taken, at_end)
+
+module _ (words : List Text) (source sink notices : Stream) (same : Type 0) (status : Status) (runs : Runs words source.old source.new sink.old sink.new status)
+    (read : SourceCause source.failed_old source.failed_new status) (write : SinkCause sink.failed_old sink.failed_new status) where
+  -- what of good words makes a status makes it
+  exactly : (P : Values → Type 0) (expected : Status) → ((values : Values) → Works values runs.bytes runs.told sink.old sink.new status → P values → OrNoMemory expected status) → Good words P → OrNoMemory expected status
+  exactly P expected on g = by (outcome words runs.bytes runs.told sink.old sink.new status runs.tells)
+    where
+      by : (status ≡ NoMemory) ⊎ (((fault : WordFault) × (settings_of words ≡ Err fault) × (status ≡ Words fault)) ⊎ Good words (λ values. Works values runs.bytes runs.told sink.old sink.new status)) → OrNoMemory expected status
+      by (inl none) = inr none
+      by (inr (inl w)) = let both = sym w.1 ∙ g.1 in cc
+      by (inr (inr k)) = on k.0 k.2 (of_these words k.0 k.1 P g)
+
+  words_exact : (fault : WordFault) → settings_of words ≡ Err fault → OrNoMemory (Words fault) status
+  words_exact fault is = by (outcome words runs.bytes runs.told sink.old sink.new status runs.tells)
+    where
+      by : (status ≡ NoMemory) ⊎ (((other : WordFault) × (settings_of words ≡ Err other) × (status ≡ Words other)) ⊎ Good words (λ values. Works values runs.bytes runs.told sink.old sink.new status)) → OrNoMemory (Words fault) status
+      by (inl none) = inr none
+      by (inr (inl w)) = let both = sym w.1 ∙ is in let one : w.0 ≡ fault = cc in inl (w.2 ∙ ap Words one)
+      by (inr (inr k)) = let both = sym k.1 ∙ is in cc
+
+  complete_here : (left : List ℕ) → source.old ≡ Some left → Good words (λ values. EndsAs values left AtEnd Clean) → ¬ DidFail source → ¬ DidFail sink → OrNoMemory Done status
+  complete_here left is g no_read no_write =
+      let over = left_over left runs.bytes runs.told source.new (subst (λ (o : Option (List ℕ)). Consumes o source.new runs.bytes) is runs.taken) runs.at_end in
+      exactly (λ values. EndsAs values left AtEnd Clean) Done
+      (λ values w e. works_complete values runs.bytes over.0 runs.told over.2 sink.old sink.new source sink no_read no_write status w read write (subst (λ (l : List ℕ). EndsAs values l AtEnd Clean) over.1 e)) g
+
+  pub headline : WhereUnread (Good words NamesNoHead) status same → Notified notices status → Headline words source sink notices same status
+  headline unread notified = record {
+    bytes = runs.bytes;
+    told = runs.told;
+    taken = runs.taken;
+    at_end = runs.at_end;
+    tells = runs.tells;
+    words_fault = words_exact;
+    stack_fault = λ fault g. exactly (λ values. HasStackFault values fault) (Stack fault) (λ values w s. works_stack values runs.bytes runs.told sink.old sink.new status w fault s) g;
+    bind_fault = λ fault g. exactly (λ values. CannotBind values runs.bytes runs.told fault) (Bind fault) (λ values w c. works_bind values runs.bytes runs.told sink.old sink.new status w fault c) g;
+    capture_fault = λ fault g no_read no_write. exactly (λ values. HasFault values runs.bytes runs.told fault) (Capture fault) (λ values w h. works_fault values runs.bytes runs.told sink.old sink.new source sink no_read no_write status w read write fault h) g;
+    complete = complete_here;
+    read = read;
+    write = write;
+    unread = unread;
+    notified = notified;
+  }
