@@ -1,17 +1,15 @@
-//! The program `ldecode`: its words, its standard streams, and the exit status of the run.
+//! The program `ldecode`: its words, its standard streams, and the exit status.
 #![tactic(auto)]
 
-ghost use Rattle.std.specs.Prelude.{◌≡◌, OnOk, OnErr};
+ghost use Rattle.std.specs.Prelude.{◌≡◌};
 ghost use Rattle.std.specs.Process.{exit_status};
-ghost use Rattle.ldecode.specs.Notices.{code_of};
 
 mod help;
+mod program;
 mod request;
 
-use help::{VERSION, help_text};
-use la_io::{Failed, StdSink, StdSource, write_whole};
-use ldecode::{Status, exit_code, run_here};
-use request::{Request, request_of};
+use la_io::{StdSink, StdSource};
+use program::program;
 use std::alloc::{AllocError, Global};
 use std::env::{self, Args};
 use std::io::Write;
@@ -37,49 +35,6 @@ fn no_words(rt: &HostRuntime) -> ExitCode
     ExitCode::from(NO_WORDS)
 }
 
-// The exit status of a run.
-fn exit_of(status: &Status) -> ExitCode
-    ensures { exit_status result ≡ code_of status.now }
-{
-    ExitCode::from(exit_code(status))
-}
-
-// The exit status where a text was to be written on standard output.
-fn told(written: Result<(), Failed>) -> ExitCode
-    ensures ok { OnOk written (exit_status result ≡ code_of Status.Done) }
-    ensures err { OnErr written (exit_status result ≡ code_of Status.WriteFault) }
-{
-    match written {
-        Ok(()) => exit_of(&Status::Done),
-        Err(Failed) => exit_of(&Status::WriteFault),
-    }
-}
-
-// Writes a text on standard output.
-fn tell(rt: &HostRuntime, text: &str) -> ExitCode {
-    told(write_whole(&mut StdSink::new(rt.stdout()), text.as_bytes()))
-}
-
-// Tells the usage.
-fn tell_help(rt: &HostRuntime) -> ExitCode {
-    match help_text(rt.alloc()) {
-        Ok(text) => tell(rt, text.as_str()),
-        Err(AllocError) => exit_of(&Status::NoMemory),
-    }
-}
-
-// Runs the words over the standard streams.
-fn run(rt: &HostRuntime, words: &[String]) -> ExitCode {
-    let status = run_here(
-        rt.alloc(),
-        words,
-        &mut StdSource::new(rt.stdin()),
-        &mut StdSink::new(rt.stdout()),
-        &mut StdSink::new(rt.stderr()),
-    );
-    exit_of(&status)
-}
-
 fn main(rt: HostRuntime) -> ExitCode {
     let Ok(args) = env::args(&rt) else {
         return no_words(&rt);
@@ -87,9 +42,9 @@ fn main(rt: HostRuntime) -> ExitCode {
     let Ok(words) = words_behind_name(rt.alloc(), args) else {
         return no_words(&rt);
     };
-    match request_of(&words) {
-        Request::Help => tell_help(&rt),
-        Request::Version => tell(&rt, VERSION),
-        Request::Run => run(&rt, &words),
-    }
+    let mut source = StdSource::new(rt.stdin());
+    let mut sink = StdSink::new(rt.stdout());
+    let mut notices = StdSink::new(rt.stderr());
+    let code = program(rt.alloc(), &words, &mut source, &mut sink, &mut notices);
+    ExitCode::from(code)
 }
