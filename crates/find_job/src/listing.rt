@@ -1,5 +1,5 @@
 // The line of a stop.
-ghost use Rattle.std.specs.Prelude.{◌≡◌, ◌+◌, ◌<◌, ◌≤◌, ◌++◌, length};
+ghost use Rattle.std.specs.Prelude.{◌≡◌, ◌+◌, ◌<◌, ◌≤◌, [], ◌++◌, length};
 ghost use Rattle.std.specs.Fmt.{decimal};
 ghost use Rattle.find_job.specs.Listing.{is_member, separator, joined, members_below, line_of};
 
@@ -16,15 +16,6 @@ fn is_member(set: u8, place: u32) -> bool
     (set >> place) & 1 == 1
 }
 
-// Appends the number of a sample.
-fn number(line: &mut LineBuf, at: u64)
-    requires { length line.old ≤ 200 }
-    ensures line { line.new ≡ line.old ++ decimal at }
-    ensures grows { length line.new ≤ length line.old + 20 }
-{
-    line.push_dec(at);
-}
-
 // Appends the number of an alternative, which is one digit.
 fn digit(line: &mut LineBuf, place: u32)
     requires few { place < 8 }
@@ -32,7 +23,7 @@ fn digit(line: &mut LineBuf, place: u32)
     ensures line { line.new ≡ line.old ++ decimal place }
     ensures grows { length line.new ≡ length line.old + 1 }
 {
-    line.push_dec(u64::from(place));
+    line.push_byte(b'0' + place as u8);
 }
 
 // Appends the number of an alternative, behind a comma where it isn't the first.
@@ -43,7 +34,7 @@ fn member(line: &mut LineBuf, first: bool, place: u32)
     ensures grows { length line.new ≤ length line.old + 2 }
 {
     if !first {
-        line.push_bytes(b",");
+        line.push_byte(b',');
     }
     digit(line, place);
 }
@@ -63,14 +54,15 @@ fn members(line: &mut LineBuf, set: u8)
     }
 }
 
-/// The line `AT: I,J` of a stop at sample `at`, where the alternatives I and J are met.
-pub fn line_of(at: u64, met: u8) -> LineBuf
-    ensures { result ≡ line_of (at, met) }
+/// Puts into an empty line the one of a stop, `AT: I,J`: its sample, and the alternatives I and J that
+/// are met there.
+pub fn put_stop(line: &mut LineBuf, at: u64, met: u8)
+    requires { line.old ≡ [] }
+    ensures { line.new ≡ line_of (at, met) }
 {
-    let mut line = LineBuf::new();
-    number(&mut line, at);
-    line.push_bytes(b": ");
-    members(&mut line, met);
-    line.push_bytes(b"\n");
-    line
+    line.push_number(at);
+    line.push_byte(b':');
+    line.push_byte(b' ');
+    members(line, met);
+    line.push_byte(b'\n');
 }

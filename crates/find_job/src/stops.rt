@@ -5,13 +5,19 @@ ghost use Rattle.wait_cond.specs.Stops.{Stop, Chain};
 ghost use Rattle.wait_cond.specs.Waiting.{Waits, alts_of, wait_from, consumed_by};
 ghost use Rattle.find_job.specs.Stopping.{Written};
 
-use crate::listing::line_of;
+use crate::listing::put_stop;
 use la_base::Run;
 use la_io::{Failed, Sink, write_whole};
+use line_text::LineBuf;
 use wait_cond::{Scan, Waiter};
 
 /// Writes the line of each stop in a run. `Failed` comes where the sink failed.
-pub fn write_stops<K: Sink>(waiter: &mut Waiter, run: Run, sink: &mut K) -> Result<(), Failed>
+pub fn write_stops<K: Sink>(
+    waiter: &mut Waiter,
+    run: Run,
+    line: &mut LineBuf,
+    sink: &mut K,
+) -> Result<(), Failed>
     requires { consumed_by waiter.old + run.len ≤ 2 ^ 60 }
     ensures written { (list : List ℕ) (stops : List Stop) → Waits waiter.old list → Chain list (alts_of waiter.old) 0 stops (wait_from waiter.old)
         → Written waiter.new waiter.old run list stops (K.written sink.old) (K.written sink.new) result }
@@ -28,10 +34,14 @@ pub fn write_stops<K: Sink>(waiter: &mut Waiter, run: Run, sink: &mut K) -> Resu
                 met,
                 rest: behind,
                 ..
-            } => match write_whole(sink, line_of(at, met).bytes()) {
-                Ok(()) => rest = behind,
-                Err(Failed) => return Err(Failed),
-            },
+            } => {
+                line.clear();
+                put_stop(line, at, met);
+                match write_whole(sink, line.bytes()) {
+                    Ok(()) => rest = behind,
+                    Err(Failed) => return Err(Failed),
+                }
+            }
             Scan::Through => rest = None,
         }
     }

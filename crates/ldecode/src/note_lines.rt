@@ -1,11 +1,11 @@
 // The lines of notes.
-ghost use Rattle.std.specs.Prelude.{◌≡◌, OnOk};
+ghost use Rattle.std.specs.Prelude.{◌≡◌, [], OnOk};
 ghost use Rattle.std.specs.Io.KnownBytes.{Appends};
 ghost use Rattle.la_io.specs.Causes.{HasCause, AppendsFront};
 ghost use Rattle.stack_spec.specs.Stacks.{instances_in};
 ghost use Rattle.ldecode.specs.Decoding.{line_as, note_line, note_lines};
 
-use crate::text::{number, text};
+use crate::text::text;
 use decoder_set::{Kind, kind_name, note_text};
 use la_base::Note;
 use la_io::{Failed, Sink, write_whole};
@@ -13,36 +13,37 @@ use line_text::LineBuf;
 use note_order::Entry;
 use stack_spec::Stack;
 
-// The line `START-END NAME: TEXT` of a note of the instance with this number among those of its kind.
-fn line_of(kind: Kind, kind_number: u32, note: Note) -> LineBuf
-    ensures { result ≡ line_as kind kind_number note }
+// Puts into an empty line the one of a note, `START-END NAME: TEXT`, where its instance has this number
+// among those of its kind.
+fn put_note(line: &mut LineBuf, kind: Kind, kind_number: u32, note: Note)
+    requires { line.old ≡ [] }
+    ensures { line.new ≡ line_as kind kind_number note }
 {
-    let mut line = LineBuf::new();
-    number(&mut line, note.start);
-    text(&mut line, "-");
-    number(&mut line, note.end);
-    text(&mut line, " ");
-    text(&mut line, kind_name(kind));
-    text(&mut line, "-");
-    number(&mut line, u64::from(kind_number));
-    text(&mut line, ": ");
-    note_text(kind, note, &mut line);
-    text(&mut line, "\n");
-    line
+    line.push_number(note.start);
+    text(line, "-");
+    line.push_number(note.end);
+    text(line, " ");
+    text(line, kind_name(kind));
+    text(line, "-");
+    line.push_number(u64::from(kind_number));
+    text(line, ": ");
+    note_text(kind, note, line);
+    text(line, "\n");
 }
 
-// The line of a note; nothing where the stack has no such instance.
-fn note_line(stack: &Stack, entry: &Entry) -> LineBuf
-    ensures { result ≡ note_line (instances_in stack.now) entry.now }
+// Puts into an empty line the one of a note; nothing where the stack has no such instance.
+fn put_entry(line: &mut LineBuf, stack: &Stack, entry: &Entry)
+    requires { line.old ≡ [] }
+    ensures { line.new ≡ note_line (instances_in stack.now) entry.now }
 {
-    if entry.instance >= stack.count() {
-        return LineBuf::new();
+    if entry.instance < stack.count() {
+        put_note(
+            line,
+            stack.kind(entry.instance),
+            stack.number(entry.instance),
+            entry.note,
+        );
     }
-    line_of(
-        stack.kind(entry.instance),
-        stack.number(entry.instance),
-        entry.note,
-    )
 }
 
 /// Writes the lines of notes. After `Failed` a front of them is written.
@@ -52,8 +53,12 @@ pub fn write_notes<K: Sink>(stack: &Stack, entries: &[Entry], sink: &mut K) -> R
     ensures cause { HasCause (K.faults sink.old) (K.faults sink.new) result }
     ensures goes_on { K.goes_on sink.old sink.new }
 {
+    // One for all notes, since to make it fills it with zeros.
+    let mut line = LineBuf::new();
     for entry in entries {
-        match write_whole(sink, note_line(stack, entry).bytes()) {
+        line.clear();
+        put_entry(&mut line, stack, entry);
+        match write_whole(sink, line.bytes()) {
             Ok(()) => {}
             Err(Failed) => return Err(Failed),
         }

@@ -4,7 +4,7 @@ ghost use Rattle.std.specs.Fmt.{decimal};
 ghost use Rattle.ldecode.specs.Notices.{word_why, stack_why, bind_why, capture_why, capture_at, notice_of};
 
 use crate::status::Status;
-use crate::text::{number, text};
+use crate::text::text;
 use la_io::CaptureFault;
 use line_text::LineBuf;
 use stack_spec::StackWhy;
@@ -107,9 +107,9 @@ fn at_word(line: &mut LineBuf, what: &str, word: u32, at: u32, why: &str)
     ensures { line.new ≡ what.now ++ decimal word ++ codes " at " ++ decimal at ++ codes ": " ++ why.now ++ codes "\n" }
 {
     text(line, what);
-    number(line, u64::from(word));
+    line.push_number(u64::from(word));
     text(line, " at ");
-    number(line, u64::from(at));
+    line.push_number(u64::from(at));
     text(line, ": ");
     text(line, why);
     text(line, "\n");
@@ -142,9 +142,9 @@ pub fn notice(status: &Status) -> LineBuf
         }
         Status::Bind(fault) => {
             text(&mut line, "ldecode: entry ");
-            number(&mut line, u64::from(fault.entry));
+            line.push_number(u64::from(fault.entry));
             text(&mut line, " item ");
-            number(&mut line, u64::from(fault.item));
+            line.push_number(u64::from(fault.item));
             text(&mut line, ": ");
             text(&mut line, bind_why(fault.why));
             text(&mut line, "\n");
@@ -152,7 +152,7 @@ pub fn notice(status: &Status) -> LineBuf
         Status::ReadFault => text(&mut line, "ldecode: read fault\n"),
         Status::Capture(fault) => {
             text(&mut line, "ldecode: capture at ");
-            number(&mut line, capture_at(fault));
+            line.push_number(capture_at(fault));
             text(&mut line, ": ");
             text(&mut line, capture_why(fault));
             text(&mut line, "\n");

@@ -1,5 +1,5 @@
 // A line of text of at most 256 bytes.
-ghost use Rattle.std.specs.Prelude.{◌≡◌, ◌+◌, ◌^◌, ◌<◌, ◌≤◌, List, ℕ, [], ◌++◌, length, take};
+ghost use Rattle.std.specs.Prelude.{◌≡◌, ◌+◌, ◌^◌, ◌<◌, ◌≤◌, List, ℕ, [], ◌∷◌, ◌++◌, length, take};
 ghost use Rattle.std.specs.Fmt.{decimal};
 ghost use Rattle.line_text.specs.Texts.{padded, hex, fixed};
 
@@ -62,6 +62,27 @@ impl LineBuf {
         let end = self.len + bytes.len();
         self.buffer[self.len..end].copy_from_slice(bytes);
         self.len = end;
+    }
+
+    /// Appends one byte.
+    pub fn push_byte(&mut self, byte: u8)
+        requires { length self.old < 256 }
+        ensures text { self.new ≡ self.old ++ byte ∷ [] }
+        ensures grows { length self.new ≡ length self.old + 1 }
+    {
+        self.buffer[self.len] = byte;
+        self.len += 1;
+    }
+
+    /// Appends a number in decimal, with no leading zero, where there is room for any: it has at most 20
+    /// digits.
+    #[tactic(auto, using(crate::proofs::Widths::decimal_room))]
+    pub fn push_number(&mut self, n: u64)
+        requires { length self.old ≤ 236 }
+        ensures text { self.new ≡ self.old ++ decimal n }
+        ensures grows { length self.new ≤ length self.old + 20 }
+    {
+        self.push_dec(n);
     }
 
     /// Appends a number in decimal, with no leading zero.

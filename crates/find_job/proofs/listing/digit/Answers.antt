@@ -1,16 +1,6 @@
-use Rattle.std.proofs.Common.{◌≡◌, ◌<◌, arith, ap, length}
-use Rattle.std.specs.Fmt.{decimal}
+use Rattle.std.proofs.Common.{◌++◌, ◌∙◌, List, ℕ, ap, sym, arith}
 use Rattle.std.proofs.lemmas.Fmt.{decimal_digit}
 use Rattle.find_job.proofs.listing.digit.Goals as goal
 
-pub push_dec-requires : goal.push_dec-requires
-push_dec-requires c =
-    let small : c.from.result < 10 = omega arith in
-    let one : length (decimal c.from.result) ≡ 1 = ap length (decimal_digit c.from.result small) in
-    omega arith
-
-pub returns-clause-grows : goal.returns-clause-grows
-returns-clause-grows c =
-    let small : c.from.result < 10 = omega arith in
-    let one : length (decimal c.from.result) ≡ 1 = ap length (decimal_digit c.from.result small) in
-    omega (arith, one, c.push_dec.ensures.grows)
+pub returns-clause-line : goal.returns-clause-line
+returns-clause-line c = c.push_byte.ensures.text ∙ ap (λ (l : List ℕ). c.args.line.now ++ l) (sym (decimal_digit c.args.place (omega arith)))
