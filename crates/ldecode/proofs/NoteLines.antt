@@ -41,21 +41,3 @@ module _ (instances : List Instance) where
   pub front_of_all : (old new : Option (List ℕ)) (entries : List Entry) (i : ℕ) → length entries ≤ i → Appends old new (lines (take i entries)) → AppendsFront old new (lines entries)
   front_of_all old new entries i all so_far =
       front_whole old new (lines entries) (subst (λ (l : List Entry). Appends old new (lines l)) (take_all i entries all) so_far)
-
--- the line of an instance, by its kind and its number
-pub line_of_instance : (instances : List Instance) (place : ℕ) (kind : Kind) (number : ℕ) (note : Note) → option_map (λ i. i.kind) (slice_get instances place) ≡ Some kind → option_map (λ i. i.number) (slice_get instances place) ≡ Some number
-    → line_as kind number note ≡ line_by (slice_get instances place) note
-line_of_instance instances place kind number note of_kind numbered = by (slice_get instances place) of_kind numbered
-  where
-    by : (found : Option Instance) → option_map (λ (i : Instance). i.kind) found ≡ Some kind → option_map (λ (i : Instance). i.number) found ≡ Some number → line_as kind number note ≡ line_by found note
-    by None of_kind numbered = cc
-    by (Some instance) of_kind numbered =
-        let k : kind ≡ instance.kind = cc in
-        let n : number ≡ instance.number = cc in
-        λ i. line_as (k i) (n i) note
-
--- there is no line where there is no instance
-pub no_instance : (instances : List Instance) (place : ℕ) (note : Note) → length instances ≤ place → [] ≡ line_by (slice_get instances place) note
-no_instance [] place note behind = refl
-no_instance (instance ∷ instances) zero note behind = absurd (omega (arith, behind))
-no_instance (instance ∷ instances) (suc place) note behind = no_instance instances place note (omega (arith, behind))
