@@ -1,16 +1,13 @@
 -- How a channel is found by a reference.
-use Rattle.std.specs.Prelude.{ℕ, ◌+◌, ◌-◌, ◌*◌, Bool, List, length, Option, Some, None, nat_le, nat_lt, ◌&&◌, if◌then◌else◌, nat_eq}
-use Rattle.std.specs.List.{position, list_all, fold}
+use Rattle.std.specs.Prelude.{ℕ, Bool, List, length, Option, Some, None, nat_le, nat_lt, ◌&&◌, if◌then◌else◌, nat_eq}
+use Rattle.std.specs.List.{position, list_all}
 use Rattle.std.specs.Cmp.Lexicographic.{pointwise}
 use Rattle.std.specs.Char.{is_ascii_digit}
+use Rattle.text_parts.specs.Numbers.{number_after}
 
 -- two names have the same bytes
 abbrev pub same_name : List ℕ → List ℕ → Bool
 same_name a b = pointwise nat_eq a b
-
--- the number that decimal digits say
-abbrev pub digits_value : List ℕ → ℕ
-digits_value text = fold (λ n digit. 10 * n + (digit - 48)) 0 text
 
 -- 1 to 4 decimal digits
 abbrev pub is_number : List ℕ → Bool
@@ -18,7 +15,7 @@ is_number text = nat_le 1 (length text) && nat_le (length text) 4 && list_all is
 
 -- the number that 1 to 4 decimal digits say
 abbrev pub number_of : List ℕ → Option ℕ
-number_of text = if is_number text then Some (digits_value text) else None
+number_of text = if is_number text then Some (number_after 0 text) else None
 
 -- the channel of that number, if there is one
 abbrev pub below : ℕ → Option ℕ → Option ℕ

@@ -1,5 +1,6 @@
 -- Decimal numbers in a range.
-use Rattle.std.specs.Prelude.{ℕ, Bool, ◌+◌, ◌*◌, ◌-◌, ◌==◌, ◌&&◌, nat_le, nat_lt, not, List, [], ◌∷◌, length, Result, Ok, Err, if◌then◌else◌}
+use Rattle.std.specs.Prelude.{ℕ, Bool, ◌+◌, ◌*◌, ◌-◌, ◌==◌, ◌&&◌, nat_le, nat_lt, not, List, length, Result, Ok, Err, if◌then◌else◌}
+use Rattle.std.specs.List.{fold}
 use Rattle.std.specs.Str.{all_ascii_digits}
 use Rattle.text_parts.specs.declared.numbers.NumberWhy.{NumberWhy}
 use Rattle.text_parts.specs.declared.numbers.NumberWhy.TheVariants.{Value, Range}
@@ -10,8 +11,7 @@ is_number text = not (length text == 0) && all_ascii_digits text
 
 -- the number that digits write behind those of n
 abbrev pub number_after : ℕ → List ℕ → ℕ
-number_after n [] = n
-number_after n (digit ∷ digits) = number_after (10 * n + (digit - 48)) digits
+number_after n digits = fold (λ n digit. 10 * n + (digit - 48)) n digits
 
 -- the number that a text writes: Value where it isn't digits alone, Range where it has more than 19 or is outside
 abbrev pub number_in : ℕ → ℕ → List ℕ → Result ℕ NumberWhy
