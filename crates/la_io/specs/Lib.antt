@@ -4,5 +4,6 @@ pub mod Causes
 pub mod Grown
 pub mod Intake
 pub mod Kept
+pub mod Memory
 pub mod Onward
 pub mod Plans

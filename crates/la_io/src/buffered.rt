@@ -2,7 +2,7 @@
 ghost use Rattle.std.specs.Prelude.{◌≡◌, ◌≤◌, [], length, OnOk};
 ghost use Rattle.la_io.specs.Causes.{HasCause};
 
-use crate::held::Held;
+use crate::outgoing::Outgoing;
 use crate::{Failed, Sink};
 
 /// A buffer before a sink that was lent, and a sink itself. What it got is what the sink behind it got,
@@ -11,7 +11,7 @@ use crate::{Failed, Sink};
 #[derive(Drop)]
 pub struct Buffered<'a, K: Sink> {
     sink: &'a mut K,
-    held: Held,
+    held: Outgoing,
 }
 
 impl<'a, K: Sink> Buffered<'a, K> {
@@ -25,7 +25,7 @@ impl<'a, K: Sink> Buffered<'a, K> {
     {
         Buffered {
             sink,
-            held: Held::new(),
+            held: Outgoing::new(),
         }
     }
 

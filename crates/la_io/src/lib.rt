@@ -1,13 +1,13 @@
-//! What reaches outside: a source of bytes, a sink, their stand-ins in memory, and a buffer before a
-//! sink.
+//! What reaches outside: a source of bytes, a sink, their stand-ins in memory, a buffer behind a
+//! source and one before a sink.
 #![tactic(auto)]
 
 mod buffered;
 mod fault;
 mod give;
-mod held;
 mod intake;
 mod memory;
+mod outgoing;
 mod outside;
 mod standard;
 mod sure;
@@ -22,4 +22,4 @@ pub use memory::{MemSink, MemSource};
 pub use outside::{Failed, Sink, Source};
 pub use standard::{StdSink, StdSource};
 pub use sure::{SureSink, SureSource};
-pub use whole::{write_buffered, write_whole};
+pub use whole::write_whole;

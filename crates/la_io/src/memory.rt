@@ -3,7 +3,6 @@ ghost use Rattle.std.specs.Prelude.{◌≡◌, ◌≤◌, ◌<◌, ◌+◌, ◌=
 ghost use Rattle.std.specs.Io.{ReadsAtMost, WritesAtMost};
 ghost use Rattle.std.specs.Io.KnownBytes.{ReadConsumes, WriteAppends};
 ghost use Rattle.std.specs.Bool.{MatchBool};
-ghost use Rattle.la_io.specs.Kept.{bytes_of, left_in};
 ghost use Rattle.la_io.specs.Causes.{Rose, HasCause};
 ghost use Rattle.la_io.specs.Plans.{FailsExactly, is_listed, next_call, present};
 
@@ -14,6 +13,8 @@ use std::alloc::Global;
 
 /// Pieces of bytes in memory. A read gives at most what is left of the present piece; empty pieces
 /// are passed over. The calls of `read`, counted from 0, whose numbers are in `fails` answer `Failed`.
+/// `read` says how many bytes each call moves: contracts name the pieces (`pieces_of`) and the place in
+/// them (`place_of`) before and behind it.
 #[derive(Debug, Drop)]
 pub struct MemSource {
     pieces: Vec<Vec<u8>>,
@@ -25,11 +26,17 @@ pub struct MemSource {
 }
 
 impl MemSource {
+    ghost use Rattle.la_io.specs.Kept.{Place, bytes_of};
+    ghost use Rattle.la_io.specs.Memory.{pieces_of, place_of, source_fails, source_call};
+
     /// A source of these pieces, one after another, that hasn't failed yet.
     pub fn new(pieces: Vec<Vec<u8>>, fails: Vec<u64>) -> MemSource
         ensures left { ⟦<MemSource as Source>⟧.left result ≡ Some (bytes_of pieces.items) }
         ensures faults { ⟦<MemSource as Source>⟧.faults result ≡ 0 }
-        ensures plan { (result.fails.items ≡ fails.items) × (result.calls ≡ 0) }
+        ensures pieces { pieces_of result ≡ pieces.items }
+        ensures place { place_of result ≡ record { piece = 0; byte = 0 } }
+        ensures fails { source_fails result ≡ fails.items }
+        ensures call { source_call result ≡ 0 }
     {
         MemSource {
             pieces,
@@ -58,19 +65,23 @@ fn fails_now(fails: &[u64], calls: &mut u64, faults: &mut u64) -> bool
 }
 
 impl Source for MemSource {
-    ghost left = { λ s. Some (left_in s.pieces.items s.piece s.at) };
+    ghost use Rattle.la_io.specs.Kept.{left_in};
+    ghost use Rattle.la_io.specs.Memory.{pieces_of, place_of, source_fails, source_call, StandsBehind, SourceCalled};
+
+    ghost left = { λ s. Some (left_in (pieces_of s) (place_of s)) };
 
     ghost faults = { λ s. s.faults };
 
     fn read(&mut self, buf: &mut [u8]) -> Result<usize, Failed>
         ensures bound { ReadsAtMost result buf.new }
-        ensures bytes { ReadConsumes (Some (left_in self.old.pieces.items self.old.piece self.old.at)) (Some (left_in self.new.pieces.items self.new.piece self.new.at)) result buf.new }
+        ensures bytes { ReadConsumes (Some (left_in (pieces_of self.old) (place_of self.old))) (Some (left_in (pieces_of self.new) (place_of self.new))) result buf.new }
         ensures cause { HasCause self.old.faults self.new.faults result }
         // Failed comes exactly where the call's number is one of those that fail.
-        ensures fails { FailsExactly (is_listed self.old.fails.items self.old.calls) result }
+        ensures fails { FailsExactly (is_listed (source_fails self.old) (source_call self.old)) result }
         // Else as much is given as the present piece has and the buffer takes.
-        ensures count { IfOk result (λ count. count ≡ min (present self.old.pieces.items self.old.piece self.old.at) (length buf.old)) }
-        ensures plan { (self.new.fails.items ≡ self.old.fails.items) × (self.new.calls ≡ next_call self.old.calls) }
+        ensures count { IfOk result (λ count. count ≡ min (present (pieces_of self.old) (place_of self.old)) (length buf.old)) }
+        ensures place { StandsBehind self.old self.new result }
+        ensures called { SourceCalled self.old self.new }
     {
         if fails_now(&self.fails, &mut self.calls, &mut self.faults) {
             return Err(Failed);
@@ -104,6 +115,8 @@ pub struct MemSink {
 }
 
 impl MemSink {
+    ghost use Rattle.la_io.specs.Memory.{sink_most, sink_room, sink_fails, sink_call};
+
     /// A sink with room for `room` bytes, for which it takes memory at once, that got none and hasn't
     /// failed yet.
     pub fn new(
@@ -115,7 +128,10 @@ impl MemSink {
         requires { 1 ≤ most }
         ensures written { IfOk result (λ sink. ⟦<MemSink as Sink>⟧.written sink ≡ Some []) }
         ensures faults { IfOk result (λ sink. ⟦<MemSink as Sink>⟧.faults sink ≡ 0) }
-        ensures plan { IfOk result (λ sink. (sink.most ≡ most) × (sink.fails.items ≡ fails.items) × (sink.room ≡ room) × (sink.calls ≡ 0)) }
+        ensures most { IfOk result (λ sink. sink_most sink ≡ most) }
+        ensures room { IfOk result (λ sink. sink_room sink ≡ room) }
+        ensures fails { IfOk result (λ sink. sink_fails sink ≡ fails.items) }
+        ensures call { IfOk result (λ sink. sink_call sink ≡ 0) }
     {
         Ok(MemSink {
             bytes: Vec::with_capacity(alloc, room)?,
@@ -136,6 +152,8 @@ impl MemSink {
 }
 
 impl Sink for MemSink {
+    ghost use Rattle.la_io.specs.Memory.{sink_most, sink_room, sink_fails, sink_call, SinkCalled};
+
     ghost written = { λ s. Some s.bytes.items };
 
     ghost faults = { λ s. s.faults };
@@ -154,10 +172,10 @@ impl Sink for MemSink {
         ensures cause { HasCause self.old.faults self.new.faults result }
         ensures goes_on { Unit {0} }
         // Failed comes exactly where the call's number is one of those that fail, or no room is left.
-        ensures fails { FailsExactly (is_listed self.old.fails.items self.old.calls || self.old.room == 0) result }
+        ensures fails { FailsExactly (is_listed (sink_fails self.old) (sink_call self.old) || sink_room self.old == 0) result }
         // Else as much is taken as it takes at once and has room for.
-        ensures count { IfOk result (λ count. (count ≡ min (length bytes.now) (min self.old.most self.old.room)) × (count + self.new.room ≡ self.old.room)) }
-        ensures plan { (self.new.most ≡ self.old.most) × (self.new.fails.items ≡ self.old.fails.items) × (self.new.calls ≡ next_call self.old.calls) }
+        ensures count { IfOk result (λ count. (count ≡ min (length bytes.now) (min (sink_most self.old) (sink_room self.old))) × (count + sink_room self.new ≡ sink_room self.old)) }
+        ensures called { SinkCalled self.old self.new }
     {
         if fails_now(&self.fails, &mut self.calls, &mut self.faults) {
             return Err(Failed);

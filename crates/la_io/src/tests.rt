@@ -33,14 +33,10 @@ fn a_piece_is_written_in_parts(rt: HostRuntime) -> Result<(), Fail> {
         (1, [0].as_slice(), 8, "", false),
         (2, [].as_slice(), 5, "abcde", false),
     ] {
-        let mut plain = sink_of(&rt, rt.alloc(), most, fails, room)?;
-        let result = write_whole(&mut plain, b"abcdef");
+        let mut sink = sink_of(&rt, rt.alloc(), most, fails, room)?;
+        let result = write_whole(&mut sink, b"abcdef");
         assert_eq!(rt; result.is_ok(), done, "{want}");
-        assert_eq!(rt; plain.written(), want.as_bytes());
-        let mut behind = sink_of(&rt, rt.alloc(), most, fails, room)?;
-        let result = write_buffered(&mut behind, b"abcdef");
-        assert_eq!(rt; result.is_ok(), done, "{want}");
-        assert_eq!(rt; behind.written(), want.as_bytes());
+        assert_eq!(rt; sink.written(), want.as_bytes());
     }
     Ok(())
 }
@@ -82,24 +78,51 @@ fn a_failed_write_into_a_full_buffer(rt: HostRuntime) -> Result<(), Fail> {
     Ok(())
 }
 
+fn source_of(alloc: Global, texts: &[&str], fails: &[u64]) -> Result<MemSource, NoMemory> {
+    let mut pieces = Vec::new(alloc);
+    for text in texts {
+        pieces.push(text.as_bytes().to_vec(alloc)?)?;
+    }
+    Ok(MemSource::new(pieces, fails.to_vec(alloc)?))
+}
+
 #[test]
 fn pieces_are_read_with_a_failure_between(rt: HostRuntime) -> Result<(), Fail> {
-    let alloc = rt.alloc();
-    let mut pieces = Vec::new(alloc);
-    pieces.push(b"ab".to_vec(alloc)?)?;
-    pieces.push(Vec::new(alloc))?;
-    pieces.push(b"cde".to_vec(alloc)?)?;
-    let mut source = MemSource::new(pieces, [1, 3].to_vec(alloc)?);
+    let mut source = source_of(rt.alloc(), &["ab", "", "cde"], &[1, 3])?;
     let mut buf = [0; 2];
-    assert_eq!(rt; source.read(&mut buf), Ok(2));
-    assert_eq!(rt; buf.as_slice(), b"ab".as_slice());
-    assert_eq!(rt; source.read(&mut buf), Err(Failed));
-    assert_eq!(rt; source.read(&mut buf), Ok(2));
-    assert_eq!(rt; buf.as_slice(), b"cd".as_slice());
-    assert_eq!(rt; source.read(&mut buf), Err(Failed));
-    assert_eq!(rt; source.read(&mut buf), Ok(1));
-    assert_eq!(rt; buf[0], b'e');
-    assert_eq!(rt; source.read(&mut buf), Ok(0));
+    for (answer, given) in [
+        (Ok(2), "ab"),
+        (Err(Failed), ""),
+        (Ok(2), "cd"),
+        (Err(Failed), ""),
+        (Ok(1), "e"),
+        (Ok(0), ""),
+    ] {
+        assert_eq!(rt; source.read(&mut buf), answer);
+        assert!(rt; buf.starts_with(given.as_bytes()));
+    }
+    Ok(())
+}
+
+#[test]
+fn what_was_not_let_go_is_still_held(rt: HostRuntime) -> Result<(), Fail> {
+    let mut source = source_of(rt.alloc(), &["abc", "", "defg"], &[2])?;
+    let mut intake = Intake::<4>::new();
+    // how many bytes are let go before a read, its answer, and what is held behind it
+    for (used, answer, held) in [
+        (0, Ok(3), "abc"),
+        (2, Ok(3), "cdef"),
+        (1, Err(Failed), "def"),
+        (1, Ok(1), "efg"),
+        (3, Ok(0), ""),
+    ] {
+        assert!(rt; used <= intake.bytes().len());
+        intake.advance(used);
+        assert!(rt; intake.bytes().len() < 4 && intake.taken() < MOST_BYTES);
+        assert_eq!(rt; intake.more(&mut source), answer, "{held}");
+        assert_eq!(rt; intake.bytes(), held.as_bytes());
+    }
+    assert_eq!(rt; intake.taken(), 7);
     Ok(())
 }
 

@@ -3,7 +3,7 @@ ghost use Rattle.std.specs.Prelude.{◌≡◌, OnOk};
 ghost use Rattle.std.specs.Io.KnownBytes.{Appends};
 ghost use Rattle.la_io.specs.Causes.{HasCause, AppendsFront};
 
-use crate::{Buffered, Failed, Sink};
+use crate::{Failed, Sink};
 
 /// Writes the whole piece, by as many calls as needed. After `Failed` a front of it is written.
 pub fn write_whole<K: Sink>(sink: &mut K, bytes: &[u8]) -> Result<(), Failed>
@@ -18,22 +18,4 @@ pub fn write_whole<K: Sink>(sink: &mut K, bytes: &[u8]) -> Result<(), Failed>
         done += count;
     }
     Ok(())
-}
-
-/// Writes a piece through a buffer of its own, and hands it on before it answers. After `Failed` a
-/// front of it is written.
-pub fn write_buffered<K: Sink>(sink: &mut K, bytes: &[u8]) -> Result<(), Failed>
-    ensures whole { OnOk result (Appends (K.written sink.old) (K.written sink.new) bytes.now) }
-    ensures front { AppendsFront (K.written sink.old) (K.written sink.new) bytes.now }
-    ensures cause { HasCause (K.faults sink.old) (K.faults sink.new) result }
-    ensures goes_on { K.goes_on sink.old sink.new }
-{
-    let mut buffered = Buffered::new(sink);
-    match write_whole(&mut buffered, bytes) {
-        Ok(()) => match buffered.flush() {
-            Ok(()) => Ok(()),
-            Err(Failed) => Err(Failed),
-        },
-        Err(Failed) => Err(Failed),
-    }
 }

@@ -1,8 +1,8 @@
 use Rattle.std.proofs.Common.{◌≡◌, ◌-◌, ◌≤◌, ℕ, List, ◌++◌, take, length, sym, subst, ◌∙◌, ap, arith, slice_range}
 use Rattle.la_io.proofs.Filling.{filled, none_between}
-use Rattle.la_io.specs.declared.held.Held.TheInside.{Inside}
-use Rattle.la_io.proofs.held.Held.append.Goals as goal
-use Rattle.la_io.proofs.held.Held.append.Goals.{then-self, else-self}
+use Rattle.la_io.specs.declared.outgoing.Outgoing.TheInside.{Inside}
+use Rattle.la_io.proofs.outgoing.Outgoing.append.Goals as goal
+use Rattle.la_io.proofs.outgoing.Outgoing.append.Goals.{then-self, else-self}
 
 pub returns-clause-appended : goal.returns-clause-appended
 returns-clause-appended c =

@@ -5,31 +5,31 @@ use crate::give::give;
 use std::marker::Model;
 
 /// The most bytes that wait.
-pub const MOST_HELD: usize = 16384;
+pub const MOST_WAITING: usize = 16384;
 
-/// Bytes in the order in which they came, at most `MOST_HELD`. Contracts see the list of them.
+/// Bytes in the order in which they came, at most `MOST_WAITING`. Contracts see the list of them.
 #[derive(Drop)]
-pub struct Held {
-    buffer: [u8; MOST_HELD],
+pub struct Outgoing {
+    buffer: [u8; MOST_WAITING],
     start: usize,
     end: usize,
 }
 
-impl Model for Held {
+impl Model for Outgoing {
     ghost Value = { List ℕ };
 
-    ghost view = { λ held. slice_range held.buffer held.start held.end };
+    ghost view = { λ s. slice_range s.buffer s.start s.end };
 
-    ghost invariant = { λ held. (held.start ≤ held.end) × (held.end ≤ 16384) };
+    ghost invariant = { λ s. (s.start ≤ s.end) × (s.end ≤ 16384) };
 }
 
-impl Held {
+impl Outgoing {
     /// No bytes.
-    pub fn new() -> Held
+    pub fn new() -> Outgoing
         ensures { result ≡ [] }
     {
-        Held {
-            buffer: [0; MOST_HELD],
+        Outgoing {
+            buffer: [0; MOST_WAITING],
             start: 0,
             end: 0,
         }
@@ -52,7 +52,7 @@ impl Held {
     }
 
     /// Appends as much of `bytes` as fits, and answers how much that was. Where none waited before,
-    /// `MOST_HELD` bytes fit.
+    /// `MOST_WAITING` bytes fit.
     pub fn append(&mut self, bytes: &[u8]) -> usize
         ensures within { result ≤ length bytes.now }
         ensures appended { self.new ≡ self.old ++ take result bytes.now }

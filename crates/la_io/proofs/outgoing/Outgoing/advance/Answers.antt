@@ -1,6 +1,6 @@
 use Rattle.std.proofs.Common.{◌+◌, ◌-◌, ◌≤◌, ℕ, List, drop, length, ◌∙◌, ap, arith, length-take}
 use Rattle.la_io.proofs.Filling.{let_go}
-use Rattle.la_io.proofs.held.Held.advance.Goals as goal
+use Rattle.la_io.proofs.outgoing.Outgoing.advance.Goals as goal
 
 pub returns : goal.returns
 returns c =
