@@ -4,6 +4,7 @@ pub mod Runs
 pub mod StandingLemmas
 pub mod ChainLemmas
 pub mod PinLemmas
+mod AllStops
 pub mod BoundLemmas
 pub mod HoldLemmas
 pub mod WordLemmas

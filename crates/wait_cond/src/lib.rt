@@ -8,6 +8,7 @@ mod faults;
 mod laws;
 mod lines;
 mod met;
+mod plain;
 mod read;
 mod scan;
 mod standing;
@@ -20,6 +21,7 @@ pub use laws::{
     a_wait_has_one_stop, bound_terms_are_what_is_met, samples_have_one_list_of_stops,
     samples_make_the_waiter, stops_go_on_with_samples,
 };
+pub use plain::all_stops;
 pub use read::read_alt;
 pub use scan::{Scan, Waiter};
 pub use words::{AltWords, CondError, CondFault, CondWhy, Letter, Term};
