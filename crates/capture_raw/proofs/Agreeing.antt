@@ -110,20 +110,6 @@ all_block mask first bytes count block within so_far next =
 pub all_first : (mask : ℕ) (bytes : List ℕ) → AllAgree mask (get_or bytes 0 0) bytes 1
 all_first mask bytes k below i is = let at : k ≡ 0 = omega (arith, below) in ap (λ (n : ℕ). bit_at (get_or bytes n 0) i) at
 
-at_rest : (xs : List ℕ) (n k : ℕ) → get_or (take (length xs - n) (drop n xs)) k 0 ≡ get_or xs (n + k) 0
-at_rest xs n k = ap (λ (l : List ℕ). get_or l k 0) (take_rest xs n) ∙ get_or-drop n xs k 0
-
--- a first byte, blocks behind it, and bytes behind those
-pub all_behind : (mask : ℕ) (bytes : List ℕ) (blocks more : ℕ)
-    → AllAgree mask (get_or bytes 0 0) (take (length bytes - 1) (drop 1 bytes)) blocks
-    → AllAgree mask (get_or bytes 0 0) (take (length (take (length bytes - 1) (drop 1 bytes)) - blocks) (drop blocks (take (length bytes - 1) (drop 1 bytes)))) more
-    → AllAgree mask (get_or bytes 0 0) bytes (1 + blocks + more)
-all_behind mask bytes blocks more first second =
-    let rest = take (length bytes - 1) (drop 1 bytes) in
-    let behind = all_on mask (get_or bytes 0 0) rest (take (length rest - blocks) (drop blocks rest)) blocks more (λ k below. at_rest rest blocks k) first second in
-    let total : 1 + (blocks + more) ≡ 1 + blocks + more = omega arith in
-    subst (λ (n : ℕ). AllAgree mask (get_or bytes 0 0) bytes n) total (all_on mask (get_or bytes 0 0) bytes rest 1 (blocks + more) (λ k below. at_rest bytes 1 k) (all_first mask bytes) behind)
-
 -- a byte as the number of its unit
 byte_number : (bytes : List ℕ) (k : ℕ) → k < length bytes → number (take 1 (drop k bytes)) ≡ get_or bytes k 0
 byte_number bytes k below = ap (λ (l : List ℕ). number (take 1 l)) (drop_more bytes k 0 below) ∙ omega arith

@@ -11,6 +11,9 @@ const BLOCK: usize = 64;
 // How many bytes are compared at once under a mask.
 const SHORT_BLOCK: usize = 32;
 
+// How many bytes are looked at one by one before that.
+const NEAR: usize = 16;
+
 /// How many units at the front give the same sample, for pins whose bits `mask` has.
 pub fn alike_units(bytes: &[u8], unit: usize, mask: Word) -> usize
     requires some { 0 < unit }
@@ -23,6 +26,19 @@ pub fn alike_units(bytes: &[u8], unit: usize, mask: Word) -> usize
     if unit == 1 {
         return alike_bytes(bytes, (mask & 0xff) as u8);
     }
+    alike_wide(bytes, unit, mask)
+}
+
+// The same for units of several bytes.
+#[inline(never)]
+fn alike_wide(bytes: &[u8], unit: usize, mask: Word) -> usize
+    requires some { 0 < unit }
+    requires few { unit ≤ MOST_UNIT }
+    requires whole { unit ≤ length bytes.now }
+    ensures some { 1 ≤ result }
+    ensures within { result * unit ≤ length bytes.now }
+    ensures same { SameSamples unit mask bytes.now result }
+{
     let equal = equal_front(bytes, &bytes[unit..]);
     // Dividing takes long.
     if equal < unit {
@@ -80,21 +96,37 @@ fn alike_bytes(bytes: &[u8], mask: u8) -> usize
     ensures alike { AllAgree mask (slice_index bytes.now 0) bytes.now result }
 {
     let first = bytes[0];
-    let rest = &bytes[1..];
-    // Often the first neighbour differs.
-    if rest.is_empty() || (rest[0] ^ first) & mask != 0 {
-        return 1;
+    let near = bytes.len().min(NEAR);
+    let count = agreeing_bytes(bytes, first, mask, 1, near);
+    if count < near {
+        return count;
     }
-    let blocks = agreeing_blocks(rest, first, mask);
-    1 + blocks + agreeing_bytes(&rest[blocks..], first, mask)
+    agreeing_far(bytes, first, mask, count)
 }
 
-// How many bytes at the front agree with `first`, by whole blocks.
-fn agreeing_blocks(bytes: &[u8], first: u8, mask: u8) -> usize
+// Goes on behind `known` bytes that agree with `first`, by blocks. It isn't inlined, since most runs
+// are short.
+#[inline(never)]
+fn agreeing_far(bytes: &[u8], first: u8, mask: u8, known: usize) -> usize
+    requires within { known ≤ length bytes.now }
+    requires agree { AllAgree mask first bytes.now known }
+    ensures more { known ≤ result }
     ensures within { result ≤ length bytes.now }
     ensures agree { AllAgree mask first bytes.now result }
 {
-    let mut done = 0;
+    let blocks = agreeing_blocks(bytes, first, mask, known);
+    agreeing_bytes(bytes, first, mask, blocks, bytes.len())
+}
+
+// Goes on behind `known` bytes that agree with `first`, by whole blocks.
+fn agreeing_blocks(bytes: &[u8], first: u8, mask: u8, known: usize) -> usize
+    requires within { known ≤ length bytes.now }
+    requires agree { AllAgree mask first bytes.now known }
+    ensures more { known ≤ result }
+    ensures within { result ≤ length bytes.now }
+    ensures agree { AllAgree mask first bytes.now result }
+{
+    let mut done = known;
     while bytes.len() - done >= SHORT_BLOCK {
         if !block_agrees(&bytes[done..done + SHORT_BLOCK], first, mask) {
             return done;
@@ -117,13 +149,17 @@ fn block_agrees(bytes: &[u8], first: u8, mask: u8) -> bool
     different & mask == 0
 }
 
-// How many bytes at the front agree with `first`, byte by byte.
-fn agreeing_bytes(bytes: &[u8], first: u8, mask: u8) -> usize
-    ensures within { result ≤ length bytes.now }
+// Goes on behind `known` bytes that agree with `first`, byte by byte, and not past `end`.
+fn agreeing_bytes(bytes: &[u8], first: u8, mask: u8, known: usize, end: usize) -> usize
+    requires order { known ≤ end }
+    requires within { end ≤ length bytes.now }
+    requires agree { AllAgree mask first bytes.now known }
+    ensures more { known ≤ result }
+    ensures within { result ≤ end }
     ensures agree { AllAgree mask first bytes.now result }
 {
-    let mut done = 0;
-    while done < bytes.len() && (bytes[done] ^ first) & mask == 0 {
+    let mut done = known;
+    while done < end && (bytes[done] ^ first) & mask == 0 {
         done += 1;
     }
     done

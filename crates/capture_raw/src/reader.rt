@@ -136,7 +136,27 @@ impl RawReader {
     /// joins neighbouring units that give the same sample, as far as they are held: where units
     /// differ in channels alone that no pin selects, they are one run. After every answer but a run
     /// it is closed. `Failed` comes where the source failed, after all samples that came before.
+    #[inline]
     pub fn next<S: Source>(&mut self, source: &mut S) -> Result<RawStep, Failed>
+        requires { raw_open self.old ≡ true }
+        ensures next { Next self.old self.new (S.left source.old) (S.left source.new) result }
+        ensures is_open { raw_open self.new ≡ stays_open result }
+        ensures form { SameForm self.old self.new }
+        ensures progress { IfRun result (λ run. raw_given self.old + run.len ≤ raw_given self.new) }
+        ensures few { raw_given self.new ≤ 2 ^ 60 }
+        ensures prompt { raw_unit self.old ≤ length (raw_held self.old) → source.new ≡ source.old }
+        ensures cause { HasCause (S.faults source.old) (S.faults source.new) result }
+    {
+        let unit = self.unit();
+        if self.held.bytes().len() < unit {
+            return self.read_on(source);
+        }
+        Ok(RawStep::Run(self.run(unit)))
+    }
+
+    // The same where less than a unit is held. It isn't inlined, since mostly more is.
+    #[inline(never)]
+    fn read_on<S: Source>(&mut self, source: &mut S) -> Result<RawStep, Failed>
         requires { raw_open self.old ≡ true }
         ensures next { Next self.old self.new (S.left source.old) (S.left source.new) result }
         ensures is_open { raw_open self.new ≡ stays_open result }

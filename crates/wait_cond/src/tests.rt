@@ -1,234 +1,45 @@
 // Worked by hand from what each letter means.
-ghost use Rattle.std.specs.Prelude.{◌≤◌, ◌<◌};
+ghost use Rattle.std.specs.Prelude.{◌≤◌};
 
 use crate::{
     Alt, AltWords, BindWhy, Cond, CondError, CondFault, CondWhy, ItemFault, Letter, Scan, Term,
-    Waiter, bind_alt, read_alt,
+    Waiter, all_stops, bind_alt, read_alt,
 };
 use la_base::{MOST_PINS, Names, Pins, Run, Word};
-use std::alloc::Global;
+use std::alloc::{AllocError, Global};
 use std::process::Abort;
 use std::test::Fail;
 
-// The most samples of a list that is read sample by sample.
-const MOST: usize = 6;
+// More samples than come before a run, or in one.
+const FAR: u64 = 1 << 59;
 
-// For each sample of a list the set of the alternatives that are met where it is a stop, and else 0.
-type Stops = [u8; MOST];
+const LETTERS: [Letter; 6] = [
+    Letter::Low,
+    Letter::High,
+    Letter::Rise,
+    Letter::Fall,
+    Letter::Edge,
+    Letter::Steady,
+];
 
-fn alt(letter: Letter, mask: Word, skip: u64) -> Alt {
-    let mut alt = Alt {
-        low: 0,
-        high: 0,
-        rise: 0,
-        fall: 0,
-        edge: 0,
-        steady: 0,
-        skip,
-    };
+// The alternative that asks a letter of these lines besides.
+fn asks(alt: Alt, letter: Letter, lines: Word) -> Alt {
+    let mut more = alt;
     match letter {
-        Letter::Low => alt.low = mask,
-        Letter::High => alt.high = mask,
-        Letter::Rise => alt.rise = mask,
-        Letter::Fall => alt.fall = mask,
-        Letter::Edge => alt.edge = mask,
-        Letter::Steady => alt.steady = mask,
+        Letter::Low => more.low = lines,
+        Letter::High => more.high = lines,
+        Letter::Rise => more.rise = lines,
+        Letter::Fall => more.fall = lines,
+        Letter::Edge => more.edge = lines,
+        Letter::Steady => more.steady = lines,
     }
-    alt
+    more
 }
 
-// The places of all stops in a list of runs, as bits of a number.
-fn stops(cond: Cond, runs: &[(Word, u64)]) -> u64 {
-    let mut waiter = Waiter::new(cond);
-    let mut places = 0;
-    for (value, len) in runs {
-        if *len == 0 || 8 < *len || 50 < waiter.consumed() {
-            return 0;
-        }
-        let mut next = Some(Run {
-            value: *value,
-            len: *len,
-        });
-        for _ in 0..9 {
-            let Some(run) = next else {
-                break;
-            };
-            if 50 < waiter.consumed() || 8 < run.len {
-                return 0;
-            }
-            match waiter.scan(run) {
-                Scan::Met { at, rest, .. } => {
-                    if 60 < at {
-                        return 0;
-                    }
-                    places |= 1 << at;
-                    next = rest;
-                }
-                Scan::Through => next = None,
-            }
-        }
-    }
-    places
-}
-
-#[test]
-fn each_letter_on_two_runs(rt: HostRuntime) {
-    // Samples 1 1 0 0 1 of line 0.
-    let runs = [(1, 2), (0, 2), (1, 1)];
-    assert_eq!(rt; stops(Cond::one(alt(Letter::Low, 1, 0)), &runs), 0b01100);
-    assert_eq!(rt; stops(Cond::one(alt(Letter::High, 1, 0)), &runs), 0b10011);
-    assert_eq!(rt; stops(Cond::one(alt(Letter::Rise, 1, 0)), &runs), 0b10000);
-    assert_eq!(rt; stops(Cond::one(alt(Letter::Fall, 1, 0)), &runs), 0b00100);
-    assert_eq!(rt; stops(Cond::one(alt(Letter::Edge, 1, 0)), &runs), 0b10100);
-    assert_eq!(rt; stops(Cond::one(alt(Letter::Steady, 1, 0)), &runs), 0b01011);
-}
-
-#[test]
-fn skips_count_from_the_last_stop(rt: HostRuntime) {
-    // Before the first stop from place -1: 2, and then each third sample.
-    let third = Cond::one(alt(Letter::Low, 0, 3));
-    assert_eq!(rt; stops(third, &[(0, 4), (0, 5)]), 0b100_100_100);
-    let high = Cond::one(alt(Letter::High, 1, 2));
-    assert_eq!(rt; stops(high, &[(1, 1), (0, 2), (1, 3)]), 0b101_000);
-}
-
-#[test]
-fn stops_inside_a_run_with_all_alternatives_that_are_met(rt: HostRuntime) {
-    let mut cond = Cond::one(alt(Letter::High, 2, 0));
-    cond.add(alt(Letter::Low, 1, 0));
-    cond.add(alt(Letter::Rise, 2, 3));
-    assert_eq!(rt; cond.count(), 3);
-    let mut waiter = Waiter::new(cond);
-    assert_eq!(rt; waiter.scan(Run { value: 1, len: 3 }), Scan::Through);
-    let met = Scan::Met {
-        at: 3,
-        value: 2,
-        met: 0b111,
-        rest: Some(Run { value: 2, len: 4 }),
-    };
-    assert_eq!(rt; waiter.scan(Run { value: 2, len: 5 }), met);
-    assert_eq!(rt; waiter.consumed(), 4);
-}
-
-// Where a fresh waiter stops in 2^59 equal samples.
-fn stop_in_a_long_run(cond: Cond) -> Option<(u64, u8, Option<Run>)> {
-    let run = Run {
-        value: 0,
-        len: 1 << 59,
-    };
-    match Waiter::new(cond).scan(run) {
-        Scan::Met { at, met, rest, .. } => Some((at, met, rest)),
-        Scan::Through => None,
-    }
-}
-
-#[test]
-fn a_long_run_takes_no_longer(rt: HostRuntime) {
-    assert_eq!(rt;
-        stop_in_a_long_run(Cond::one(alt(Letter::Rise, 1, 0))),
-        None
-    );
-    assert_eq!(rt;
-        stop_in_a_long_run(Cond::one(alt(Letter::Low, 1, u64::MAX))),
-        None
-    );
-    let too_far = Cond::one(alt(Letter::Low, 1, (1 << 59) + 1));
-    assert_eq!(rt; stop_in_a_long_run(too_far), None);
-    let at_the_last = Cond::one(alt(Letter::Low, 1, 1 << 59));
-    let last = ((1 << 59) - 1, 0b1, None);
-    assert_eq!(rt; stop_in_a_long_run(at_the_last), Some(last));
-    let mut cond = Cond::one(alt(Letter::Low, 1, 1 << 40));
-    cond.add(alt(Letter::High, 1, 3));
-    cond.add(alt(Letter::Steady, 1, 1 << 30));
-    cond.add(alt(Letter::Low, 3, 1 << 30));
-    let rest = Run {
-        value: 0,
-        len: (1 << 59) - (1 << 30),
-    };
-    let soonest = ((1 << 30) - 1, 0b1100, Some(rest));
-    assert_eq!(rt; stop_in_a_long_run(cond), Some(soonest));
-}
-
-// Whether what a letter asks of a line is so.
-fn letter_holds(letter: Letter, line: u32, before: Option<Word>, now: Word) -> bool
-    requires { line < 64 }
-{
-    let is_high = has_line(now, line);
-    let was_high = match before {
-        Some(before) => Some(has_line(before, line)),
-        None => None,
-    };
-    match letter {
-        Letter::Low => !is_high,
-        Letter::High => is_high,
-        Letter::Rise => was_high == Some(false) && is_high,
-        Letter::Fall => was_high == Some(true) && !is_high,
-        Letter::Edge => was_high == Some(!is_high),
-        Letter::Steady => was_high != Some(!is_high),
-    }
-}
-
-fn has_line(lines: Word, line: u32) -> bool
-    requires { line < 64 }
-{
-    lines >> line & 1 == 1
-}
-
-// Whether all letters of an alternative hold.
-fn letters_hold(alt: &Alt, before: Option<Word>, now: Word) -> bool {
-    let asked = [
-        (Letter::Low, alt.low),
-        (Letter::High, alt.high),
-        (Letter::Rise, alt.rise),
-        (Letter::Fall, alt.fall),
-        (Letter::Edge, alt.edge),
-        (Letter::Steady, alt.steady),
-    ];
-    for (letter, lines) in asked {
-        for line in 0..2 {
-            if has_line(lines, line) && !letter_holds(letter, line, before, now) {
-                return false;
-            }
-        }
-    }
-    true
-}
-
-// How far a sample lies behind the last stop; before the first stop that is counted from place -1.
-fn behind_stop(stop: Option<usize>, at: usize) -> Option<usize> {
-    match stop {
-        Some(stop) => at.checked_sub(stop),
-        None => at.checked_add(1),
-    }
-}
-
-// The set of the alternatives that are met at a sample.
-fn plain_set(alts: &[Alt], before: Option<Word>, now: Word, behind: usize) -> u8 {
-    let mut set = 0;
-    for place in 0..8 {
-        let Some(alt) = alts.get(place) else {
-            break;
-        };
-        if alt.skip <= behind as u64 && letters_hold(alt, before, now) {
-            set |= 1 << place;
-        }
-    }
-    set
-}
-
-// All stops of a list of samples, sample by sample.
-fn plain_stops(alts: &[Alt], samples: &[Word]) -> Option<Stops> {
-    let mut stops = [0; MOST];
-    let mut before = None;
-    let mut last_stop = None;
-    for (place, (set, now)) in stops.iter_mut().zip(samples).enumerate() {
-        *set = plain_set(alts, before, *now, behind_stop(last_stop, place)?);
-        if *set != 0 {
-            last_stop = Some(place);
-        }
-        before = Some(*now);
-    }
-    Some(stops)
+fn alt(letter: Letter, lines: Word, skip: u64) -> Alt {
+    let mut alt = Alt::default();
+    alt.skip = skip;
+    asks(alt, letter, lines)
 }
 
 fn cond_of(alts: &[Alt]) -> Option<Cond> {
@@ -243,132 +54,160 @@ fn cond_of(alts: &[Alt]) -> Option<Cond> {
     Some(cond)
 }
 
-// All stops of a list of samples that a waiter gets as runs of at most `most`.
-fn scanned_stops(alts: &[Alt], samples: &[Word], most: usize) -> Option<Stops>
+// The stops in a list of runs, from each run the first ones, at most `most`.
+fn scanned(
+    rt: &impl Abort,
+    alloc: Global,
+    alts: &[Alt],
+    runs: &[(Word, u64)],
+    most: u32,
+) -> Result<Vec<(u64, u8)>, Fail> {
+    let mut waiter = Waiter::new(cond_of(alts).ok_or("no alternative")?);
+    let mut stops = Vec::new(alloc);
+    for (value, len) in runs {
+        assert!(rt; 0 < *len);
+        let mut next = Some(Run {
+            value: *value,
+            len: *len,
+        });
+        for _ in 0..most {
+            let Some(run) = next else {
+                break;
+            };
+            assert!(rt; waiter.consumed() <= FAR && run.len <= FAR);
+            match waiter.scan(run) {
+                Scan::Met { at, met, rest, .. } => {
+                    stops.push((at, met))?;
+                    next = rest;
+                }
+                Scan::Through => next = None,
+            }
+        }
+    }
+    Ok(stops)
+}
+
+#[test]
+fn stops_of_runs(rt: HostRuntime) -> Result<(), Fail> {
+    // samples 1 1 0 0 1 of line 0
+    let both: &[(Word, u64)] = &[(1, 2), (0, 2), (1, 1)];
+    let long: &[(Word, u64)] = &[(0, 1 << 59)];
+    let cases: [(&[Alt], &[(Word, u64)], &[(u64, u8)]); 13] = [
+        (&[alt(Letter::Low, 1, 0)], both, &[(2, 1), (3, 1)]),
+        (&[alt(Letter::High, 1, 0)], both, &[(0, 1), (1, 1), (4, 1)]),
+        (&[alt(Letter::Rise, 1, 0)], both, &[(4, 1)]),
+        (&[alt(Letter::Fall, 1, 0)], both, &[(2, 1)]),
+        (&[alt(Letter::Edge, 1, 0)], both, &[(2, 1), (4, 1)]),
+        (
+            &[alt(Letter::Steady, 1, 0)],
+            both,
+            &[(0, 1), (1, 1), (3, 1)],
+        ),
+        // before the first stop from place -1: 2, and then each third sample
+        (
+            &[alt(Letter::Low, 0, 3)],
+            &[(0, 4), (0, 5)],
+            &[(2, 1), (5, 1), (8, 1)],
+        ),
+        (
+            &[alt(Letter::High, 1, 2)],
+            &[(1, 1), (0, 2), (1, 3)],
+            &[(3, 1), (5, 1)],
+        ),
+        // all alternatives that are met
+        (
+            &[
+                alt(Letter::High, 2, 0),
+                alt(Letter::Low, 1, 0),
+                alt(Letter::Rise, 2, 3),
+            ],
+            &[(1, 3), (2, 3)],
+            &[(3, 0b111), (4, 0b011), (5, 0b011)],
+        ),
+        // a long run takes no longer
+        (&[alt(Letter::Rise, 1, 0)], long, &[]),
+        (&[alt(Letter::Low, 1, u64::MAX)], long, &[]),
+        (&[alt(Letter::Low, 1, 1 << 59)], long, &[((1 << 59) - 1, 1)]),
+        (
+            &[
+                alt(Letter::Low, 1, 1 << 40),
+                alt(Letter::High, 1, 3),
+                alt(Letter::Steady, 1, 1 << 58),
+            ],
+            long,
+            &[
+                ((1 << 40) - 1, 0b001),
+                ((1 << 41) - 1, 0b001),
+                (3 * (1 << 40) - 1, 0b001),
+            ],
+        ),
+    ];
+    for (alts, runs, stops) in cases {
+        assert_eq!(rt;
+            scanned(&rt, rt.alloc(), alts, runs, 3)?.as_slice(),
+            stops,
+            "{alts:?} at {runs:?}"
+        );
+    }
+    Ok(())
+}
+
+// Samples as runs of at most `most`.
+fn runs_of(alloc: Global, samples: &[Word], most: usize) -> Result<Vec<(Word, u64)>, Fail>
     requires { 1 ≤ most }
 {
-    let mut waiter = Waiter::new(cond_of(alts)?);
-    let mut stops = [0; MOST];
+    let mut runs = Vec::new(alloc);
     for equal in samples.chunk_by(|a, b| a == b) {
         for piece in equal.chunks(most) {
-            scan_piece(&mut waiter, piece, &mut stops)?;
+            let value = *piece.first().ok_or("no sample")?;
+            runs.push((value, piece.len() as u64))?;
         }
     }
-    if waiter.consumed() != samples.len() as u64 {
-        return None;
-    }
-    Some(stops)
+    Ok(runs)
 }
 
-// Scans equal samples as one run, up to its end.
-fn scan_piece(waiter: &mut Waiter, samples: &[Word], stops: &mut Stops) -> Option<()> {
-    let mut next = Some(Run {
-        value: *samples.first()?,
-        len: samples.len() as u64,
-    });
-    for _ in 0..=MOST {
-        let Some(run) = next else {
-            return Some(());
-        };
-        if 50 < waiter.consumed() || run.len > MOST as u64 {
-            return None;
-        }
-        match waiter.scan(run) {
-            Scan::Met {
-                at,
-                value,
-                met,
-                rest,
-            } => {
-                if value != run.value {
-                    return None;
-                }
-                *stops.get_mut(at as usize)? = met;
-                next = rest;
-            }
-            Scan::Through => next = None,
-        }
+// Compares the stops of samples that come as runs, whole ones and cut ones, with the definition.
+fn compare(rt: &impl Abort, alloc: Global, alts: &[Alt], samples: &[Word]) -> Result<(), Fail> {
+    assert!(rt; alts.len() <= 8 && samples.len() as u64 <= FAR);
+    let stops = all_stops(alloc, alts, samples)?;
+    for most in [1, 2, 3, 6] {
+        let runs = runs_of(alloc, samples, most)?;
+        let found = scanned(rt, alloc, alts, &runs, 7)?;
+        assert_eq!(rt; found, stops, "{alts:?} at {samples:?} in runs of {most}");
     }
-    None
+    Ok(())
 }
 
-// Each of these lists with one more sample, that is below `values`.
-fn longer(alloc: Global, lists: &[Vec<Word>], values: Word) -> Result<Vec<Vec<Word>>, Fail> {
-    let mut longer = Vec::new(alloc);
-    for list in lists {
-        for value in 0..values {
-            let mut list = list.clone()?;
-            list.push(value)?;
-            longer.push(list)?;
-        }
-    }
-    Ok(longer)
-}
-
-// All lists of so many samples below `values`; the shorter lists are their fronts.
-fn all_lists(alloc: Global, values: Word, count: usize) -> Result<Vec<Vec<Word>>, Fail> {
-    let mut lists = Vec::new(alloc);
-    lists.push(Vec::new(alloc))?;
+// So many samples below `values`: the digits of a number, the lowest first.
+fn digits(alloc: Global, number: u64, values: u64, count: u32) -> Result<Vec<Word>, AllocError>
+    requires { 1 ≤ values }
+{
+    let mut rest = number;
+    let mut samples = Vec::new(alloc);
     for _ in 0..count {
-        lists = longer(alloc, &lists, values)?;
+        samples.push(rest % values)?;
+        rest /= values;
     }
-    Ok(lists)
+    Ok(samples)
 }
 
-// Each letter on these lines, with each skip up to 4.
-fn alts_on(alloc: Global, lines: Word) -> Result<Vec<Alt>, Fail> {
-    let letters = [
-        Letter::Low,
-        Letter::High,
-        Letter::Rise,
-        Letter::Fall,
-        Letter::Edge,
-        Letter::Steady,
-    ];
-    let mut alts = Vec::new(alloc);
-    for letter in letters {
-        for skip in 0..5 {
-            alts.push(alt(letter, lines, skip))?;
-        }
-    }
-    Ok(alts)
-}
-
-// The alternative that asks all that two alternatives ask.
-fn joined(a: &Alt, b: &Alt) -> Alt {
-    Alt {
-        low: a.low | b.low,
-        high: a.high | b.high,
-        rise: a.rise | b.rise,
-        fall: a.fall | b.fall,
-        edge: a.edge | b.edge,
-        steady: a.steady | b.steady,
-        skip: a.skip.max(b.skip),
-    }
-}
-
-// Compares the stops in these lists, in whole runs and cut ones.
-fn compare(rt: &impl Abort, alts: &[Alt], lists: &[Vec<Word>]) {
-    for samples in lists {
-        let plain = plain_stops(alts, samples);
-        assert!(rt; plain.is_some());
-        for most in [1, 2, 3, MOST] {
-            let scanned = scanned_stops(alts, samples, most);
-            assert_eq!(rt; scanned, plain, "{alts:?} at {samples:?} in runs of {most}");
-        }
-    }
+// Each letter of these lines with each skip up to 4 has a number below 30.
+fn numbered(number: usize, lines: Word) -> Alt {
+    alt(LETTERS[number % 6], lines, (number / 6) as u64)
 }
 
 #[test]
 fn one_or_two_alternatives_stop_at_the_samples_that_meet_them(rt: HostRuntime) -> Result<(), Fail> {
     let alloc = rt.alloc();
     for (first, second, values, count) in [(0b01, 0b01, 2, 6), (0b01, 0b10, 4, 3)] {
-        let lists = all_lists(alloc, values, count)?;
-        let others = alts_on(alloc, second)?;
-        for alt in &alts_on(alloc, first)? {
-            compare(&rt, &[*alt], &lists);
-            for other in &others {
-                compare(&rt, &[*alt, *other], &lists);
+        for number in 0..64 {
+            let samples = digits(alloc, number, values, count)?;
+            for one in 0..30 {
+                let one = numbered(one, first);
+                compare(&rt, alloc, &[one], &samples)?;
+                for other in 0..30 {
+                    compare(&rt, alloc, &[one, numbered(other, second)], &samples)?;
+                }
             }
         }
     }
@@ -378,12 +217,18 @@ fn one_or_two_alternatives_stop_at_the_samples_that_meet_them(rt: HostRuntime) -
 #[test]
 fn letters_on_two_lines_stop_at_the_samples_where_both_hold(rt: HostRuntime) -> Result<(), Fail> {
     let alloc = rt.alloc();
-    let lists = all_lists(alloc, 4, 5)?;
-    let others = alts_on(alloc, 0b10)?;
-    for alt in &alts_on(alloc, 0b01)? {
-        for other in &others {
-            if alt.skip == other.skip {
-                compare(&rt, &[joined(alt, other)], &lists);
+    for number in 0..1024 {
+        let samples = digits(alloc, number, 4, 5)?;
+        for first in 0..30 {
+            let one = numbered(first, 0b01);
+            for letter in LETTERS {
+                // the same letter is asked of both lines together
+                let both = if letter == LETTERS[first % 6] {
+                    0b11
+                } else {
+                    0b10
+                };
+                compare(&rt, alloc, &[asks(one, letter, both)], &samples)?;
             }
         }
     }
@@ -568,7 +413,7 @@ fn binds_by_name_and_by_number(rt: HostRuntime) -> Result<(), Fail> {
     assert_eq!(rt; bound.ok(), Some(alt(Letter::Fall, 0b1000, 0)));
     assert_eq!(rt; pins.as_slice(), [1, 2, 0, 3].as_slice());
     let bound = bind_alt(&words(alloc, "any")?, &names, &mut pins);
-    assert_eq!(rt; bound.ok(), Some(alt(Letter::Low, 0, 0)));
+    assert_eq!(rt; bound.ok(), Some(Alt::default()));
     let bound = bind_alt(&words(alloc, "1=h,skip=4,3=h")?, &names, &mut pins);
     assert_eq!(rt; bound.ok(), Some(alt(Letter::High, 0b1001, 4)));
     let late = ItemFault {

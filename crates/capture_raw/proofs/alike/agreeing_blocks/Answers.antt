@@ -7,6 +7,7 @@ pub loop-done-preserved : goal.loop-done-preserved
 loop-done-preserved c =
     let s = c.loop-done in
     record {
+      order = omega (arith, s.invariant.order);
       within = omega arith;
       agree = all_block c.args.mask c.args.first c.args.bytes.now s.done SHORT_BLOCK (omega arith) s.invariant.agree (c.if-not-block_agrees.ensures refl);
     }

@@ -1,11 +1,6 @@
-use Rattle.std.proofs.Common.{◌≡◌, ◌+◌, ◌*◌, ◌/◌, ◌%◌, arith, ap, ◌∙◌, sym, take, get_or, length, replicate, List, ℕ, length-drop, subst, bit_and}
-use Rattle.std.proofs.lemmas.List.{take_rest}
+use Rattle.std.proofs.Common.{◌≡◌, ◌%◌, arith, sym, get_or, ℕ, subst, bit_and}
 use Rattle.std.proofs.lemmas.Nat.{and_mask}
-use Rattle.std.proofs.Math.Nat.{div-mul-le_self}
-use Rattle.list_cuts.specs.Groups.{groups}
 use Rattle.capture_raw.specs.Masks.{AllAgree, SameSamples}
-use Rattle.capture_raw.proofs.Captures.{equal_samples}
-use Rattle.capture_raw.proofs.Fronts.{equal_first, equal_run}
 use Rattle.capture_raw.proofs.Agreeing.{same_bytes}
 use Rattle.capture_raw.proofs.alike.alike_units.Goals as goal
 
@@ -18,23 +13,3 @@ returns-then-unit-eq1-clause-same c =
     let low : bit_and mask 255 ≡ mask % 256 = and_mask mask 8 in
     let agree = subst (λ (m : ℕ). AllAgree m (get_or bytes 0 0) bytes count) low c.alike_bytes.ensures.alike in
     subst (λ (u : ℕ). SameSamples u mask bytes count) (sym is) (same_bytes mask bytes (λ k. omega (arith, c.type_inv.bytes k)) count c.alike_bytes.ensures.within agree)
-
-pub more_units-requires-2-clause-same : goal.more_units-requires-2-clause-same
-more_units-requires-2-clause-same c =
-    let unit = c.args.unit in
-    let bytes = c.args.bytes.now in
-    let same = c.equal_front-equal.result in
-    let rest = take_rest bytes unit in
-    let equal = c.equal_front-equal.ensures.same ∙ ap (λ (l : List ℕ). take same l) rest in
-    let count : same / unit + 1 ≡ 1 + same / unit = omega arith in
-    let groups_are =
-    ap (λ (k : ℕ). groups unit (take (k * unit) bytes)) (sym count)
-    ∙ equal_run unit c.requires.some bytes same equal (omega (arith, c.equal_front-equal.ensures.within, ap length rest, length-drop unit bytes)) (same / unit) (div-mul-le_self same unit)
-    ∙ ap (λ (k : ℕ). replicate k (take unit bytes)) count in
-    λ pins covers. sym (equal_samples unit pins (take ((1 + same / unit) * unit) bytes) (take unit bytes) (1 + same / unit) groups_are)
-
-pub more_units-requires-clause-same : goal.more_units-requires-clause-same
-more_units-requires-clause-same c =
-    let unit = c.args.unit in
-    let bytes = c.args.bytes.now in
-    λ pins covers. sym (equal_samples unit pins (take (1 * unit) bytes) (take unit bytes) 1 (equal_first unit c.requires.some bytes c.requires.whole))

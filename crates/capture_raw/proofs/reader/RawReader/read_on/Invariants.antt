@@ -1,6 +1,6 @@
 use Rattle.std.proofs.Common.{◌≡◌, ◌-◌, ◌≤◌, List, ℕ, length, true}
 use Rattle.la_io.specs.Intake.{Takes}
-use Rattle.capture_raw.proofs.reader.RawReader.next.Given as goal
+use Rattle.capture_raw.proofs.reader.RawReader.read_on.Given as goal
 
 abbrev pub invariant-loop-self : goal.invariant-loop-self
 invariant-loop-self g l = record {
