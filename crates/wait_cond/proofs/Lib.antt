@@ -5,6 +5,7 @@ pub mod StandingLemmas
 pub mod ChainLemmas
 pub mod PinLemmas
 mod AllStops
+mod WatchLemmas
 pub mod BoundLemmas
 pub mod HoldLemmas
 pub mod WordLemmas

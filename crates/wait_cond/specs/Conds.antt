@@ -1,7 +1,7 @@
 -- The alternatives of a condition.
 use Rattle.std.specs.Prelude.{List}
 use Rattle.wait_cond.specs.declared.alt.Alt.{Alt}
-use Rattle.wait_cond.specs.declared.alt.Cond.{Cond}
+use Rattle.wait_cond.specs.declared.cond.Cond.{Cond}
 
 -- the alternatives, in their order
 abbrev pub cond_alts : Cond → List Alt

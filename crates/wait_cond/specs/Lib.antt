@@ -4,6 +4,7 @@ pub mod Stops
 pub mod StopLaws
 pub mod Standing
 pub mod Waiting
+pub mod Watching
 pub mod Words
 pub mod Grammar
 pub mod Binding

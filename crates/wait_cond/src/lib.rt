@@ -4,6 +4,7 @@
 mod alt;
 mod behind;
 mod bind;
+mod cond;
 mod faults;
 mod laws;
 mod lines;
@@ -14,8 +15,9 @@ mod scan;
 mod standing;
 mod words;
 
-pub use alt::{Alt, Cond};
+pub use alt::Alt;
 pub use bind::{bind_alt, place_of};
+pub use cond::Cond;
 pub use faults::{BindWhy, ItemFault};
 pub use laws::{
     a_wait_has_one_stop, bound_terms_are_what_is_met, samples_have_one_list_of_stops,

@@ -35,7 +35,7 @@ impl Waiter {
     ghost use Rattle.std.specs.Prelude.{◌≡◌, ◌≢◌, ◌+◌, ◌≤◌, ◌<◌, ◌^◌, ◌++◌, ◌==◌, if◌then◌else◌, [], List, ℕ, length, IfSome};
     ghost use Rattle.la_base.specs.Samples.{samples};
     ghost use Rattle.wait_cond.specs.Conds.{cond_alts};
-    ghost use Rattle.wait_cond.specs.Stops.{NoneMet};
+    ghost use Rattle.wait_cond.specs.Stops.{MetSet, NoneMet};
     ghost use Rattle.wait_cond.specs.Waiting.{Waits, Scanned, Counts, Found, alts_of, wait_from, consumed_by, last_of};
 
     /// A waiter that has consumed no sample yet.
@@ -85,6 +85,19 @@ impl Waiter {
         }
     }
 
+    // The alternatives that the next sample meets, where it has this value.
+    #[inline]
+    fn met_next(&self, value: Word) -> u8
+        requires { self.now.consumed < 2 ^ 60 }
+        ensures { MetSet self.now.cond.alts.items (if self.now.consumed == 0 then None else Some self.now.last) value self.now.from self.now.consumed result }
+    {
+        let before = self.before();
+        if self.cond.is_still(before, value) {
+            return 0;
+        }
+        met_set(self.cond.alts(), before, value, self.from, self.consumed)
+    }
+
     // The first sample of a run behind its first one that meets the condition, and the alternatives
     // that it meets: as the value stands, only a skip can begin to hold. It isn't inlined, so that
     // runs of one sample are passed quickly.
@@ -112,13 +125,14 @@ impl Waiter {
         ensures found { (list : List ℕ) → Waits self.now list → Found self.now.cond.alts.items self.now.from (list ++ samples run) (length list) run.len result }
         ensures within { IfSome result (λ x. (x.0 < run.len) × (x.1 ≢ 0)) }
     {
-        let alts = self.cond.alts();
-        let before = self.before();
-        let met = met_set(alts, before, run.value, self.from, self.consumed);
+        let met = self.met_next(run.value);
         if met != 0 {
             return Some((0, met));
         }
         if run.len == 1 {
+            return None;
+        }
+        if self.cond.is_still(Some(run.value), run.value) {
             return None;
         }
         self.find_standing(run)

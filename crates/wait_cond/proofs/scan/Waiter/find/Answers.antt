@@ -1,11 +1,12 @@
-use Rattle.std.proofs.Common.{◌≡◌, ◌+◌, ◌++◌, ◌==◌, ◌∙◌, if◌then◌else◌, sym, subst, List, ℕ, Option, Some, None, arith, length}
+use Rattle.std.proofs.Common.{refl, ◌≡◌, ◌+◌, ◌++◌, ◌==◌, ◌∙◌, if◌then◌else◌, sym, subst, List, ℕ, Option, Some, None, arith, length}
 use Rattle.la_base.specs.declared.samples.Run.{Run}
 use Rattle.la_base.specs.Samples.{samples}
 use Rattle.wait_cond.specs.Stops.{MetSet, NoneMet}
 use Rattle.wait_cond.specs.Waiting.{WaitsAt}
 use Rattle.wait_cond.specs.declared.alt.Alt.{Alt}
 use Rattle.wait_cond.proofs.ChainLemmas.{none_in_longer}
-use Rattle.wait_cond.proofs.Runs.{samples_are, waits_before, met_at, none_next}
+use Rattle.wait_cond.proofs.Runs.{samples_are, waits_before, met_at, none_next, none_standing}
+use Rattle.wait_cond.proofs.WatchLemmas.{never_standing}
 use Rattle.wait_cond.proofs.scan.Waiter.find.Goals as goal
 
 module _ (list : List ℕ) (run : Run) (alts : List Alt) (consumed from last : ℕ) (w : WaitsAt alts consumed from last list) where
@@ -16,9 +17,10 @@ module _ (list : List ℕ) (run : Run) (alts : List Alt) (consumed from last : �
   none_so_far = none_in_longer list (samples run) alts from (length list + 0) (omega arith) (subst (λ (n : ℕ). NoneMet list alts from n) here w.none)
 
   -- none is met at the first sample of the run
-  first_passed : (before : Option ℕ) (met : ℕ) → before ≡ (if consumed == 0 then None else Some last) → met ≡ 0 → MetSet alts before run.value from consumed met → NoneMet (list ++ samples run) alts from (length list + 1)
-  first_passed before met before_is none set =
-      let at_first = before_is ∙ waits_before list (samples run) run.value run.len (samples_are run) alts consumed from last 0 w run.not_empty in
+  first_passed : (met : ℕ) → met ≡ 0 → MetSet alts (if consumed == 0 then None else Some last) run.value from consumed met → NoneMet (list ++ samples run) alts from (length list + 1)
+  first_passed met none set =
+      let before : Option ℕ = if consumed == 0 then None else Some last in
+      let at_first = waits_before list (samples run) run.value run.len (samples_are run) alts consumed from last 0 w run.not_empty in
       none_next list (samples run) run.value run.len (samples_are run) alts from 0
       (met_at list (samples run) run.value run.len (samples_are run) alts from 0 before 0 run.not_empty at_first
       (subst (λ (n : ℕ). MetSet alts before run.value from n 0) here (subst (λ (m : ℕ). MetSet alts before run.value from consumed m) none set))) none_so_far
@@ -28,13 +30,13 @@ returns-then-met-ne0-clause-found c = λ list w.
     let s = c.args.self.now in
     let run = c.args.run in
     let alts = s.cond.alts.items in
-    let met = c.met_set-met.result in
-    let set = subst (λ (n : ℕ). MetSet alts c.before-before.result run.value s.from n met) (here list run alts s.consumed s.from s.last w)
-    (subst (λ (l : List Alt). MetSet l c.before-before.result run.value s.from s.consumed met) c.alts-alts.ensures.alts c.met_set-met.ensures) in
-    let before = c.before-before.ensures ∙ waits_before list (samples run) run.value run.len (samples_are run) alts s.consumed s.from s.last 0 w run.not_empty in (
+    let met = c.met_next-met.result in
+    let before : Option ℕ = if s.consumed == 0 then None else Some s.last in
+    let set = subst (λ (n : ℕ). MetSet alts before run.value s.from n met) (here list run alts s.consumed s.from s.last w) c.met_next-met.ensures in
+    let before_is = waits_before list (samples run) run.value run.len (samples_are run) alts s.consumed s.from s.last 0 w run.not_empty in (
       run.not_empty,
       none_so_far list run alts s.consumed s.from s.last w,
-      met_at list (samples run) run.value run.len (samples_are run) alts s.from 0 c.before-before.result met run.not_empty before set,
+      met_at list (samples run) run.value run.len (samples_are run) alts s.from 0 before met run.not_empty before_is set,
       c.if-met-ne0.true,
     )
 
@@ -43,15 +45,22 @@ returns-then-run-eq1-clause-found c = λ list w.
     let s = c.args.self.now in
     let run = c.args.run in
     let alts = s.cond.alts.items in
-    let set = subst (λ (l : List Alt). MetSet l c.before-before.result run.value s.from s.consumed c.met_set-met.result) c.alts-alts.ensures.alts c.met_set-met.ensures in
     subst (λ (n : ℕ). NoneMet (list ++ samples run) alts s.from (length list + n)) (sym c.if-run-eq1.true)
-    (first_passed list run alts s.consumed s.from s.last w c.before-before.result c.met_set-met.result c.before-before.ensures c.if-met-ne0.false set)
+    (first_passed list run alts s.consumed s.from s.last w c.met_next-met.result c.if-met-ne0.false c.met_next-met.ensures)
+
+pub returns-then-is_still-clause-found : goal.returns-then-is_still-clause-found
+returns-then-is_still-clause-found c = λ list w.
+    let s = c.args.self.now in
+    let run = c.args.run in
+    let alts = s.cond.alts.items in
+    none_standing list (samples run) run.value run.len (samples_are run) alts s.from (length list + run.len)
+    (first_passed list run alts s.consumed s.from s.last w c.met_next-met.result c.if-met-ne0.false c.met_next-met.ensures)
+    (never_standing alts run.value s.from (length list + 1) (length list + run.len) (omega (arith, run.not_empty)) (c.if-is_still.ensures refl))
 
 pub returns-clause-found : goal.returns-clause-found
 returns-clause-found c = λ list w.
     let s = c.args.self.now in
     let run = c.args.run in
     let alts = s.cond.alts.items in
-    let set = subst (λ (l : List Alt). MetSet l c.before-before.result run.value s.from s.consumed c.met_set-met.result) c.alts-alts.ensures.alts c.met_set-met.ensures in
     c.find_standing.ensures.found list w
-    (first_passed list run alts s.consumed s.from s.last w c.before-before.result c.met_set-met.result c.before-before.ensures c.if-met-ne0.false set)
+    (first_passed list run alts s.consumed s.from s.last w c.met_next-met.result c.if-met-ne0.false c.met_next-met.ensures)

@@ -1,0 +1,17 @@
+use Rattle.std.proofs.Common.{◌≡◌, ◌∷◌, ◌++◌, [], List, sym, subst, arith, ap, length, length-append}
+use Rattle.wait_cond.specs.Watching.{Watches}
+use Rattle.wait_cond.specs.declared.alt.Alt.{Alt}
+use Rattle.wait_cond.proofs.WatchLemmas.{watch_more}
+use Rattle.wait_cond.proofs.cond.Cond.add.Goals as goal
+
+pub invariant_of-self : goal.invariant_of-self
+invariant_of-self c =
+    let s = c.args.self.now in
+    let items = c.push.ensures.items in
+    record {
+      some = omega (arith, ap length items, length-append s.alts.items (c.args.alt ∷ []));
+      watches = λ not_zero.
+          let how = c.watched_with-watched.ensures not_zero in
+          subst (λ (l : List Alt). Watches c.watched_with-watched.result l) (sym items)
+          (watch_more s.alts.items c.args.alt s.watched c.edge_lines.result c.watched_with-watched.result c.edge_lines.ensures (s.watches how.0) how);
+    }

@@ -1,0 +1,17 @@
+-- Conditions that an edge alone can meet.
+use Rattle.std.specs.Prelude.{ℕ, ◌≡◌, ◌≢◌, List, slice_get, Option, Some, bit_or}
+use Rattle.wait_cond.specs.Meets.{AllIn}
+use Rattle.wait_cond.specs.Stops.{MetSet}
+use Rattle.wait_cond.specs.declared.alt.Alt.{Alt}
+
+-- the lines of which an alternative asks an edge
+abbrev pub edge_lines : Alt → ℕ
+edge_lines alt = bit_or (bit_or alt.rise alt.fall) alt.edge
+
+-- each alternative asks an edge of a line, and these are such lines of all of them
+abbrev pub Watches : ℕ → List Alt → Type 0
+Watches lines alts = (i : ℕ) (alt : Alt) → slice_get alts i ≡ Some alt → (edge_lines alt ≢ 0) × AllIn (edge_lines alt) lines
+
+-- no alternative is met at a sample, however far it lies behind the last stop
+abbrev pub NeverMet : List Alt → Option ℕ → ℕ → Type 0
+NeverMet alts before now = (from q : ℕ) → MetSet alts before now from q 0

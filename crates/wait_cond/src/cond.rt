@@ -1,0 +1,87 @@
+// Conditions.
+ghost use Rattle.std.specs.Prelude.{◌≡◌, ◌≢◌, ◌<◌, ◌≤◌, ◌∷◌, ◌++◌, [], length, Option, bit_or, true};
+ghost use Rattle.wait_cond.specs.Watching.{edge_lines, Watches, NeverMet};
+
+use crate::Alt;
+use arrayvec::ArrayVec;
+use la_base::Word;
+
+/// 1 to 8 alternatives, at least one of which must be met.
+#[derive(Debug, Drop)]
+pub struct Cond {
+    alts: ArrayVec<Alt, 8>,
+    // the lines of which the alternatives ask an edge, where each of them does; else 0
+    watched: Word,
+    ghost some: { 1 ≤ length alts.items },
+    ghost watches: { watched ≢ 0 → Watches watched alts.items },
+}
+
+impl Cond {
+    ghost use Rattle.wait_cond.specs.Conds.{cond_alts};
+
+    /// The condition of one alternative.
+    pub fn one(alt: Alt) -> Cond
+        ensures { cond_alts result ≡ alt ∷ [] }
+    {
+        let watched = edge_lines(&alt);
+        let mut alts = ArrayVec::new();
+        alts.push(alt);
+        Cond { alts, watched }
+    }
+
+    /// Adds an alternative behind the others.
+    pub fn add(&mut self, alt: Alt)
+        requires { length (cond_alts self.old) < 8 }
+        ensures { cond_alts self.new ≡ cond_alts self.old ++ alt ∷ [] }
+    {
+        let watched = watched_with(self.watched, edge_lines(&alt));
+        self.alts.push(alt);
+        self.watched = watched;
+    }
+
+    /// How many alternatives there are.
+    pub fn count(&self) -> u32
+        ensures count { result ≡ length (cond_alts self.now) }
+        ensures some { 1 ≤ result }
+        ensures few { result ≤ 8 }
+    {
+        self.alts.len() as u32
+    }
+
+    /// The alternatives, in the order in which they were added.
+    pub fn alts(&self) -> &[Alt]
+        ensures alts { result.now ≡ cond_alts self.now }
+        ensures few { length result.now ≤ 8 }
+    {
+        &self.alts
+    }
+
+    /// Whether it is plain that no alternative is met: each asks an edge, and none of those lines
+    /// changes.
+    #[inline]
+    pub fn is_still(&self, before: Option<Word>, now: Word) -> bool
+        ensures { result ≡ true → NeverMet (cond_alts self.now) before now }
+    {
+        match before {
+            Some(before) => self.watched != 0 && (before ^ now) & self.watched == 0,
+            None => false,
+        }
+    }
+}
+
+// The lines of which an alternative asks an edge.
+fn edge_lines(alt: &Alt) -> Word
+    ensures { result ≡ edge_lines alt.now }
+{
+    alt.rise | alt.fall | alt.edge
+}
+
+// The lines that are watched with those of one more alternative.
+fn watched_with(watched: Word, lines: Word) -> Word
+    ensures { result ≢ 0 → (watched ≢ 0) × (lines ≢ 0) × (result ≡ bit_or watched lines) }
+{
+    if watched == 0 || lines == 0 {
+        return 0;
+    }
+    watched | lines
+}
