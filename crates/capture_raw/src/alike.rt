@@ -15,6 +15,7 @@ const SHORT_BLOCK: usize = 32;
 const NEAR: usize = 16;
 
 /// How many units at the front give the same sample, for pins whose bits `mask` has.
+#[inline]
 pub fn alike_units(bytes: &[u8], unit: usize, mask: Word) -> usize
     requires some { 0 < unit }
     requires few { unit ≤ MOST_UNIT }

@@ -2,6 +2,7 @@
 ghost use Rattle.std.specs.Prelude.{◌≡◌, ◌<◌, ◌≤◌, ℕ, length, slice_index};
 ghost use Rattle.la_base.specs.declared.samples.TheConstants.{MOST_PINS};
 ghost use Rattle.capture_raw.specs.Masks.{Covers, OfBytes};
+ghost use Rattle.capture_raw.specs.Raw.{unit_len};
 
 use crate::RawStep;
 use crate::alike::alike_units;
@@ -17,6 +18,8 @@ const ROOM: usize = 32_768;
 #[derive(Drop)]
 pub struct RawReader {
     channels: u32,
+    // how many bytes a unit has
+    unit: usize,
     rate: Rate,
     pins: Pins,
     // the bits of the unit that the pins pick
@@ -26,6 +29,7 @@ pub struct RawReader {
     held: Intake<ROOM>,
     open: bool,
     ghost channels_fit: { (1 ≤ channels) × (channels ≤ MOST_PINS) },
+    ghost unit_fits: { unit ≡ unit_len channels },
     ghost few_pins: { length pins.items ≤ MOST_PINS },
     ghost pins_fit: { (k : ℕ) → k < length pins.items → slice_index pins.items k < channels },
     ghost mask_covers: { Covers mask pins.items },
@@ -53,6 +57,7 @@ impl RawReader {
         let of_bytes = samples_of_bytes(&pins);
         RawReader {
             channels,
+            unit: channels.div_ceil(8) as usize,
             rate,
             pins,
             mask: 0,
@@ -99,10 +104,11 @@ impl RawReader {
         ensures some { 1 ≤ result }
         ensures few { result ≤ MOST_UNIT }
     {
-        self.channels.div_ceil(8) as usize
+        self.unit
     }
 
     // The sample of the first unit of what is held.
+    #[inline]
     fn sample(&self, unit: usize) -> Word
         requires unit { unit ≡ raw_unit self.now }
         requires whole { unit ≤ length (raw_held self.now) }
@@ -116,6 +122,7 @@ impl RawReader {
     }
 
     // The next run of what is held.
+    #[inline]
     fn run(&mut self, unit: usize) -> Run
         requires unit { unit ≡ raw_unit self.old }
         requires whole { unit ≤ length (raw_held self.old) }
