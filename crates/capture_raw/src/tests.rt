@@ -1,5 +1,5 @@
 // Raw captures through the public calls.
-ghost use Rattle.std.specs.Prelude.{◌≡◌, ◌≤◌, [], ◌∷◌, codes, take};
+ghost use Rattle.std.specs.Prelude.{◌≡◌, ◌≤◌, [], ◌∷◌, codes};
 ghost use Rattle.la_base.specs.declared.samples.Rate.{Rate as ItsRate};
 ghost use Rattle.la_io.specs.declared.fault.CaptureFault.TheVariants.{ShortUnit};
 ghost use Rattle.la_io.specs.Capture.{AtEnd, Faulty, Ends};
@@ -10,30 +10,13 @@ use crate::{
     stands_fixes,
 };
 use la_base::{MOST_PINS, Pins, Rate, Word};
-use la_io::{Failed, MemSource, Source, SureSource};
+use la_io::{Failed, MemSource};
 use std::alloc::Global;
 use std::process::Abort;
 use std::test::Fail;
 
 // More than the answers of any test.
 const MANY: u32 = 10_000;
-
-// A reader whose samples have these channels as bits.
-fn opened(channels: u32, pins: &[u32]) -> RawReader
-    requires some { 1 ≤ channels }
-    requires few { channels ≤ MOST_PINS }
-{
-    let rate = Rate { num: 1, den: 1 };
-    let mut reader = RawReader::open(channels, rate);
-    let mut chosen = Pins::new();
-    for pin in pins {
-        if *pin < channels && !chosen.is_full() {
-            chosen.push(*pin);
-        }
-    }
-    reader.select(chosen);
-    reader
-}
 
 // What a reader gave: the value and length of each run, and the answer behind them.
 #[derive(Drop)]
@@ -55,32 +38,17 @@ impl Given {
     }
 }
 
-// Reads to the end, and sees that the reader is open behind runs alone.
-fn read_all<S: Source>(
-    rt: &impl Abort,
-    alloc: Global,
-    mut reader: RawReader,
-    source: &mut S,
-) -> Result<Given, Fail> {
-    let mut runs = Vec::new(alloc);
-    let mut last = None;
-    for _ in 0..MANY {
-        if !reader.is_open() {
-            break;
-        }
-        let step = reader.next(source);
-        match step {
-            Ok(RawStep::Run(run)) => {
-                assert!(rt; reader.is_open());
-                runs.push((run.value, run.len))?;
-            }
-            _ => {
-                assert!(rt; !reader.is_open());
-                last = Some(step);
-            }
-        }
+// A reader whose samples have these channels as bits.
+fn opened(rt: &impl Abort, channels: u32, pins: &[u32]) -> RawReader {
+    assert!(rt; 1 <= channels && channels <= MOST_PINS);
+    let mut reader = RawReader::open(channels, Rate { num: 1, den: 1 });
+    let mut chosen = Pins::new();
+    for pin in pins {
+        assert!(rt; *pin < channels && !chosen.is_full());
+        chosen.push(*pin);
     }
-    Ok(Given { runs, last })
+    reader.select(chosen);
+    reader
 }
 
 // These bytes in pieces of `size`, and the calls that fail.
@@ -94,9 +62,34 @@ fn in_pieces(alloc: Global, bytes: &[u8], size: usize, fails: &[u64]) -> Result<
     Ok(MemSource::new(pieces, fails.to_vec(alloc)?))
 }
 
+// Reads to the end, and sees that the reader is open behind runs alone.
+fn read_all(
+    rt: &impl Abort,
+    alloc: Global,
+    mut reader: RawReader,
+    mut source: MemSource,
+) -> Result<Given, Fail> {
+    let mut runs = Vec::new(alloc);
+    let mut last = None;
+    for _ in 0..MANY {
+        if !reader.is_open() {
+            break;
+        }
+        match reader.next(&mut source) {
+            Ok(RawStep::Run(run)) => runs.push((run.value, run.len))?,
+            end => {
+                assert!(rt; !reader.is_open());
+                last = Some(end);
+            }
+        }
+    }
+    Ok(Given { runs, last })
+}
+
 #[test]
 fn samples_of_units(rt: HostRuntime) -> Result<(), Fail> {
-    let cases: [(u32, &[u32], &[u8], &[Word], RawStep); 8] = [
+    let alloc = rt.alloc();
+    let cases: [(u32, &[u32], &[u8], &[Word], RawStep); 9] = [
         // channel 8 is the lowest bit of the second byte
         (
             9,
@@ -121,91 +114,92 @@ fn samples_of_units(rt: HostRuntime) -> Result<(), Fail> {
         (8, &[], &[0xaa, 0x55, 0x55], &[0, 0, 0], RawStep::End),
         (8, &[0], &[], &[], RawStep::End),
         (16, &[0], &[1], &[], RawStep::ShortUnit { at: 0 }),
+        // unit k has k in its lowest byte and k modulo 2 in its highest
+        (
+            17,
+            &[16, 1, 0],
+            &[
+                0, 0, 0, 1, 0, 1, 2, 0, 0, 3, 0, 1, 4, 0, 0, 5, 0, 1, 6, 0, 0, 9, 0,
+            ],
+            &[0, 5, 2, 7, 0, 5, 2],
+            RawStep::ShortUnit { at: 21 },
+        ),
     ];
     for (channels, pins, bytes, samples, last) in cases {
-        let mut source = SureSource::new(bytes.to_vec(rt.alloc())?);
-        assert!(rt; 1 <= channels && channels <= MOST_PINS);
-        let given = read_all(&rt, rt.alloc(), opened(channels, pins), &mut source)?;
-        assert_eq!(rt; given.samples(rt.alloc())?.as_slice(), samples);
-        assert_eq!(rt; given.last, Some(Ok(last)));
+        for size in 1..10 {
+            let source = in_pieces(alloc, bytes, size, &[])?;
+            let given = read_all(&rt, alloc, opened(&rt, channels, pins), source)?;
+            assert_eq!(rt;
+                given.samples(alloc)?.as_slice(),
+                samples,
+                "pieces of {size}"
+            );
+            assert_eq!(rt; given.last, Some(Ok(last)));
+        }
     }
     Ok(())
 }
 
 #[test]
-fn the_same_in_pieces_of_any_length(rt: HostRuntime) -> Result<(), Fail> {
-    // units of three bytes: unit k has k in its lowest byte and k modulo 2 in its highest
-    let bytes = [
-        0, 0, 0, 1, 0, 1, 2, 0, 0, 3, 0, 1, 4, 0, 0, 5, 0, 1, 6, 0, 0, 9, 0,
-    ];
-    for size in 1..10 {
-        let mut source = in_pieces(rt.alloc(), &bytes, size, &[])?;
-        let given = read_all(&rt, rt.alloc(), opened(17, &[16, 1, 0]), &mut source)?;
-        assert_eq!(rt;
-            given.samples(rt.alloc())?.as_slice(),
-            [0, 5, 2, 7, 0, 5, 2].as_slice()
-        );
-        assert_eq!(rt;
-            given.last,
-            Some(Ok(RawStep::ShortUnit { at: 21 })),
-            "pieces of {size}"
-        );
+fn runs_of_units(rt: HostRuntime) -> Result<(), Fail> {
+    let alloc = rt.alloc();
+    // longer than what is compared at once
+    let mut long = [7u8; 302];
+    long[301] = 6;
+    // bit 0 is noise
+    let mut noise = [2u8; 200];
+    for place in 0..100 {
+        noise[2 * place] = 3;
     }
-    Ok(())
-}
-
-#[test]
-fn runs_join_within_a_read(rt: HostRuntime) -> Result<(), Fail> {
-    let mut source = in_pieces(rt.alloc(), &[0, 0, 0, 1, 1, 1, 1, 2, 2, 3], 5, &[])?;
-    let given = read_all(&rt, rt.alloc(), opened(8, &[0, 1]), &mut source)?;
-    assert_eq!(rt;
-        given.runs.as_slice(),
-        [(0, 3), (1, 2), (1, 2), (2, 2), (3, 1)].as_slice()
-    );
-    let mut bytes = [7u8; 302];
-    bytes[301] = 6;
-    let mut source = SureSource::new(bytes.to_vec(rt.alloc())?);
-    let given = read_all(&rt, rt.alloc(), opened(16, &[0, 8]), &mut source)?;
-    assert_eq!(rt; given.runs.as_slice(), [(3, 150), (1, 1)].as_slice());
-    let mut source = SureSource::new(bytes.to_vec(rt.alloc())?);
-    let given = read_all(&rt, rt.alloc(), opened(8, &[0]), &mut source)?;
-    assert_eq!(rt; given.runs.as_slice(), [(1, 301), (0, 1)].as_slice());
-    Ok(())
-}
-
-#[test]
-fn what_no_pin_picks_parts_no_run(rt: HostRuntime) -> Result<(), Fail> {
-    let cases: [(u32, &[u32], &[u8], &[(Word, u64)]); 4] = [
+    noise[70] = 1;
+    let cases: [(u32, &[u32], &[u8], &[(Word, u64)]); 9] = [
+        // units join within a read of five bytes
+        (
+            8,
+            &[0, 1],
+            &[0, 0, 0, 1, 1, 1, 1, 2, 2, 3],
+            &[(0, 3), (1, 2), (1, 2), (2, 2), (3, 1)],
+        ),
+        // what no pin picks parts no run
         (
             8,
             &[3],
             &[0x00, 0x17, 0xf0, 0x08, 0x0f, 0x07],
             &[(0, 3), (1, 2), (0, 1)],
         ),
+        (8, &[], &[1, 2, 3, 4], &[(0, 4)]),
         // bit 9 is bit 1 of the second byte
         (16, &[9], &[1, 0, 2, 1, 3, 2, 4, 0xff], &[(0, 2), (1, 2)]),
         (17, &[16], &[0, 0, 1, 9, 9, 1, 9, 9, 0], &[(1, 2), (0, 1)]),
-        (8, &[], &[1, 2, 3, 4], &[(0, 4)]),
+        (16, &[0, 8], &long, &[(3, 150), (1, 1)]),
+        (8, &[0], &long, &[(1, 301), (0, 1)]),
+        (8, &[1], &noise, &[(1, 70), (0, 1), (1, 129)]),
+        (8, &[0], &[], &[]),
     ];
     for (channels, pins, bytes, runs) in cases {
-        let mut source = SureSource::new(bytes.to_vec(rt.alloc())?);
-        assert!(rt; 1 <= channels && channels <= MOST_PINS);
-        let given = read_all(&rt, rt.alloc(), opened(channels, pins), &mut source)?;
+        let size = if bytes.len() == 10 { 5 } else { 1000 };
+        let source = in_pieces(alloc, bytes, size, &[])?;
+        let given = read_all(&rt, alloc, opened(&rt, channels, pins), source)?;
         assert_eq!(rt; given.runs.as_slice(), runs);
         assert_eq!(rt; given.last, Some(Ok(RawStep::End)));
     }
-    // longer than what is compared at once: bit 0 is noise
-    let mut bytes = [2u8; 200];
-    for place in 0..100 {
-        bytes[2 * place] = 3;
+    Ok(())
+}
+
+#[test]
+fn a_failed_read_loses_nothing(rt: HostRuntime) -> Result<(), Fail> {
+    let alloc = rt.alloc();
+    // the third read fails, in the second unit
+    let cases: [(u32, &[u32], &[u8], u64, &[(Word, u64)]); 2] = [
+        (16, &[0, 15], &[1, 0x80, 1], 2, &[(3, 1)]),
+        (8, &[0], &[], 0, &[]),
+    ];
+    for (channels, pins, bytes, fails, runs) in cases {
+        let source = in_pieces(alloc, bytes, 2, &[fails])?;
+        let given = read_all(&rt, alloc, opened(&rt, channels, pins), source)?;
+        assert_eq!(rt; given.runs.as_slice(), runs);
+        assert_eq!(rt; given.last, Some(Err(Failed)));
     }
-    bytes[70] = 1;
-    let mut source = SureSource::new(bytes.to_vec(rt.alloc())?);
-    let given = read_all(&rt, rt.alloc(), opened(8, &[1]), &mut source)?;
-    assert_eq!(rt;
-        given.runs.as_slice(),
-        [(1, 70), (0, 1), (1, 129)].as_slice()
-    );
     Ok(())
 }
 
@@ -251,32 +245,20 @@ fn next_random(number: u64) -> u64 {
 
 // Bytes of units whose neighbours differ in noise alone, but for one channel, that changes behind
 // stretches of 1, 2, 3 .. units. So changes lie at all places of the blocks that are compared at once.
-fn stretches(alloc: Global, channels: u32) -> Result<Vec<u8>, Fail>
+fn stretches(alloc: Global, channels: u32, noise: u64, most: u32) -> Result<Vec<u8>, Fail>
     requires some { 1 ≤ channels }
     requires few { channels ≤ MOST_PINS }
 {
     let unit = channels.div_ceil(8) as usize;
     let mut bytes = Vec::new(alloc);
     let mut random = 1;
-    let mut value = 0x1234_5678_9abc_def0;
-    for channel in [channels / 2, channels - 1] {
-        // no noise, the lowest bit of each byte, the highest one, all
-        for (noise, most) in [
-            (0, 70),
-            (0x0101_0101_0101_0101, 35),
-            (0x8080_8080_8080_8080, 35),
-            (u64::MAX, 5),
-        ] {
-            for len in 1..most {
-                value ^= 1 << channel;
-                for _ in 0..len {
-                    random = next_random(random);
-                    let number: u64 = value ^ (random & noise);
-                    for byte in number.to_le_bytes().iter().take(unit) {
-                        bytes.push(*byte)?;
-                    }
-                }
-            }
+    let mut value: u64 = 0x1234_5678_9abc_def0;
+    for len in 1..most {
+        value ^= 1 << (channels - 1);
+        for _ in 0..len {
+            random = next_random(random);
+            let number = (value ^ (random & noise)).to_le_bytes();
+            bytes.extend_from_slice(&number[..unit])?;
         }
     }
     Ok(bytes)
@@ -287,20 +269,27 @@ fn samples_are_those_of_each_unit_by_itself(rt: HostRuntime) -> Result<(), Fail>
     let alloc = rt.alloc();
     for channels in [1, 8, 9, 16, 17, 64] {
         assert!(rt; 1 <= channels && channels <= MOST_PINS);
-        let bytes = stretches(alloc, channels)?;
         let high = channels - 1;
-        let lists: [&[u32]; 6] = [&[], &[0], &[high], &[0, high], &[high, 0], &[channels / 2]];
-        for pins in lists {
-            let samples = plain_samples(alloc, channels, pins, &bytes)?;
-            for size in [1, 7, 64, 1000, 100_000] {
-                let mut source = in_pieces(alloc, &bytes, size, &[])?;
-                let given = read_all(&rt, alloc, opened(channels, pins), &mut source)?;
-                assert_eq!(rt; given.last, Some(Ok(RawStep::End)));
-                assert_eq!(rt;
-                    given.samples(alloc)?,
-                    samples,
-                    "{channels} {pins:?} {size}"
-                );
+        // no noise, the lowest bit of each byte, the highest one, all
+        for (noise, most) in [
+            (0, 70),
+            (0x0101_0101_0101_0101, 35),
+            (0x8080_8080_8080_8080, 35),
+            (u64::MAX, 5),
+        ] {
+            let bytes = stretches(alloc, channels, noise, most)?;
+            let lists: [&[u32]; 6] = [&[], &[0], &[high], &[0, high], &[high, 0], &[channels / 2]];
+            for pins in lists {
+                let samples = plain_samples(alloc, channels, pins, &bytes)?;
+                for size in [1, 7, 64, 1000, 100_000] {
+                    let source = in_pieces(alloc, &bytes, size, &[])?;
+                    let given = read_all(&rt, alloc, opened(&rt, channels, pins), source)?;
+                    assert_eq!(rt;
+                        given.samples(alloc)?,
+                        samples,
+                        "{channels} {pins:?} {size}"
+                    );
+                }
             }
         }
     }
@@ -310,21 +299,8 @@ fn samples_are_those_of_each_unit_by_itself(rt: HostRuntime) -> Result<(), Fail>
 fn is_send<T: Send>(_: &T) {}
 
 #[test]
-fn a_reader_can_go_to_another_thread() {
-    is_send(&opened(8, &[0]));
-}
-
-#[test]
-fn a_failed_read_loses_nothing(rt: HostRuntime) -> Result<(), Fail> {
-    // the third read fails, in the second unit
-    let mut source = in_pieces(rt.alloc(), &[1, 0x80, 1], 2, &[2])?;
-    let given = read_all(&rt, rt.alloc(), opened(16, &[0, 15]), &mut source)?;
-    assert_eq!(rt; given.runs.as_slice(), [(3, 1)].as_slice());
-    assert_eq!(rt; given.last, Some(Err(Failed)));
-    let mut source = in_pieces(rt.alloc(), &[], 1, &[0])?;
-    let given = read_all(&rt, rt.alloc(), opened(8, &[0]), &mut source)?;
-    assert_eq!(rt; given.last, Some(Err(Failed)));
-    Ok(())
+fn a_reader_can_go_to_another_thread(rt: HostRuntime) {
+    is_send(&opened(&rt, 8, &[0]));
 }
 
 // The definition's names, written out.
