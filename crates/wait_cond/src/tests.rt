@@ -92,7 +92,7 @@ fn stops_of_runs(rt: HostRuntime) -> Result<(), Fail> {
     // samples 1 1 0 0 1 of line 0
     let both: &[(Word, u64)] = &[(1, 2), (0, 2), (1, 1)];
     let long: &[(Word, u64)] = &[(0, 1 << 59)];
-    let cases: [(&[Alt], &[(Word, u64)], &[(u64, u8)]); 13] = [
+    let cases: [(&[Alt], &[(Word, u64)], &[(u64, u8)]); 14] = [
         (&[alt(Letter::Low, 1, 0)], both, &[(2, 1), (3, 1)]),
         (&[alt(Letter::High, 1, 0)], both, &[(0, 1), (1, 1), (4, 1)]),
         (&[alt(Letter::Rise, 1, 0)], both, &[(4, 1)]),
@@ -127,18 +127,20 @@ fn stops_of_runs(rt: HostRuntime) -> Result<(), Fail> {
         // a long run takes no longer
         (&[alt(Letter::Rise, 1, 0)], long, &[]),
         (&[alt(Letter::Low, 1, u64::MAX)], long, &[]),
+        (&[alt(Letter::Low, 1, (1 << 59) + 1)], long, &[]),
         (&[alt(Letter::Low, 1, 1 << 59)], long, &[((1 << 59) - 1, 1)]),
         (
             &[
                 alt(Letter::Low, 1, 1 << 40),
                 alt(Letter::High, 1, 3),
-                alt(Letter::Steady, 1, 1 << 58),
+                alt(Letter::Steady, 1, 1 << 30),
+                alt(Letter::Low, 3, 1 << 30),
             ],
             long,
             &[
-                ((1 << 40) - 1, 0b001),
-                ((1 << 41) - 1, 0b001),
-                (3 * (1 << 40) - 1, 0b001),
+                ((1 << 30) - 1, 0b1100),
+                ((1 << 31) - 1, 0b1100),
+                (3 * (1 << 30) - 1, 0b1100),
             ],
         ),
     ];
@@ -395,33 +397,26 @@ fn binds_by_name_and_by_number(rt: HostRuntime) -> Result<(), Fail> {
     let alloc = rt.alloc();
     let names = names(alloc, &["clk", "data", "clk", "4"])?;
     let mut pins = Pins::new();
-    let bound = bind_alt(&words(alloc, "data=r")?, &names, &mut pins);
-    assert_eq!(rt; bound.ok(), Some(alt(Letter::Rise, 0b1, 0)));
-    let bound = bind_alt(&words(alloc, "2=l")?, &names, &mut pins);
-    assert_eq!(rt; bound.ok(), Some(alt(Letter::Low, 0b10, 0)));
-    let bound = bind_alt(&words(alloc, "data=e")?, &names, &mut pins);
-    assert_eq!(rt; bound.ok(), Some(alt(Letter::Edge, 0b1, 0)));
-    let unknown = ItemFault {
-        item: 0,
-        why: BindWhy::Unknown,
-    };
-    let bound = bind_alt(&words(alloc, "5=h")?, &names, &mut pins);
-    assert_eq!(rt; bound.err(), Some(unknown));
-    let bound = bind_alt(&words(alloc, "clk=s")?, &names, &mut pins);
-    assert_eq!(rt; bound.ok(), Some(alt(Letter::Steady, 0b100, 0)));
-    let bound = bind_alt(&words(alloc, "4=f")?, &names, &mut pins);
-    assert_eq!(rt; bound.ok(), Some(alt(Letter::Fall, 0b1000, 0)));
+    for (word, bound) in [
+        ("data=r", Ok(alt(Letter::Rise, 0b1, 0))),
+        ("2=l", Ok(alt(Letter::Low, 0b10, 0))),
+        ("data=e", Ok(alt(Letter::Edge, 0b1, 0))),
+        ("5=h", Err(0)),
+        ("clk=s", Ok(alt(Letter::Steady, 0b100, 0))),
+        ("4=f", Ok(alt(Letter::Fall, 0b1000, 0))),
+        ("any", Ok(Alt::default())),
+        ("1=h,skip=4,3=h", Ok(alt(Letter::High, 0b1001, 4))),
+        ("skip=1,data=h,none=h", Err(2)),
+        ("skip=5", Ok(alt(Letter::Low, 0, 5))),
+    ] {
+        let want = bound.map_err(|item| ItemFault {
+            item,
+            why: BindWhy::Unknown,
+        });
+        let found = bind_alt(&words(alloc, word)?, &names, &mut pins);
+        assert_eq!(rt; found, want, "{word}");
+    }
     assert_eq!(rt; pins.as_slice(), [1, 2, 0, 3].as_slice());
-    let bound = bind_alt(&words(alloc, "any")?, &names, &mut pins);
-    assert_eq!(rt; bound.ok(), Some(Alt::default()));
-    let bound = bind_alt(&words(alloc, "1=h,skip=4,3=h")?, &names, &mut pins);
-    assert_eq!(rt; bound.ok(), Some(alt(Letter::High, 0b1001, 4)));
-    let late = ItemFault {
-        item: 2,
-        why: BindWhy::Unknown,
-    };
-    let bound = bind_alt(&words(alloc, "skip=1,data=h,none=h")?, &names, &mut pins);
-    assert_eq!(rt; bound.err(), Some(late));
     Ok(())
 }
 
@@ -452,32 +447,6 @@ fn binds_no_more_channels_than_a_sample_has_bits(rt: HostRuntime) -> Result<(), 
     };
     assert_eq!(rt; bound.err(), Some(many));
     assert_eq!(rt; pins.len(), 0);
-    Ok(())
-}
-
-#[test]
-fn skips_are_items_that_bind_no_channel(rt: HostRuntime) -> Result<(), Fail> {
-    let alloc = rt.alloc();
-    let names = names(alloc, &["clk"])?;
-    let mut terms = Vec::new(alloc);
-    terms.push(Term::Skip(5)).ok().ok_or("no memory")?;
-    let reference = String::from_str(alloc, "nothing").ok().ok_or("no memory")?;
-    let letter = Letter::High;
-    terms
-        .push(Term::Line { reference, letter })
-        .ok()
-        .ok_or("no memory")?;
-    let mut pins = Pins::new();
-    let bound = bind_alt(&AltWords { terms }, &names, &mut pins);
-    let unknown = ItemFault {
-        item: 1,
-        why: BindWhy::Unknown,
-    };
-    assert_eq!(rt; bound.err(), Some(unknown));
-    let mut terms = Vec::new(alloc);
-    terms.push(Term::Skip(5)).ok().ok_or("no memory")?;
-    let bound = bind_alt(&AltWords { terms }, &names, &mut pins);
-    assert_eq!(rt; bound.ok(), Some(alt(Letter::Low, 0, 5)));
     Ok(())
 }
 
