@@ -20,6 +20,12 @@ samples_of_samples : (l : List ℕ) → samples_in (map Sample l) ≡ l
 samples_of_samples [] = refl
 samples_of_samples (v ∷ l) = ap (λ (k : List ℕ). v ∷ k) (samples_of_samples l)
 
+-- no more samples than items
+pub samples_few : (items : List Item) → length (samples_in items) ≤ length items
+samples_few [] = omega arith
+samples_few (Sample v ∷ items) = omega (arith, samples_few items)
+samples_few (Pack p ∷ items) = omega (arith, samples_few items)
+
 -- more items: those that still count
 pub counted_more : (input more : List Item) → counted_samples (input ++ more) ≡ counted_samples input ++ take (2 ^ 60 - length (counted_samples input)) (samples_in more)
 unfolding counted_samples

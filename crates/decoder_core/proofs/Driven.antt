@@ -1,17 +1,18 @@
 -- A machine that is driven by its waits, over any decoder that keeps the laws.
-use Rattle.std.proofs.Common.{◌≡◌, ℕ, ◌+◌, ◌-◌, ◌^◌, ◌≤◌, min, List, [], ◌++◌, map, take, drop, length, replicate, sym, ◌∙◌, ap, subst, arith, append_assoc, length-append, length-take-le, take-append-drop}
+use Rattle.std.proofs.Common.{◌≡◌, ℕ, ◌+◌, ◌-◌, ◌^◌, ◌≤◌, min, List, [], ◌∷◌, ◌++◌, map, take, drop, length, replicate, sym, ◌∙◌, ap, subst, arith, append_assoc, length-append, length-take, length-take-le, take-append-drop}
 use Rattle.std.proofs.lemmas.List.{take_all, take-append-le, take-replicate, length-replicate}
 use Rattle.la_base.specs.declared.samples.Run.{Run}
 use Rattle.la_base.specs.declared.wires.Out.{Out}
 use Rattle.la_base.specs.Samples.{samples}
 use Rattle.wait_cond.specs.declared.alt.Alt.{Alt}
 use Rattle.wait_cond.specs.declared.scan.Waiter.{Waiter}
-use Rattle.wait_cond.specs.Stops.{IsStop, NoneMet}
+use Rattle.wait_cond.specs.Stops.{IsStop, MetIn, NoneMet}
 use Rattle.wait_cond.specs.Waiting.{Waits, alts_of, wait_from, consumed_by}
-use Rattle.decoder_core.specs.Inputs.{Item, Sample, counted_samples}
-use Rattle.decoder_core.specs.Driving.{Drives}
+use Rattle.wait_cond.proofs.ChainLemmas.{none_in_longer, none_in_shorter, no_stop}
+use Rattle.decoder_core.specs.Inputs.{Item, Sample, samples_in, counted_samples}
+use Rattle.decoder_core.specs.Driving.{Drives, Sleeps}
 use Rattle.decoder_core.specs.Laws.{IsQuiet}
-use Rattle.decoder_core.proofs.Counting.{counted_more_samples, take_equal, samples_are, take_past}
+use Rattle.decoder_core.proofs.Counting.{counted_more, counted_more_samples, samples_few, take_equal, samples_are, take_past}
 
 module _ {L S : Type 0} (setup : L → S) (outs : S → List ℕ → List Out) (stands : L → List ℕ → Type 0) (alts : L → List Alt)
     (quiet : (machine : L) → IsQuiet (outs (setup machine)) (stands machine) (alts machine)) where
@@ -106,6 +107,62 @@ module _ {L S : Type 0} (setup : L → S) (outs : S → List ℕ → List Out) (
           sym list_len ∙ ap length (sym parts),
           parts,
         )
+
+    -- more items, and those of them that count
+    more_items : (earlier next : List Item) → (more : List ℕ) × (counted_samples (input ++ (earlier ++ next)) ≡ counted_samples (input ++ earlier) ++ more)
+    more_items earlier next = (
+      take (2 ^ 60 - length (counted_samples (input ++ earlier))) (samples_in next),
+      ap counted_samples (sym (append_assoc input earlier next)) ∙ counted_more (input ++ earlier) next,
+    )
+
+    -- where items hold no stop up to a place, the earlier ones that end before it hold none
+    pub asleep : (earlier next : List Item) (end : ℕ) → length (counted_samples (input ++ earlier)) ≤ end → NoneMet (counted_samples (input ++ (earlier ++ next))) (alts machine) (wait_from waiter) end → Sleeps alts machine waiter input earlier
+    asleep earlier next end within none =
+        let m = more_items earlier next in
+        let short = counted_samples (input ++ earlier) in
+        none_in_shorter short m.0 (alts machine) (wait_from waiter) (length short) (omega arith)
+        (λ q after below. subst (λ (l : List ℕ). MetIn l (alts machine) (wait_from waiter) q 0) m.1 (none q after (omega (arith, below, within))))
+
+    -- a wait that went on over items passed over no stop
+    pub passed_over : (later : Waiter) (front earlier : List Item) (last : Item) → Drives stands alts machine later (input ++ front) → wait_from later ≡ wait_from waiter → front ≡ earlier ++ last ∷ [] → Sleeps alts machine waiter input earlier
+    passed_over later front earlier last after from is =
+        let whole = counted_samples (input ++ front) in
+        let none : NoneMet whole (alts machine) (wait_from waiter) (length whole) =
+        subst (λ (n : ℕ). NoneMet whole (alts machine) n (length whole)) from (subst (λ (l : List Alt). NoneMet whole l (wait_from later) (length whole)) after.cond
+        (subst (λ (n : ℕ). NoneMet whole (alts_of later) (wait_from later) n) (sym after.waits.count) after.waits.none)) in
+        let m = more_items earlier (last ∷ []) in
+        let total : length whole ≡ length (counted_samples (input ++ earlier) ++ m.0) = ap (λ (l : List Item). length (counted_samples (input ++ l))) is ∙ ap length m.1 in
+        asleep earlier (last ∷ []) (length whole) (omega (arith, total, length-append (counted_samples (input ++ earlier)) m.0))
+        (subst (λ (l : List Item). NoneMet (counted_samples (input ++ l)) (alts machine) (wait_from waiter) (length whole)) is none)
+
+    -- items that end with a stop: the earlier ones hold none, and all of them hold one
+    module _ (front : List Item) (whole : List ℕ) (at met : ℕ) (is : counted_samples (input ++ front) ≡ take (at + 1) whole) (stop : IsStop whole (alts_of waiter) (wait_from waiter) at met) where
+      own_stop : IsStop whole (alts machine) (wait_from waiter) at met
+      own_stop = subst (λ (l : List Alt). IsStop whole l (wait_from waiter) at met) d.cond stop
+
+      here : length (take (at + 1) whole) ≡ at + 1
+      here = length-take-le (at + 1) whole (omega (arith, stop.within))
+
+      pub before_stop : (earlier : List Item) (last : Item) → at + 1 ≡ length list + length front → front ≡ earlier ++ last ∷ [] → Sleeps alts machine waiter input earlier
+      before_stop earlier last place parts =
+          let count : length front ≡ length (earlier ++ last ∷ []) = ap length parts in
+          let few : length (counted_samples (input ++ earlier)) ≡ length (list ++ take (2 ^ 60 - length list) (samples_in earlier)) = ap length (counted_more input earlier) in
+          let within : length (counted_samples (input ++ earlier)) ≤ at =
+          omega (arith, few, length-append list (take (2 ^ 60 - length list) (samples_in earlier)), length-take (2 ^ 60 - length list) (samples_in earlier), samples_few earlier, count, length-append earlier (last ∷ []), place) in
+          let long : NoneMet (take (at + 1) whole ++ drop (at + 1) whole) (alts machine) (wait_from waiter) at =
+          subst (λ (l : List ℕ). NoneMet l (alts machine) (wait_from waiter) at) (sym (take-append-drop (at + 1) whole)) own_stop.first in
+          let short = none_in_shorter (take (at + 1) whole) (drop (at + 1) whole) (alts machine) (wait_from waiter) at (omega (arith, here)) long in
+          asleep earlier (last ∷ []) at within
+          (subst (λ (l : List Item). NoneMet (counted_samples (input ++ l)) (alts machine) (wait_from waiter) at) parts (subst (λ (l : List ℕ). NoneMet l (alts machine) (wait_from waiter) at) (sym is) short))
+
+      pub awake : ¬ Sleeps alts machine waiter input front
+      awake none =
+          let short : NoneMet (take (at + 1) whole) (alts machine) (wait_from waiter) (at + 1) =
+          subst (λ (n : ℕ). NoneMet (take (at + 1) whole) (alts machine) (wait_from waiter) n) here (subst (λ (l : List ℕ). NoneMet l (alts machine) (wait_from waiter) (length l)) is none) in
+          let long : NoneMet whole (alts machine) (wait_from waiter) (at + 1) =
+          subst (λ (l : List ℕ). NoneMet l (alts machine) (wait_from waiter) (at + 1)) (take-append-drop (at + 1) whole)
+          (none_in_longer (take (at + 1) whole) (drop (at + 1) whole) (alts machine) (wait_from waiter) (at + 1) (omega (arith, here)) short) in
+          no_stop whole (alts machine) (wait_from waiter) (at + 1) at met long (omega arith) own_stop
 
     -- what doesn't count is passed over
     pub passed : (next : List Item) → counted_samples (input ++ next) ≡ list → Drives stands alts machine waiter (input ++ next) × (outs (setup machine) (counted_samples (input ++ next)) ≡ outs (setup machine) list)

@@ -52,4 +52,5 @@ module _ {L S : Type 0} (setup : L → S) (stands : L → List ℕ → Type 0) (
         record {
           machine = equal;
           numbers = record { consumed = consumed; from = same_from; last = d.waits.last_is ∙ ap (λ (n : ℕ). slice_index (counted_samples input) (n - 1)) consumed ∙ sym e.waits.last_is };
+          alts = d.cond ∙ ap alts equal ∙ sym e.cond;
         }

@@ -1,9 +1,10 @@
 -- What one step of a machine does, and what a driver stands for.
-use Rattle.std.specs.Prelude.{ℕ, ◌≡◌, ◌<◌, List, ◌++◌, length, take, Option, IfSome}
+use Rattle.std.specs.Prelude.{ℕ, ◌≡◌, ◌<◌, List, [], ◌∷◌, ◌++◌, length, take, Option, IfSome}
 use Rattle.la_base.specs.declared.wires.Feed.{Feed}
 use Rattle.la_base.specs.declared.wires.Out.{Out}
 use Rattle.wait_cond.specs.declared.alt.Alt.{Alt}
 use Rattle.wait_cond.specs.declared.scan.Waiter.{Waiter}
+use Rattle.wait_cond.specs.Stops.{NoneMet}
 use Rattle.wait_cond.specs.Waiting.{Waits, SameNumbers, wait_from, alts_of}
 use Rattle.decoder_core.specs.Inputs.{Item, items_of, left_items, counted_samples}
 
@@ -16,13 +17,25 @@ pub record Steps (before after : List Item → Type 0) (outputs : List Item → 
   pub consumes : (input : List Item) → before input → after (input ++ front)
   pub gives : (input : List Item) → before input → outputs (input ++ front) ≡ outputs input ++ into
 
+-- a step goes on to the first stop or to the end of the feed: before the last item of what was consumed there is no stop, and where anything is left that item is one. `before` says of which inputs the machine stood, and `sleeps` of which items behind an input none is a stop
+pub record StopsFirst (before : List Item → Type 0) (sleeps : List Item → List Item → Type 0) (feed : Feed) (left : Option Feed) : Type 0 where
+  pub front : List Item
+  pub split : items_of feed ≡ front ++ left_items left
+  pub none : (input earlier : List Item) (last : Item) → before input → front ≡ earlier ++ last ∷ [] → sleeps input earlier
+  pub stop : 0 < length (left_items left) → (input : List Item) → before input → ¬ sleeps input front
+
 -- a driver has consumed this input: its waiter stands for the samples that count, and its machine for those up to its last stop
 pub record Drives {L : Type 0} (stands : L → List ℕ → Type 0) (alts : L → List Alt) (machine : L) (waiter : Waiter) (input : List Item) : Type 0 where
   pub waits : Waits waiter (counted_samples input)
   pub machine_stands : stands machine (take (wait_from waiter) (counted_samples input))
   pub cond : alts_of waiter ≡ alts machine
 
--- two drivers hold the same: equal machines, and waiters with equal numbers
+-- behind an input that a driver has consumed, no sample of these items that counts is a stop of its wait
+abbrev pub Sleeps : {L : Type 0} → (L → List Alt) → L → Waiter → List Item → List Item → Type 0
+Sleeps alts machine waiter input more = NoneMet (counted_samples (input ++ more)) (alts machine) (wait_from waiter) (length (counted_samples (input ++ more)))
+
+-- two drivers hold the same: equal machines, and waiters with equal numbers and alternatives
 pub record SameState {L : Type 0} (one other : L) (waiter other_waiter : Waiter) : Type 0 where
   pub machine : one ≡ other
   pub numbers : SameNumbers waiter other_waiter
+  pub alts : alts_of waiter ≡ alts_of other_waiter

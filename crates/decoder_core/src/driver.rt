@@ -1,8 +1,9 @@
 // Drives a decoder of samples by the waits that it asks for.
 ghost use Rattle.std.specs.Prelude.{◌≡◌, ◌≤◌, ◌<◌, ◌+◌, ◌^◌, [], ◌∷◌, ◌++◌, ℕ, List, length, min, replicate, ◌-◌, IfSome};
 ghost use Rattle.la_base.specs.declared.wires.Wire.TheVariants.{Logic};
+ghost use Rattle.wait_cond.specs.Waiting.{Waits, alts_of, wait_from, consumed_by};
 ghost use Rattle.decoder_core.specs.Inputs.{Item, Sample, counted_samples, items_of, left_items};
-ghost use Rattle.decoder_core.specs.Driving.{Steps, Drives, SameState};
+ghost use Rattle.decoder_core.specs.Driving.{Steps, StopsFirst, Drives, Sleeps, SameState};
 ghost use Rattle.decoder_core.specs.CountedLaws.{nothing_counted, front_counted, few_counted};
 
 use crate::{LogicMachine, Machine, Outs};
@@ -37,6 +38,7 @@ impl<L: LogicMachine> Driver<L> {
         ensures setup { L.setup self.new.machine ≡ L.setup self.old.machine }
         ensures step { Steps (Drives L.stands L.alts self.old.machine self.old.waiter) (Drives L.stands L.alts self.new.machine self.new.waiter)
             (λ input. L.outs (L.setup self.old.machine) (counted_samples input)) (Feed.Run run) result into.new }
+        ensures stops { StopsFirst (Drives L.stands L.alts self.old.machine self.old.waiter) (Sleeps L.alts self.old.machine self.old.waiter) (Feed.Run run) result }
     {
         let before = self.waiter.consumed();
         if before >= MOST_SAMPLES {
@@ -46,10 +48,23 @@ impl<L: LogicMachine> Driver<L> {
             Scan::Through => None,
             Scan::Met { at, value, met, .. } => {
                 self.machine.resume(at, value, met, into);
-                self.waiter.renew(self.machine.cond());
+                wait_on(&self.machine, &mut self.waiter);
                 behind(run, at + 1 - before)
             }
         }
+    }
+}
+
+// Begins the wait for what a machine waits for, behind its last stop. Where its setup fixes that, the
+// waiter has it already: to make it anew at each stop would take a tenth of a decode.
+fn wait_on<L: LogicMachine>(machine: &L, waiter: &mut Waiter)
+    requires { wait_from waiter.old ≡ consumed_by waiter.old }
+    ensures waits { (list : List ℕ) → Waits waiter.old list → Waits waiter.new list }
+    ensures from { wait_from waiter.new ≡ wait_from waiter.old }
+    ensures alts { (before : L) → L.setup before ≡ L.setup machine.now → alts_of waiter.old ≡ L.alts before → alts_of waiter.new ≡ L.alts machine.now }
+{
+    if !machine.has_fixed_cond() {
+        waiter.renew(machine.cond());
     }
 }
 
@@ -96,6 +111,8 @@ impl<L: LogicMachine> Machine for Driver<L> {
 
     ghost consumed = { λ d input. Drives L.stands L.alts d.machine d.waiter input };
 
+    ghost sleeps = { λ d input more. Sleeps L.alts d.machine d.waiter input more };
+
     fn wants(&self) -> Wire {
         Wire::Logic
     }
@@ -124,7 +141,7 @@ impl<L: LogicMachine> Machine for Driver<L> {
 }
 
 /// The input makes the driver: two drivers of one setup that have consumed the same input hold equal
-/// machines and equal counts of samples, last stops and last samples. (A law; nothing is done.)
+/// machines and equal counts of samples, last stops, last samples and alternatives. (A law; nothing is done.)
 pub fn one_input_makes_one_driver<L: LogicMachine>(one: &Driver<L>, other: &Driver<L>)
     ensures { (input : List Item) → L.setup one.now.machine ≡ L.setup other.now.machine
         → Drives L.stands L.alts one.now.machine one.now.waiter input → Drives L.stands L.alts other.now.machine other.now.waiter input

@@ -51,6 +51,10 @@ impl LogicMachine for Edges {
         })
     }
 
+    fn has_fixed_cond(&self) -> bool {
+        true
+    }
+
     fn resume(&mut self, at: u64, value: Word, _met: u8, into: &mut Outs) {
         into.push(Out::Note(Note {
             class: 0,

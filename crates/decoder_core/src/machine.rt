@@ -1,12 +1,12 @@
 // What a decoder is, by the outputs of its whole input.
-ghost use Rattle.std.specs.Prelude.{◌≡◌, ◌≤◌, ◌<◌, ◌+◌, ◌^◌, [], ◌∷◌, ◌++◌, ℕ, List, length, take};
+ghost use Rattle.std.specs.Prelude.{◌≡◌, ◌≤◌, ◌<◌, ◌+◌, ◌^◌, [], ◌∷◌, ◌++◌, ℕ, List, length, take, true};
 ghost use Rattle.la_base.specs.declared.wires.Out.{Out};
 ghost use Rattle.la_base.specs.declared.wires.Wire.{Wire};
 ghost use Rattle.wait_cond.specs.declared.alt.Alt.{Alt};
 ghost use Rattle.wait_cond.specs.Conds.{cond_alts};
 ghost use Rattle.decoder_core.specs.Inputs.{Item};
 ghost use Rattle.decoder_core.specs.Laws.{IsFloor, GivesNothing, GivesOn, KeepsFront, PacketsInOrder, AddsFew, Rests, IsQuiet, IsLoud, StandsThere, OneMachine, OneLastStop};
-ghost use Rattle.decoder_core.specs.Driving.{Steps};
+ghost use Rattle.decoder_core.specs.Driving.{Steps, StopsFirst};
 
 use crate::Outs;
 use la_base::{Feed, Wire, Word};
@@ -40,6 +40,10 @@ pub trait LogicMachine {
     /// The condition of its next stop.
     fn cond(&self) -> Cond
         ensures { cond_alts result ≡ alts self.now };
+
+    /// Whether its setup fixes the alternatives. Then `cond` isn't asked again after the first wait.
+    fn has_fixed_cond(&self) -> bool
+        ensures { result ≡ true → (other : Self) → setup other ≡ setup self.now → alts other ≡ alts self.now };
 
     /// Takes the stop at sample number `at`, whose value is `value`; bit i of `met` says whether it
     /// meets alternative i. *Loud*: the outputs grow by those that are put into `into`, in their order,
@@ -109,17 +113,21 @@ pub trait Machine {
     /// It has consumed this input.
     ghost consumed: { Self → List Item → Type 0 };
 
+    /// Behind an input that it has consumed, no item of the second list is a stop.
+    ghost sleeps: { Self → List Item → List Item → Type 0 };
+
     /// The wire that it wants.
     fn wants(&self) -> Wire
         ensures { result ≡ wire (setup self.now) };
 
-    /// Consumes a feed up to its first stop, puts the outputs of that stop into `into`, and answers
-    /// what is left of a run, if anything is. What doesn't count for this decoder is consumed whole and
+    /// Consumes a feed up to its first stop, and whole where it has none; puts the outputs of that stop
+    /// into `into`, and answers what is left of a run, if anything is. What doesn't count for this decoder is consumed whole and
     /// gives nothing. `End` gives nothing and answers None.
     fn step(&mut self, feed: Feed, into: &mut Outs) -> Option<Feed>
         requires { into.old ≡ [] }
         ensures setup { setup self.new ≡ setup self.old }
-        ensures step { Steps (consumed self.old) (consumed self.new) (outputs (setup self.old)) feed result into.new };
+        ensures step { Steps (consumed self.old) (consumed self.new) (outputs (setup self.old)) feed result into.new }
+        ensures stops { StopsFirst (consumed self.old) (sleeps self.old) feed result };
 
     /// At most the start of every note that is still to come, and at least the start of what has begun
     /// and isn't given yet.

@@ -1,9 +1,12 @@
 -- What holds of every list that is cut.
-use Rattle.std.specs.Prelude.{ℕ, ◌≡◌, ◌+◌, ◌*◌, ◌/◌, ◌<◌, suc, Bool, true, false, List, [], ◌∷◌, ◌++◌, map, length, take, drop, replicate, Option, Some, None, slice_get}
+use Rattle.std.specs.Prelude.{ℕ, ◌≡◌, ◌+◌, ◌*◌, ◌/◌, ◌^◌, ◌<◌, ◌==◌, if◌then◌else◌, suc, Bool, true, false, List, [], ◌∷◌, ◌++◌, map, length, take, drop, replicate, Option, Some, None, slice_get}
 use Rattle.std.specs.List.{flat_map}
+use Rattle.list_cuts.specs.Along.{along_from, along}
+use Rattle.list_cuts.specs.Bits.{bit_of, high_first, low_first}
 use Rattle.list_cuts.specs.Groups.{groups, after_groups}
 use Rattle.list_cuts.specs.LastWhere.{last_where, last_that, StandsLast}
 use Rattle.list_cuts.specs.Neighbours.{neighbours_from, at_neighbours, last_from, last_of, AllAt, Rise}
+use Rattle.list_cuts.specs.Places.{first_place, last_place}
 use Rattle.list_cuts.specs.Parts.{before_mark, parts, IsPart, grow_last, Part, parts_between, longer, ended, grow_open, end_open}
 
 -- the whole groups of n elements, and what they leave
@@ -56,3 +59,20 @@ pub record LastWhere (X : Type 0) (test : X → Bool) : Type 0 where
   pub none : (list : List X) → last_where test list ≡ None → (last_that test list ≡ None) × ((k : ℕ) (other : X) → slice_get list k ≡ Some other → test other ≡ false)
   pub stands : (list : List X) (place : ℕ) → last_where test list ≡ Some place → (element : X) × StandsLast test list place element × (last_that test list ≡ Some element)
   pub found : (list : List X) (place : ℕ) (element : X) → StandsLast test list place element → (last_where test list ≡ Some place) × (last_that test list ≡ Some element)
+
+-- what items give with those before them
+pub record Along (X Y : Type 0) (f : List X → X → List Y) : Type 0 where
+  pub one_more : (list : List X) (x : X) → along f (list ++ x ∷ []) ≡ along f list ++ f list x
+  pub more : (list later : List X) → along f (list ++ later) ≡ along f list ++ along_from f list later
+
+-- numbers that bits make up
+pub record Bits : Type 0 where
+  pub high : (bits : List Bool) (b : Bool) → high_first (bits ++ b ∷ []) ≡ 2 * high_first bits + bit_of b
+  pub high_below : (bits : List Bool) → high_first bits < 2 ^ length bits
+  pub low : (bits : List Bool) (b : Bool) → low_first (bits ++ b ∷ []) ≡ low_first bits + bit_of b * 2 ^ length bits
+  pub low_below : (bits : List Bool) → low_first bits < 2 ^ length bits
+
+-- the first and the last place of events
+pub record Places (E : Type 0) (place : E → ℕ) : Type 0 where
+  pub first : (es : List E) (e : E) → first_place place (es ++ e ∷ []) ≡ (if length es == 0 then place e else first_place place es)
+  pub last : (es : List E) (e : E) → last_place place (es ++ e ∷ []) ≡ place e

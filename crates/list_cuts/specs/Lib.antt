@@ -1,7 +1,10 @@
+pub mod Along
+pub mod Bits
 pub mod Groups
 pub mod Kept
 pub mod LastWhere
 pub mod Laws
 pub mod Neighbours
 pub mod Parts
+pub mod Places
 pub mod Rising

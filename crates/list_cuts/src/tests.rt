@@ -116,4 +116,7 @@ fn laws_hold() {
     part_laws::<u64>();
     between_laws::<u64>();
     last_laws::<u64>();
+    along_laws::<u64, usize>();
+    bit_laws();
+    place_laws::<u64>();
 }
