@@ -1,16 +1,16 @@
 -- I2C on a whole list of samples, by UM10204: START and STOP conditions (3.1.4), bytes with the most significant bit
 -- first (3.1.5), acknowledge (3.1.6), address and R/W (3.1.10).
-use Rattle.std.specs.Prelude.{ℕ, ◌+◌, ◌*◌, ◌/◌, ◌%◌, min, nat_lt, ◌&&◌, Bool, true, false, ◌==◌, if◌then◌else◌, List, [], ◌∷◌, ◌++◌, length, take, drop, Option, Some, None, is_some}
+use Rattle.std.specs.Prelude.{ℕ, ◌+◌, ◌/◌, ◌%◌, nat_lt, ◌&&◌, Bool, true, false, ◌==◌, if◌then◌else◌, List, [], ◌∷◌, ◌++◌, length, map, take, drop, Option, Some, None, is_some}
 use Rattle.std.specs.List.{flat_map}
-use Rattle.std.proofs.Math.Nat.{le_refl, min-le_right}
 use Rattle.la_base.specs.Samples.{is_high}
 use Rattle.la_base.specs.declared.wires.Out.{Out}
-use Rattle.la_base.specs.declared.wires.Out.TheVariants.{Note as NoteOut, Piece as PieceOut, Packet as PacketOut}
-use Rattle.la_base.specs.declared.wires.PacketKind.{PacketKind}
 use Rattle.la_base.specs.declared.wires.PacketKind.TheVariants.{I2cStart, I2cStop, I2cAddress, I2cData, I2cAck}
+use Rattle.list_cuts.specs.Bits.{high_first}
 use Rattle.list_cuts.specs.Groups.{groups, after_groups}
 use Rattle.list_cuts.specs.Neighbours.{at_neighbours}
 use Rattle.list_cuts.specs.Parts.{parts}
+use Rattle.list_cuts.specs.Places.{first_place, last_place}
+use Rattle.decoder_core.specs.Outputs.{note_at, packet_at, span_note, span_piece, span_packet}
 use Rattle.dec_i2c.specs.declared.held.Role.{Role}
 use Rattle.dec_i2c.specs.declared.held.Role.TheVariants.{Address, Write, Read}
 
@@ -49,67 +49,32 @@ level_of (Start k) = false
 level_of (Stop k) = false
 level_of (Clock k level) = level
 
-abbrev pub bit_of : Bool → ℕ
-bit_of true = 1
-bit_of false = 0
-
--- a number with the bits of clocks behind it, and the number that clocks make up: the first bit is the highest
-abbrev pub value_from : ℕ → List Event → ℕ
-value_from n [] = n
-value_from n (clock ∷ clocks) = value_from (2 * n + bit_of (level_of clock)) clocks
-
+-- the number that clocks make up: the first bit is the highest
 abbrev pub value_of : List Event → ℕ
-value_of clocks = value_from 0 clocks
-
--- the places of the first and the last of some clocks
-abbrev pub first_place : List Event → ℕ
-first_place [] = 0
-first_place (clock ∷ clocks) = place_of clock
-
-abbrev pub last_place : List Event → ℕ
-last_place [] = 0
-last_place (clock ∷ []) = place_of clock
-last_place (clock ∷ next ∷ clocks) = last_place (next ∷ clocks)
-
--- outputs of one sample
-abbrev pub note_at : ℕ → ℕ → Out
-note_at class k = NoteOut (record { class = class; start = k; end = k; a = 0; b = 0; in_order = le_refl k })
-
-abbrev pub packet_at : PacketKind → ℕ → ℕ → Out
-packet_at kind k a = PacketOut (record { kind = kind; start = k; end = k; a = a; b = 0; in_order = le_refl k })
-
--- outputs from one sample up to another; the first never stands behind the last
-abbrev pub span_note : ℕ → ℕ → ℕ → ℕ → Out
-span_note class first last a = NoteOut (record { class = class; start = min first last; end = last; a = a; b = 0; in_order = min-le_right first last })
-
-abbrev pub span_piece : ℕ → ℕ → ℕ → ℕ → Out
-span_piece class first last byte = PieceOut (record { class = class; start = min first last; end = last; byte = byte; in_order = min-le_right first last })
-
-abbrev pub span_packet : PacketKind → ℕ → ℕ → ℕ → ℕ → Out
-span_packet kind first last a b = PacketOut (record { kind = kind; start = min first last; end = last; a = a; b = b; in_order = min-le_right first last })
+value_of clocks = high_first (map level_of clocks)
 
 -- a START, repeated or not
 abbrev pub start_outs : Bool → ℕ → List Out
-start_outs false k = note_at 0 k ∷ packet_at I2cStart k 0 ∷ []
-start_outs true k = note_at 1 k ∷ packet_at I2cStart k 1 ∷ []
+start_outs false k = note_at 0 k 0 ∷ packet_at I2cStart k 0 ∷ []
+start_outs true k = note_at 1 k 0 ∷ packet_at I2cStart k 1 ∷ []
 
 abbrev pub stop_outs : ℕ → List Out
-stop_outs k = note_at 2 k ∷ packet_at I2cStop k 0 ∷ []
+stop_outs k = note_at 2 k 0 ∷ packet_at I2cStop k 0 ∷ []
 
 -- an acknowledge bit: SDA low is ACK, high is NACK
 abbrev pub ack_outs : ℕ → Bool → List Out
-ack_outs k false = note_at 7 k ∷ packet_at I2cAck k 0 ∷ []
-ack_outs k true = note_at 8 k ∷ packet_at I2cAck k 1 ∷ []
+ack_outs k false = note_at 7 k 0 ∷ packet_at I2cAck k 0 ∷ []
+ack_outs k true = note_at 8 k 0 ∷ packet_at I2cAck k 1 ∷ []
 
 -- a byte: the address in the upper seven bits and R/W in the lowest, or data
 abbrev pub byte_outs : Role → ℕ → ℕ → ℕ → List Out
-byte_outs Address first last byte = span_note (3 + byte % 2) first last (byte / 2) ∷ span_packet I2cAddress first last (byte / 2) (byte % 2) ∷ []
-byte_outs Write first last byte = span_note 5 first last byte ∷ span_piece 0 first last byte ∷ span_packet I2cData first last byte 0 ∷ []
-byte_outs Read first last byte = span_note 6 first last byte ∷ span_piece 1 first last byte ∷ span_packet I2cData first last byte 1 ∷ []
+byte_outs Address first last byte = span_note (3 + byte % 2) first last (byte / 2) 0 ∷ span_packet I2cAddress first last (byte / 2) (byte % 2) ∷ []
+byte_outs Write first last byte = span_note 5 first last byte 0 ∷ span_piece 0 first last byte ∷ span_packet I2cData first last byte 0 ∷ []
+byte_outs Read first last byte = span_note 6 first last byte 0 ∷ span_piece 1 first last byte ∷ span_packet I2cData first last byte 1 ∷ []
 
 -- eight clocks are a byte
 abbrev pub eight_outs : Role → List Event → List Out
-eight_outs role clocks = byte_outs role (first_place clocks) (last_place clocks) (value_of clocks)
+eight_outs role clocks = byte_outs role (first_place place_of clocks) (last_place place_of clocks) (value_of clocks)
 
 -- nine clocks are a byte and its acknowledge bit
 abbrev pub group_outs : Role → List Event → List Out
@@ -181,7 +146,7 @@ open_segment scl sda samples = last_segment (parts is_mark (events scl sda sampl
 
 -- where the clocks behind the whole groups begin, if they are one to seven: a byte that isn't given yet
 abbrev pub begun_at : List Event → ℕ → ℕ
-begun_at rest next = if nat_lt 0 (length rest) && nat_lt (length rest) 8 then first_place rest else next
+begun_at rest next = if nat_lt 0 (length rest) && nat_lt (length rest) 8 then first_place place_of rest else next
 
 abbrev pub near_in : Option (List Event) → ℕ → ℕ
 near_in None next = next

@@ -1,14 +1,5 @@
 pub mod Bus
-pub mod Rows
-pub mod Known
-pub mod ClockLaws
-pub mod EventLaws
-pub mod GivenLaws
-pub mod Waits
-pub mod MetLaws
-pub mod Standing
-pub mod I2cLaws
-pub mod Opening
-pub mod MachineLaws
 pub mod Texts
-pub mod WireLaws
+pub mod Opening
+pub mod Rows
+pub mod laws

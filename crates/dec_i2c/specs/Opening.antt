@@ -5,8 +5,8 @@ use Rattle.decoder_core.specs.declared.faults.OptFault.TheVariants.{Range}
 use Rattle.dec_i2c.specs.declared.held.Bus.{Bus}
 use Rattle.dec_i2c.specs.declared.held.I2c.{I2c}
 use Rattle.dec_i2c.specs.declared.held.I2cOpts.{I2cOpts}
-use Rattle.dec_i2c.specs.Known.{held_at}
-use Rattle.dec_i2c.specs.Waits.{EndsAtEvent}
+use Rattle.dec_i2c.specs.laws.Machine.{held_at}
+use Rattle.dec_i2c.specs.laws.Machine.{EndsAtEvent}
 
 -- the lines of a decoder
 abbrev pub bus_of : I2c → Bus

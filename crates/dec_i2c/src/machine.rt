@@ -1,13 +1,13 @@
 // I2C as a decoder of samples: it sleeps between two events.
 ghost use Rattle.std.specs.Prelude.{◌≡◌, ◌<◌, ◌^◌, ◌∷◌, [], ℕ, List};
 ghost use Rattle.dec_i2c.specs.Bus.{i2c_outs, i2c_near};
-ghost use Rattle.dec_i2c.specs.Known.{near_by};
-ghost use Rattle.dec_i2c.specs.Waits.{clock_alt, i2c_alts};
+ghost use Rattle.dec_i2c.specs.laws.Machine.{near_by};
+ghost use Rattle.dec_i2c.specs.laws.Machine.{clock_alt, i2c_alts};
 ghost use Rattle.dec_i2c.specs.Opening.{StandsFor, Opens};
-ghost use Rattle.dec_i2c.specs.I2cLaws.{i2c_quiet, i2c_nothing, i2c_prefix, i2c_order, i2c_few, i2c_one_stop};
+ghost use Rattle.dec_i2c.specs.laws.I2cLaws.{i2c_quiet, i2c_nothing, i2c_prefix, i2c_order, i2c_few, i2c_one_stop};
 ghost use Rattle.la_base.specs.declared.wires.Wire.TheVariants.{I2c as I2cWire};
-ghost use Rattle.dec_i2c.specs.WireLaws.{i2c_on_wire};
-ghost use Rattle.dec_i2c.specs.MachineLaws.{one_i2c, ends_too};
+ghost use Rattle.dec_i2c.specs.laws.WireLaws.{i2c_on_wire};
+ghost use Rattle.dec_i2c.specs.laws.MachineLaws.{one_i2c, ends_too};
 
 use crate::outputs::give;
 use crate::steps::{closed, step};
@@ -108,6 +108,10 @@ impl LogicMachine for I2c {
         cond.add(steady_alt(self.bus, sda, 0));
         cond.add(clock_alt(self.bus));
         cond
+    }
+
+    fn has_fixed_cond(&self) -> bool {
+        true
     }
 
     fn resume(&mut self, at: u64, value: Word, met: u8, into: &mut Outs) {

@@ -1,7 +1,7 @@
 // How an event changes what is kept.
 ghost use Rattle.std.specs.Prelude.{◌≡◌};
-ghost use Rattle.dec_i2c.specs.Known.{closed, begun, role_next, clock_next, next};
-ghost use Rattle.dec_i2c.specs.Waits.{event_met};
+ghost use Rattle.dec_i2c.specs.laws.Machine.{closed, begun, role_next, clock_next, next};
+ghost use Rattle.dec_i2c.specs.laws.Machine.{event_met};
 
 use crate::outputs::grown;
 use crate::{Held, Role};

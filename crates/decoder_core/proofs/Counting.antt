@@ -7,7 +7,7 @@ use Rattle.la_base.specs.declared.samples.Run.{Run}
 use Rattle.la_base.specs.Samples.{samples}
 use Rattle.la_base.specs.declared.wires.Packet.{Packet}
 use Rattle.decoder_core.specs.Inputs.{Item, Sample, Pack, samples_in, counted_samples}
-use Rattle.decoder_core.specs.CountedLaws.{take_none, samples_append}
+use Rattle.decoder_core.specs.laws.CountedLaws.{take_none, samples_append}
 
 take_both : (n : ℕ) (xs ys : List ℕ) → take n (xs ++ ys) ≡ take n xs ++ take (n - length xs) ys
 take_both n [] ys = let all : n ≡ n - 0 = omega arith in ap (λ (l : List ℕ). l ++ take n ys) (sym (take_none n)) ∙ ap (λ (k : ℕ). take n [] ++ take k ys) all

@@ -11,7 +11,7 @@ use Rattle.wait_cond.specs.Waiting.{Waits, alts_of, wait_from, consumed_by}
 use Rattle.wait_cond.proofs.ChainLemmas.{none_in_longer, none_in_shorter, no_stop}
 use Rattle.decoder_core.specs.Inputs.{Item, Sample, samples_in, counted_samples}
 use Rattle.decoder_core.specs.Driving.{Drives, Sleeps}
-use Rattle.decoder_core.specs.Laws.{IsQuiet}
+use Rattle.decoder_core.specs.Promises.{IsQuiet}
 use Rattle.decoder_core.proofs.Counting.{counted_more, counted_more_samples, samples_few, take_equal, samples_are, take_past}
 
 module _ {L S : Type 0} (setup : L → S) (outs : S → List ℕ → List Out) (stands : L → List ℕ → Type 0) (alts : L → List Alt)

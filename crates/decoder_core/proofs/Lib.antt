@@ -1,4 +1,4 @@
 pub mod Counting
 pub mod Driven
 pub mod OneDriver
-pub mod EdgeStops
+pub mod Ordered

@@ -8,7 +8,7 @@ use Rattle.wait_cond.specs.Stops.{NoneMet}
 use Rattle.wait_cond.specs.Waiting.{alts_of, wait_from, consumed_by}
 use Rattle.wait_cond.proofs.ChainLemmas.{none_in_shorter}
 use Rattle.decoder_core.specs.Inputs.{Item, counted_samples}
-use Rattle.decoder_core.specs.Laws.{Rests, OneMachine, OneLastStop}
+use Rattle.decoder_core.specs.Promises.{Rests, OneMachine, OneLastStop}
 use Rattle.decoder_core.specs.Driving.{Drives, SameState}
 
 module _ {L S : Type 0} (setup : L → S) (stands : L → List ℕ → Type 0) (alts : L → List Alt)

@@ -1,8 +1,6 @@
 pub mod Inputs
-pub mod Laws
-pub mod OutLaws
+pub mod Promises
+pub mod Outputs
 pub mod Driving
-pub mod CountedLaws
-pub mod Edges
-pub mod EdgeLaws
 pub mod Trees
+pub mod laws

@@ -4,7 +4,7 @@ ghost use Rattle.la_base.specs.declared.wires.Wire.TheVariants.{Logic};
 ghost use Rattle.wait_cond.specs.Waiting.{Waits, alts_of, wait_from, consumed_by};
 ghost use Rattle.decoder_core.specs.Inputs.{Item, Sample, counted_samples, items_of, left_items};
 ghost use Rattle.decoder_core.specs.Driving.{Steps, StopsFirst, Drives, Sleeps, SameState};
-ghost use Rattle.decoder_core.specs.CountedLaws.{nothing_counted, front_counted, few_counted};
+ghost use Rattle.decoder_core.specs.laws.CountedLaws.{nothing_counted, front_counted, few_counted};
 
 use crate::{LogicMachine, Machine, Outs};
 use la_base::{Feed, Run, Wire};

@@ -2,15 +2,15 @@
 #![tactic(auto)]
 
 mod driver;
-mod edges;
 mod faults;
 mod machine;
+mod outputs;
 mod outs;
 
 pub use driver::{Driver, one_input_makes_one_driver};
-pub use edges::Edges;
 pub use faults::OptFault;
 pub use machine::{LogicMachine, Machine};
+pub use outputs::{note_at, packet_at, span_note, span_packet, span_piece};
 pub use outs::Outs;
 
 #[cfg(test)]

@@ -5,7 +5,7 @@ ghost use Rattle.la_base.specs.declared.wires.Wire.{Wire};
 ghost use Rattle.wait_cond.specs.declared.alt.Alt.{Alt};
 ghost use Rattle.wait_cond.specs.Conds.{cond_alts};
 ghost use Rattle.decoder_core.specs.Inputs.{Item};
-ghost use Rattle.decoder_core.specs.Laws.{IsFloor, GivesNothing, GivesOn, KeepsFront, PacketsInOrder, AddsFew, Rests, IsQuiet, IsLoud, StandsThere, OneMachine, OneLastStop};
+ghost use Rattle.decoder_core.specs.Promises.{IsFloor, GivesNothing, GivesOn, KeepsFront, PacketsInOrder, AddsFew, Rests, IsQuiet, IsLoud, StandsThere, OneMachine, OneLastStop};
 ghost use Rattle.decoder_core.specs.Driving.{Steps, StopsFirst};
 
 use crate::Outs;

@@ -1,106 +1,60 @@
-// Worked by hand from where line 0 changes.
-ghost use Rattle.std.specs.Prelude.{◌≤◌};
-
-use crate::{Driver, Edges, LogicMachine, Machine, OptFault, Outs, one_input_makes_one_driver};
-use la_base::{Feed, Note, Out, Packet, PacketKind, Run, Wire, Word};
+// Outputs in their order, and the texts of faults.
+use crate::{OptFault, Outs, note_at, packet_at, span_note, span_packet, span_piece};
+use la_base::{Note, Out, Packet, PacketKind, Piece};
 use std::test::Fail;
 
-fn run(value: Word, len: u64) -> Feed
-    requires { 1 ≤ len }
-{
-    Feed::Run(Run { value, len })
-}
-
-fn edge(at: u64, level: u64) -> Out {
-    Out::Note(Note {
-        class: 0,
-        start: at,
-        end: at,
-        a: level,
-        b: 0,
-    })
-}
-
-// Samples 1 1 1 0 0 1: edges at 3 and 5.
-#[test]
-fn a_driver_gives_each_edge_once(rt: HostRuntime) {
-    let mut driver = Driver::new(Edges::new());
-    let mut outs = Outs::new();
-    for (feed, left, floor, note) in [
-        (run(1, 3), None, 3, None),
-        (run(2, 2), Some(run(2, 1)), 4, Some(edge(3, 0))),
-        (run(2, 1), None, 5, None),
-        (run(5, 1), None, 6, Some(edge(5, 1))),
-    ] {
-        outs.clear();
-        let answer = driver.step(feed, &mut outs);
-        assert_eq!(rt; answer, left);
-        assert_eq!(rt; outs.list().first().copied(), note);
-        assert!(rt; outs.list().len() < 2);
-        assert_eq!(rt; driver.floor(), floor);
-    }
-}
-
-#[test]
-fn packets_and_the_end_give_nothing(rt: HostRuntime) {
-    let mut driver = Driver::new(Edges::new());
-    let mut outs = Outs::new();
-    let packet = Packet {
-        kind: PacketKind::I2cStart,
-        start: 7,
-        end: 9,
-        a: 0,
-        b: 0,
-    };
-    assert_eq!(rt; driver.wants(), Wire::Logic);
-    for feed in [Feed::Packet(packet), Feed::End] {
-        outs.clear();
-        assert_eq!(rt; driver.step(feed, &mut outs), None);
-        assert!(rt; outs.list().is_empty());
-        assert_eq!(rt; driver.floor(), 0);
-    }
-}
-
-// An edge at the first sample of a run that has more samples than may count.
-#[test]
-fn what_is_left_of_a_long_run_is_answered_whole(rt: HostRuntime) {
-    let mut driver = Driver::new(Edges::new());
-    let mut outs = Outs::new();
-    assert_eq!(rt; driver.step(run(0, 1), &mut outs), None);
-    outs.clear();
-    let left = Some(run(1, (1 << 60) - 1));
-    assert_eq!(rt; driver.step(run(1, 1 << 60), &mut outs), left);
-    assert_eq!(rt; outs.list(), [edge(1, 1)].as_slice());
-}
-
-#[test]
-fn one_input_in_two_parts_makes_one_driver(rt: HostRuntime) {
-    let one = Driver::new(Edges::new());
-    let other = Driver::new(Edges::new());
-    one_input_makes_one_driver(&one, &other);
-    assert_eq!(rt; one.floor(), other.floor());
-}
-
 fn is_send<T: Send>(_: &T) {}
-
-fn driver_is_send<L: LogicMachine + Send>(driver: &Driver<L>) {
-    is_send(driver);
-}
-
-#[test]
-fn a_driver_can_move_to_another_thread(_rt: HostRuntime) {
-    driver_is_send(&Driver::new(Edges::new()));
-    is_send(&Outs::new());
-}
 
 #[test]
 fn outputs_are_kept_in_their_order(rt: HostRuntime) {
     let mut outs = Outs::new();
-    outs.push(edge(4, 1));
-    outs.push(edge(2, 0));
-    assert_eq!(rt; outs.list(), [edge(4, 1), edge(2, 0)].as_slice());
+    is_send(&outs);
+    let later = note_at(0, 4, 1);
+    let earlier = note_at(0, 2, 0);
+    outs.push(later);
+    outs.push(earlier);
+    assert_eq!(rt; outs.list(), [later, earlier].as_slice());
     outs.clear();
     assert!(rt; outs.list().is_empty());
+}
+
+#[test]
+fn outputs_of_one_sample_and_of_several(rt: HostRuntime) {
+    for (start, made) in [
+        (9, note_at(3, 9, 7)),
+        (6, span_note(3, 6, 9, 7, 0)),
+        (9, span_note(3, 12, 9, 7, 0)),
+    ] {
+        let note = Note {
+            class: 3,
+            start,
+            end: 9,
+            a: 7,
+            b: 0,
+        };
+        assert_eq!(rt; made, Out::Note(note));
+    }
+    let kind = PacketKind::UartFrame;
+    for (start, made) in [
+        (9, packet_at(kind, 9, 7)),
+        (6, span_packet(kind, 6, 9, 7, 0)),
+    ] {
+        let packet = Packet {
+            kind,
+            start,
+            end: 9,
+            a: 7,
+            b: 0,
+        };
+        assert_eq!(rt; made, Out::Packet(packet));
+    }
+    let piece = Piece {
+        class: 1,
+        start: 6,
+        end: 9,
+        byte: 0xA5,
+    };
+    assert_eq!(rt; span_piece(1, 6, 9, 0xA5), Out::Piece(piece));
 }
 
 #[test]

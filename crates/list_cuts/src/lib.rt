@@ -16,7 +16,8 @@ mod tests;
 pub use groups::{after_groups_of, groups_of};
 pub use last::{last_that, last_where};
 pub use laws::{
-    along_laws, between_laws, bit_laws, group_laws, last_laws, neighbour_laws, part_laws, place_laws,
+    along_laws, between_laws, bit_laws, group_laws, last_laws, neighbour_laws, part_laws,
+    place_laws,
 };
 pub use neighbours::{Gives, Rises, events_of};
 pub use parts::{Part, parts_between, parts_of};

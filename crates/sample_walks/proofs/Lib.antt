@@ -1,4 +1,0 @@
-pub mod WalkLaws
-pub mod AltLaws
-pub mod EventWalks
-pub mod HeldLaws

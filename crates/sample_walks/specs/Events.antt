@@ -3,7 +3,7 @@ use Rattle.std.specs.Prelude.{ℕ, ◌≡◌, ◌≢◌, ◌+◌, ◌≤◌, ◌
 use Rattle.la_base.specs.declared.wires.Out.{Out}
 use Rattle.wait_cond.specs.declared.alt.Alt.{Alt}
 use Rattle.wait_cond.specs.Stops.{MetSet}
-use Rattle.decoder_core.specs.Laws.{NotesFrom, packet_starts}
+use Rattle.decoder_core.specs.Promises.{NotesFrom, packet_starts}
 use Rattle.sample_walks.specs.Walks.{Between, Walk}
 
 pub record EventWalk (H E : Type 0) : Type 0 where

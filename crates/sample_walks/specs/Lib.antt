@@ -1,3 +1,5 @@
 pub mod Walks
 pub mod Events
 pub mod Promises
+pub mod Edges
+pub mod laws

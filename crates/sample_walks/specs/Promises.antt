@@ -2,7 +2,7 @@
 use Rattle.std.specs.Prelude.{ℕ, ◌≡◌, List, [], ◌++◌, length, Option}
 use Rattle.la_base.specs.declared.wires.Out.{Out}
 use Rattle.list_cuts.specs.Neighbours.{last_of}
-use Rattle.decoder_core.specs.Laws.{IsFloor, GivesNothing, KeepsFront, PacketsInOrder, AddsFew, Rests}
+use Rattle.decoder_core.specs.Promises.{IsFloor, GivesNothing, KeepsFront, PacketsInOrder, AddsFew, Rests}
 use Rattle.sample_walks.specs.Walks.{Walk, walked, given, EndsThere, Sound}
 
 pub record Promises {H : Type 0} (w : Walk H) (outs : List ℕ → List Out) : Type 0 where

@@ -5,7 +5,7 @@ use Rattle.la_base.specs.declared.wires.Out.{Out}
 use Rattle.wait_cond.specs.declared.alt.Alt.{Alt}
 use Rattle.wait_cond.specs.Stops.{MetSet}
 use Rattle.list_cuts.specs.Neighbours.{last_of}
-use Rattle.decoder_core.specs.Laws.{NotesFrom, packet_starts}
+use Rattle.decoder_core.specs.Promises.{NotesFrom, packet_starts}
 
 -- numbers that never fall, from one number up to another
 abbrev pub Between : ℕ → ℕ → List ℕ → Type 0

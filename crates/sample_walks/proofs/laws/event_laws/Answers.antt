@@ -1,4 +1,4 @@
-use Rattle.sample_walks.proofs.EventWalks.{events_given}
+use Rattle.sample_walks.specs.laws.EventWalks.{events_given}
 use Rattle.sample_walks.proofs.laws.event_laws.Goals as goal
 
 pub returns : goal.returns

@@ -1,5 +1,5 @@
 use Rattle.sample_walks.specs.Promises.{Reached, Began}
-use Rattle.sample_walks.proofs.WalkLaws.{outs_quiet, one_stop, outs_nothing, outs_prefix, outs_order, outs_few, outs_floor}
+use Rattle.sample_walks.specs.laws.WalkLaws.{outs_quiet, one_stop, outs_nothing, outs_prefix, outs_order, outs_few, outs_floor}
 use Rattle.sample_walks.proofs.laws.walk_laws.Goals as goal
 
 pub returns : goal.returns

@@ -1,5 +1,5 @@
 use Rattle.std.proofs.Common.{◌∙◌, sym, refl, arith}
-use Rattle.dec_i2c.specs.I2cLaws.{held_nothing}
+use Rattle.dec_i2c.specs.laws.I2cLaws.{held_nothing}
 use Rattle.dec_i2c.proofs.held.I2c.open.Goals as goal
 
 pub returns-then-opts-lt-MOST_PINS-2 : goal.returns-then-opts-lt-MOST_PINS-2

@@ -1,4 +1,4 @@
-use Rattle.dec_i2c.specs.MachineLaws.{floor_is, near_below}
+use Rattle.dec_i2c.specs.laws.MachineLaws.{floor_is, near_below}
 use Rattle.dec_i2c.proofs.machine.I2cLogicMachine.floor.Goals as goal
 
 pub returns-clause-floor : goal.returns-clause-floor

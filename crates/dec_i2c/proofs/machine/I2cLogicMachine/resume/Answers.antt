@@ -1,4 +1,4 @@
-use Rattle.dec_i2c.specs.MachineLaws.{loud_is, stands_there}
+use Rattle.dec_i2c.specs.laws.MachineLaws.{loud_is, stands_there}
 use Rattle.dec_i2c.proofs.machine.I2cLogicMachine.resume.Goals as goal
 
 pub returns-clause-stands : goal.returns-clause-stands

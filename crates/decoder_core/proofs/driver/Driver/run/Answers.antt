@@ -5,7 +5,7 @@ use Rattle.la_base.specs.Samples.{samples}
 use Rattle.wait_cond.specs.Waiting.{Waits, wait_from, consumed_by}
 use Rattle.decoder_core.specs.Inputs.{Item, Sample, counted_samples}
 use Rattle.decoder_core.specs.Driving.{Drives}
-use Rattle.decoder_core.specs.Laws.{StopsIn}
+use Rattle.decoder_core.specs.Promises.{StopsIn}
 use Rattle.decoder_core.proofs.Counting.{parts_of_run}
 use Rattle.decoder_core.proofs.Driven.{through, passed_over, before_stop, awake, outs_now, part_counts, seen_parts, stop_seen, counted_front, list_len, spent}
 use Rattle.decoder_core.proofs.driver.Driver.run.Goals as goal

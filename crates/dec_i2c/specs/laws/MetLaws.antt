@@ -1,0 +1,196 @@
+-- The set of alternatives that a sample meets says which event is there.
+use Rattle.std.proofs.Common.{◌≡◌, ◌≢◌, inl, inr, ℕ, zero, suc, ◌<◌, ◌^◌, Bool, true, false, List, [], ◌∷◌, slice_get, Option, Some, None, refl, sym, ap, subst, arith}
+use Rattle.std.specs.Prelude.{unwrap_or}
+use Rattle.std.specs.Int.{bit_at}
+use Rattle.std.proofs.lemmas.Bool.{cases_eq}
+use Rattle.std.proofs.lemmas.Option.{slice_get_within}
+use Rattle.std.proofs.lemmas.Nat.Bits.{bit_at-lt, bit_at-pow_same}
+use Rattle.la_base.specs.Samples.{is_high}
+use Rattle.wait_cond.specs.declared.alt.Alt.{Alt}
+use Rattle.wait_cond.specs.Meets.{Rises, Falls, MeetsAt}
+use Rattle.wait_cond.specs.Stops.{MetSet}
+use Rattle.wait_cond.proofs.ChainLemmas.{one_set}
+use Rattle.list_cuts.specs.Bits.{bit_of}
+use Rattle.sample_walks.specs.laws.AltLaws.{no_line, at_line, level_bit, one_met, none_met, same_alt}
+use Rattle.dec_i2c.specs.Bus.{Event, Start, Stop, Clock, event_by, event_at}
+use Rattle.dec_i2c.specs.laws.Machine.{start_alt, stop_alt, clock_alt, i2c_alts, event_met}
+
+-- the code of events: the set of alternatives that they meet
+abbrev code_of : List Event → ℕ
+code_of [] = 0
+code_of (Start k ∷ es) = 1
+code_of (Stop k ∷ es) = 2
+code_of (Clock k level ∷ es) = 4
+
+module _ (scl sda from q before now : ℕ) where
+  abbrev Meets : Alt → Type 0
+  Meets alt = MeetsAt alt (Some before) now from q
+
+  abbrev alts : List Alt
+  alts = i2c_alts scl sda
+
+  start_meets : bit_at before scl ≡ 1 → bit_at now scl ≡ 1 → bit_at before sda ≡ 1 → bit_at now sda ≡ 0 → Meets (start_alt scl sda)
+  start_meets was is data_was data_is = record {
+    lines = record {
+      low = λ line one. no_line line one;
+      high = at_line scl (λ line. bit_at now line ≡ 1) is;
+      rise = λ line one. no_line line one;
+      fall = at_line sda (λ line. Falls (Some before) now line) (data_was, data_is);
+      edge = λ line one. no_line line one;
+      steady = at_line scl (λ line. (¬ Rises (Some before) now line) × (¬ Falls (Some before) now line)) (λ up. absurd (omega (arith, was, up.0)), λ down. absurd (omega (arith, is, down.1)));
+    };
+    skipped = λ some. absurd (some refl);
+  }
+
+  stop_meets : bit_at before scl ≡ 1 → bit_at now scl ≡ 1 → bit_at before sda ≡ 0 → bit_at now sda ≡ 1 → Meets (stop_alt scl sda)
+  stop_meets was is data_was data_is = record {
+    lines = record {
+      low = λ line one. no_line line one;
+      high = at_line scl (λ line. bit_at now line ≡ 1) is;
+      rise = at_line sda (λ line. Rises (Some before) now line) (data_was, data_is);
+      fall = λ line one. no_line line one;
+      edge = λ line one. no_line line one;
+      steady = at_line scl (λ line. (¬ Rises (Some before) now line) × (¬ Falls (Some before) now line)) (λ up. absurd (omega (arith, was, up.0)), λ down. absurd (omega (arith, is, down.1)));
+    };
+    skipped = λ some. absurd (some refl);
+  }
+
+  clock_meets : bit_at before scl ≡ 0 → bit_at now scl ≡ 1 → Meets (clock_alt scl)
+  clock_meets was is = record {
+    lines = record {
+      low = λ line one. no_line line one;
+      high = λ line one. no_line line one;
+      rise = at_line scl (λ line. Rises (Some before) now line) (was, is);
+      fall = λ line one. no_line line one;
+      edge = λ line one. no_line line one;
+      steady = λ line one. no_line line one;
+    };
+    skipped = λ some. absurd (some refl);
+  }
+
+  -- what it says of the lines that alternative i is met
+  abbrev Facts : ℕ → Type 0
+  Facts zero = (bit_at before scl ≡ 1) × (bit_at before sda ≡ 1) × (bit_at now sda ≡ 0)
+  Facts (suc zero) = (bit_at before scl ≡ 1) × (bit_at before sda ≡ 0) × (bit_at now sda ≡ 1)
+  Facts (suc (suc zero)) = (bit_at before scl ≡ 0) × (bit_at now scl ≡ 1)
+  Facts (suc (suc (suc i))) = ⊥
+
+  -- SCL was high where it is high and has not risen
+  was_high : bit_at now scl ≡ 1 → (¬ Rises (Some before) now scl) → bit_at before scl ≡ 1
+  was_high is steady = elim (cases_eq (bit_at before scl) 0) [
+    | inl low ↦ absurd (steady (low, is))
+    | inr high ↦ omega (arith, high, bit_at-lt before scl)
+  ]
+
+  facts : (i : ℕ) (alt : Alt) → slice_get alts i ≡ Some alt → Meets alt → (bit_at now scl ≡ 1) × Facts i
+  facts zero alt at meets =
+      let m = same_alt alts (Some before) now from q (start_alt scl sda) alt at meets in
+      let is : bit_at now scl ≡ 1 = m.lines.high scl (bit_at-pow_same scl) in
+      let moves = m.lines.fall sda (bit_at-pow_same sda) in
+      (is, (was_high is (m.lines.steady scl (bit_at-pow_same scl)).0, moves.0, moves.1))
+  facts (suc zero) alt at meets =
+      let m = same_alt alts (Some before) now from q (stop_alt scl sda) alt at meets in
+      let is : bit_at now scl ≡ 1 = m.lines.high scl (bit_at-pow_same scl) in
+      let moves = m.lines.rise sda (bit_at-pow_same sda) in
+      (is, (was_high is (m.lines.steady scl (bit_at-pow_same scl)).0, moves.0, moves.1))
+  facts (suc (suc zero)) alt at meets =
+      let m = same_alt alts (Some before) now from q (clock_alt scl) alt at meets in
+      let up = m.lines.rise scl (bit_at-pow_same scl) in
+      (up.1, (up.0, up.1))
+  facts (suc (suc (suc i))) alt at meets = let within : suc (suc (suc i)) < 3 = slice_get_within alts (suc (suc (suc i))) alt at in absurd (omega (arith, within))
+
+  -- one alternative is met and no other
+  met_alone : (j : ℕ) (alt : Alt) → slice_get alts j ≡ Some alt → Meets alt → ((i : ℕ) → Facts i → i ≡ j) → MetSet alts (Some before) now from q (2 ^ j)
+  met_alone j alt at meets only = one_met alts (Some before) now from q j alt at meets (λ i other there meet. only i (facts i other there meet).1)
+
+  met_by_none : ((i : ℕ) → bit_at now scl ≡ 1 → Facts i → ⊥) → MetSet alts (Some before) now from q 0
+  met_by_none none = none_met alts (Some before) now from q (λ i other there meet. let f = facts i other there meet in none i f.0 f.1)
+
+  module _ (a b c d : Bool) (was : bit_at before scl ≡ bit_of a) (is : bit_at now scl ≡ bit_of b) (data_was : bit_at before sda ≡ bit_of c) (data_is : bit_at now sda ≡ bit_of d) where
+    only_start : bit_of a ≡ 1 → bit_of c ≡ 1 → (i : ℕ) → Facts i → i ≡ 0
+    only_start high one zero f = refl
+    only_start high one (suc zero) f = absurd (omega (arith, data_was, one, f.1))
+    only_start high one (suc (suc zero)) f = absurd (omega (arith, was, high, f.0))
+    only_start high one (suc (suc (suc i))) f = absurd f
+
+    only_stop : bit_of a ≡ 1 → bit_of c ≡ 0 → (i : ℕ) → Facts i → i ≡ 1
+    only_stop high one zero f = absurd (omega (arith, data_was, one, f.1))
+    only_stop high one (suc zero) f = refl
+    only_stop high one (suc (suc zero)) f = absurd (omega (arith, was, high, f.0))
+    only_stop high one (suc (suc (suc i))) f = absurd f
+
+    only_clock : bit_of a ≡ 0 → (i : ℕ) → Facts i → i ≡ 2
+    only_clock low zero f = absurd (omega (arith, was, low, f.0))
+    only_clock low (suc zero) f = absurd (omega (arith, was, low, f.0))
+    only_clock low (suc (suc zero)) f = refl
+    only_clock low (suc (suc (suc i))) f = absurd f
+
+    no_fact : bit_of a ≡ 1 → bit_of c ≡ bit_of d → (i : ℕ) → Facts i → ⊥
+    no_fact high same zero f = absurd (omega (arith, same, data_was, data_is, f.1, f.2))
+    no_fact high same (suc zero) f = absurd (omega (arith, same, data_was, data_is, f.1, f.2))
+    no_fact high same (suc (suc zero)) f = absurd (omega (arith, was, high, f.0))
+    no_fact high same (suc (suc (suc i))) f = f
+
+    no_clock : bit_of b ≡ 0 → (i : ℕ) → bit_at now scl ≡ 1 → Facts i → ⊥
+    no_clock low i one f = absurd (omega (arith, is, low, one))
+
+  set_by : (a b c d : Bool) → bit_at before scl ≡ bit_of a → bit_at now scl ≡ bit_of b → bit_at before sda ≡ bit_of c → bit_at now sda ≡ bit_of d
+      → MetSet alts (Some before) now from q (code_of (event_by q a b c d))
+  set_by true true true true was is dw di = met_by_none (λ i one. no_fact true true true true was is dw di refl refl i)
+  set_by true true true false was is dw di = met_alone 0 (start_alt scl sda) refl (start_meets was is dw di) (only_start true true true false was is dw di refl refl)
+  set_by true true false true was is dw di = met_alone 1 (stop_alt scl sda) refl (stop_meets was is dw di) (only_stop true true false true was is dw di refl refl)
+  set_by true true false false was is dw di = met_by_none (λ i one. no_fact true true false false was is dw di refl refl i)
+  set_by true false c d was is dw di = met_by_none (no_clock true false c d was is dw di refl)
+  set_by false true c d was is dw di = met_alone 2 (clock_alt scl) refl (clock_meets was is) (only_clock false true c d was is dw di refl)
+  set_by false false c d was is dw di = met_by_none (no_clock false false c d was is dw di refl)
+
+-- without a sample before there is none to meet
+nothing_before : (scl sda from q now : ℕ) → MetSet (i2c_alts scl sda) None now from q 0
+nothing_before scl sda from q now = record {
+  each = λ i one. no_line i one;
+  all = λ i alt at meets. absurd (none i alt at meets);
+}
+  where
+    same_alt : (alt other : Alt) → Some alt ≡ Some other → MeetsAt other None now from q → MeetsAt alt None now from q
+    same_alt alt other is meets = subst (λ (a : Alt). MeetsAt a None now from q) (sym (ap (λ (o : Option Alt). unwrap_or o alt) is)) meets
+
+    none : (i : ℕ) (alt : Alt) → slice_get (i2c_alts scl sda) i ≡ Some alt → MeetsAt alt None now from q → ⊥
+    none zero alt at meets = (same_alt (start_alt scl sda) alt at meets).lines.fall sda (bit_at-pow_same sda)
+    none (suc zero) alt at meets = (same_alt (stop_alt scl sda) alt at meets).lines.rise sda (bit_at-pow_same sda)
+    none (suc (suc zero)) alt at meets = (same_alt (clock_alt scl) alt at meets).lines.rise scl (bit_at-pow_same scl)
+    none (suc (suc (suc i))) alt at meets = let within : suc (suc (suc i)) < 3 = slice_get_within (i2c_alts scl sda) (suc (suc (suc i))) alt at in absurd (omega (arith, within))
+
+-- the set of alternatives that a sample meets
+met_set : (scl sda from q : ℕ) (before : Option ℕ) (now : ℕ) → MetSet (i2c_alts scl sda) before now from q (code_of (event_at scl sda q before now))
+met_set scl sda from q None now = nothing_before scl sda from q now
+met_set scl sda from q (Some before) now =
+    set_by scl sda from q before now (is_high before scl) (is_high now scl) (is_high before sda) (is_high now sda) (level_bit before scl) (level_bit now scl) (level_bit before sda) (level_bit now sda)
+
+module _ (scl sda from q : ℕ) (before : Option ℕ) (now : ℕ) where
+  no_code : (es : List Event) → 0 ≡ code_of es → es ≡ []
+  no_code [] is = refl
+  no_code (Start k ∷ es) is = absurd (omega (arith, is))
+  no_code (Stop k ∷ es) is = absurd (omega (arith, is))
+  no_code (Clock k level ∷ es) is = absurd (omega (arith, is))
+
+  -- a sample that meets nothing is no event
+  pub none_is_no_event : MetSet (i2c_alts scl sda) before now from q 0 → event_at scl sda q before now ≡ []
+  none_is_no_event set = no_code (event_at scl sda q before now) (one_set (i2c_alts scl sda) before now from q 0 (code_of (event_at scl sda q before now)) set (met_set scl sda from q before now))
+
+  coded : (met : ℕ) (a b c d : Bool) → met ≡ code_of (event_by q a b c d) → met ≢ 0 → event_by q a b c d ≡ event_met met q d ∷ []
+  coded met true true true true is some = absurd (some is)
+  coded met true true true false is some = ap (λ (m : ℕ). event_met m q false ∷ []) (sym is)
+  coded met true true false true is some = ap (λ (m : ℕ). event_met m q true ∷ []) (sym is)
+  coded met true true false false is some = absurd (some is)
+  coded met true false c d is some = absurd (some is)
+  coded met false true c d is some = ap (λ (m : ℕ). event_met m q d ∷ []) (sym is)
+  coded met false false c d is some = absurd (some is)
+
+  event_coded : (met : ℕ) (before : Option ℕ) → met ≡ code_of (event_at scl sda q before now) → met ≢ 0 → event_at scl sda q before now ≡ event_met met q (is_high now sda) ∷ []
+  event_coded met None is some = absurd (some is)
+  event_coded met (Some old) is some = coded met (is_high old scl) (is_high now scl) (is_high old sda) (is_high now sda) is some
+
+  -- a sample that meets some is the event that the set says
+  pub met_is_event : (met : ℕ) → MetSet (i2c_alts scl sda) before now from q met → met ≢ 0 → event_at scl sda q before now ≡ event_met met q (is_high now sda) ∷ []
+  met_is_event met set some =
+      event_coded met before (one_set (i2c_alts scl sda) before now from q met (code_of (event_at scl sda q before now)) set (met_set scl sda from q before now)) some

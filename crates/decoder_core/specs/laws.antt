@@ -1,0 +1,3 @@
+-- Lemmas that laws of machines cite.
+pub mod OutLaws
+pub mod CountedLaws

@@ -1,0 +1,6 @@
+-- Lemmas that laws of machines cite.
+pub mod AltLaws
+pub mod WalkLaws
+pub mod HeldLaws
+pub mod EventWalks
+pub mod EdgeLaws

@@ -1,0 +1,90 @@
+// A small decoder: what a decoder has to give and to show.
+ghost use Rattle.std.specs.Prelude.{◌≡◌, [], ◌∷◌, List, ℕ, length};
+ghost use Rattle.std.proofs.Common.{refl};
+ghost use Rattle.wait_cond.specs.declared.alt.Alt.{Alt};
+ghost use Rattle.la_base.specs.declared.wires.Wire.TheVariants.{Nothing};
+ghost use Rattle.la_base.specs.Samples.{is_high};
+ghost use Rattle.list_cuts.specs.Bits.{bit_of};
+ghost use Rattle.sample_walks.specs.Edges.{edge_notes, edge_alts, EndsAtEdge};
+ghost use Rattle.sample_walks.specs.laws.EdgeLaws.{edges_quiet, edges_nothing, edges_prefix, edges_order, edges_few, edges_on_wire, edges_one_stop};
+
+use decoder_core::{LogicMachine, Outs, note_at};
+use la_base::{Word, pin};
+use wait_cond::{Alt, Cond};
+
+/// Gives a note for each edge of line 0: class 0, the place of the edge as start and end, and the
+/// level behind it as `a`. It shows what a decoder of samples has to prove.
+#[derive(Drop)]
+pub struct Edges {}
+
+impl Edges {
+    /// It stands for no samples.
+    pub fn new() -> Edges
+        ensures { EndsAtEdge [] }
+    {
+        Edges {}
+    }
+}
+
+// The level of line 0 as a number.
+fn level(value: Word) -> u64
+    ensures { result ≡ bit_of (is_high value 0) }
+{
+    pin(value, 0) as u64
+}
+
+impl LogicMachine for Edges {
+    type Setup = ();
+
+    ghost setup = { λ _. tt };
+
+    ghost outs = { λ _ list. edge_notes list };
+
+    ghost near = { λ _ list. length list };
+
+    ghost gives = { λ _. Nothing };
+
+    ghost stands = { λ _ list. EndsAtEdge list };
+
+    ghost alts = { λ _. edge_alts };
+
+    fn cond(&self) -> Cond {
+        Cond::one(Alt {
+            low: 0,
+            high: 0,
+            rise: 0,
+            fall: 0,
+            edge: 1,
+            steady: 0,
+            skip: 0,
+        })
+    }
+
+    fn has_fixed_cond(&self) -> bool {
+        true
+    }
+
+    fn resume(&mut self, at: u64, value: Word, _met: u8, into: &mut Outs) {
+        into.push(note_at(0, at, level(value)));
+    }
+
+    fn floor(&self, next: u64) -> u64 {
+        next
+    }
+
+    ghost quiet = { λ _ seen more ends rests. edges_quiet seen more ends rests };
+
+    ghost nothing = { λ _. edges_nothing };
+
+    ghost prefix = { λ _. edges_prefix };
+
+    ghost order = { λ _. edges_order };
+
+    ghost few = { λ _. edges_few };
+
+    ghost on_wire = { λ _. edges_on_wire };
+
+    ghost one_machine = { λ _ _ _ _ _ _. refl };
+
+    ghost one_stop = { λ _ _ seen more _ ends also rests. edges_one_stop seen more ends rests also };
+}
