@@ -2,7 +2,7 @@
 ghost use Rattle.std.specs.Prelude.{◌≡◌, ◌<◌, ◌^◌, ◌∷◌, [], ℕ, List};
 ghost use Rattle.dec_i2c.specs.Bus.{i2c_outs, i2c_near};
 ghost use Rattle.dec_i2c.specs.laws.Machine.{near_by};
-ghost use Rattle.dec_i2c.specs.laws.Machine.{clock_alt, i2c_alts};
+ghost use Rattle.dec_i2c.specs.laws.Machine.{mark_alt, clock_alt, i2c_alts};
 ghost use Rattle.dec_i2c.specs.Opening.{StandsFor, Opens};
 ghost use Rattle.dec_i2c.specs.laws.I2cLaws.{i2c_quiet, i2c_nothing, i2c_prefix, i2c_order, i2c_few, i2c_one_stop};
 ghost use Rattle.la_base.specs.declared.wires.Wire.TheVariants.{I2c as I2cWire};
@@ -24,17 +24,17 @@ fn mask(line: u32) -> Word
     1 << line
 }
 
-// SCL stays high, and these lines rise or fall.
-fn steady_alt(bus: Bus, rise: Word, fall: Word) -> Alt
-    ensures { result ≡ record { low = 0; high = 2 ^ bus.scl; rise = rise; fall = fall; edge = 0; steady = 2 ^ bus.scl; skip = 0 } }
+// SCL stays high, and SDA rises or falls.
+fn mark_alt(bus: Bus) -> Alt
+    ensures { result ≡ mark_alt bus.scl bus.sda }
 {
     let scl = mask(bus.scl);
     Alt {
         low: 0,
         high: scl,
-        rise,
-        fall,
-        edge: 0,
+        rise: 0,
+        fall: 0,
+        edge: mask(bus.sda),
         steady: scl,
         skip: 0,
     }
@@ -103,9 +103,7 @@ impl LogicMachine for I2c {
     ghost alts = { λ machine. i2c_alts machine.bus.scl machine.bus.sda };
 
     fn cond(&self) -> Cond {
-        let sda = mask(self.bus.sda);
-        let mut cond = Cond::one(steady_alt(self.bus, 0, sda));
-        cond.add(steady_alt(self.bus, sda, 0));
+        let mut cond = Cond::one(mark_alt(self.bus));
         cond.add(clock_alt(self.bus));
         cond
     }

@@ -90,9 +90,11 @@ pub fn give(held: Held, met: u8, at: u64, level: bool, into: &mut Outs)
     ensures { into.new ≡ gives held (event_met met at level) }
 {
     if met == 1 {
-        give_start(held.inside, at, into);
-    } else if met == 2 {
-        give_stop(at, into);
+        if level {
+            give_stop(at, into);
+        } else {
+            give_start(held.inside, at, into);
+        }
     } else if held.inside {
         give_clock(held, at, level, into);
     }

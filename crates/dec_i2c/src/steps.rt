@@ -71,9 +71,7 @@ pub fn step(held: Held, met: u8, at: u64, level: bool) -> Held
     ensures { result ≡ next held (event_met met at level) }
 {
     if met == 1 {
-        fresh(true)
-    } else if met == 2 {
-        closed()
+        fresh(!level)
     } else if held.inside {
         clock(held, at, level)
     } else {

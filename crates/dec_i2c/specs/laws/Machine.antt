@@ -12,22 +12,19 @@ use Rattle.dec_i2c.specs.declared.held.Role.{Role}
 use Rattle.dec_i2c.specs.declared.held.Role.TheVariants.{Address, Write, Read}
 use Rattle.dec_i2c.specs.Bus.{Event, Start, Stop, Clock, place_of, value_of, event_at, start_outs, stop_outs, ack_outs, byte_outs, direction, role_behind, is_mark, last_segment, open_segment}
 
--- SCL stays high and SDA falls, or rises; or SCL rises
-abbrev pub start_alt : ℕ → ℕ → Alt
-start_alt scl sda = record { low = 0; high = 2 ^ scl; rise = 0; fall = 2 ^ sda; edge = 0; steady = 2 ^ scl; skip = 0 }
-
-abbrev pub stop_alt : ℕ → ℕ → Alt
-stop_alt scl sda = record { low = 0; high = 2 ^ scl; rise = 2 ^ sda; fall = 0; edge = 0; steady = 2 ^ scl; skip = 0 }
+-- SCL stays high and SDA rises or falls; or SCL rises. More alternatives would cost each sample more
+abbrev pub mark_alt : ℕ → ℕ → Alt
+mark_alt scl sda = record { low = 0; high = 2 ^ scl; rise = 0; fall = 0; edge = 2 ^ sda; steady = 2 ^ scl; skip = 0 }
 
 abbrev pub clock_alt : ℕ → Alt
 clock_alt scl = record { low = 0; high = 0; rise = 2 ^ scl; fall = 0; edge = 0; steady = 0; skip = 0 }
 
 abbrev pub i2c_alts : ℕ → ℕ → List Alt
-i2c_alts scl sda = start_alt scl sda ∷ stop_alt scl sda ∷ clock_alt scl ∷ []
+i2c_alts scl sda = mark_alt scl sda ∷ clock_alt scl ∷ []
 
 -- the event at sample k, by the set of alternatives that it meets and the level of SDA
 abbrev pub event_met : ℕ → ℕ → Bool → Event
-event_met met k level = if met == 1 then Start k else (if met == 2 then Stop k else Clock k level)
+event_met met k level = if met == 1 then (if level then Stop k else Start k) else Clock k level
 
 -- there is no sample before place n, or there is an event at the last one
 abbrev pub EventBefore : ℕ → ℕ → List ℕ → ℕ → Type 0

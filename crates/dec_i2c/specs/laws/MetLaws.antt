@@ -1,5 +1,5 @@
 -- The set of alternatives that a sample meets says which event is there.
-use Rattle.std.proofs.Common.{◌≡◌, ◌≢◌, inl, inr, ℕ, zero, suc, ◌<◌, ◌^◌, Bool, true, false, List, [], ◌∷◌, slice_get, Option, Some, None, refl, sym, ap, subst, arith}
+use Rattle.std.proofs.Common.{◌≡◌, ◌≢◌, ◌∙◌, inl, inr, ◌⊎◌, ℕ, zero, suc, ◌<◌, ◌^◌, Bool, true, false, List, [], ◌∷◌, slice_get, Option, Some, None, refl, sym, ap, subst, arith}
 use Rattle.std.specs.Prelude.{unwrap_or}
 use Rattle.std.specs.Int.{bit_at}
 use Rattle.std.proofs.lemmas.Bool.{cases_eq}
@@ -13,43 +13,33 @@ use Rattle.wait_cond.proofs.ChainLemmas.{one_set}
 use Rattle.list_cuts.specs.Bits.{bit_of}
 use Rattle.sample_walks.specs.laws.AltLaws.{no_line, at_line, level_bit, one_met, none_met, same_alt}
 use Rattle.dec_i2c.specs.Bus.{Event, Start, Stop, Clock, event_by, event_at}
-use Rattle.dec_i2c.specs.laws.Machine.{start_alt, stop_alt, clock_alt, i2c_alts, event_met}
+use Rattle.dec_i2c.specs.laws.Machine.{mark_alt, clock_alt, i2c_alts, event_met}
 
 -- the code of events: the set of alternatives that they meet
 abbrev code_of : List Event → ℕ
 code_of [] = 0
 code_of (Start k ∷ es) = 1
-code_of (Stop k ∷ es) = 2
-code_of (Clock k level ∷ es) = 4
+code_of (Stop k ∷ es) = 1
+code_of (Clock k level ∷ es) = 2
 
 module _ (scl sda from q before now : ℕ) where
   abbrev Meets : Alt → Type 0
   Meets alt = MeetsAt alt (Some before) now from q
 
+  abbrev Moves : ℕ → Type 0
+  Moves line = Rises (Some before) now line ⊎ Falls (Some before) now line
+
   abbrev alts : List Alt
   alts = i2c_alts scl sda
 
-  start_meets : bit_at before scl ≡ 1 → bit_at now scl ≡ 1 → bit_at before sda ≡ 1 → bit_at now sda ≡ 0 → Meets (start_alt scl sda)
-  start_meets was is data_was data_is = record {
+  mark_meets : bit_at before scl ≡ 1 → bit_at now scl ≡ 1 → Moves sda → Meets (mark_alt scl sda)
+  mark_meets was is moves = record {
     lines = record {
       low = λ line one. no_line line one;
       high = at_line scl (λ line. bit_at now line ≡ 1) is;
       rise = λ line one. no_line line one;
-      fall = at_line sda (λ line. Falls (Some before) now line) (data_was, data_is);
-      edge = λ line one. no_line line one;
-      steady = at_line scl (λ line. (¬ Rises (Some before) now line) × (¬ Falls (Some before) now line)) (λ up. absurd (omega (arith, was, up.0)), λ down. absurd (omega (arith, is, down.1)));
-    };
-    skipped = λ some. absurd (some refl);
-  }
-
-  stop_meets : bit_at before scl ≡ 1 → bit_at now scl ≡ 1 → bit_at before sda ≡ 0 → bit_at now sda ≡ 1 → Meets (stop_alt scl sda)
-  stop_meets was is data_was data_is = record {
-    lines = record {
-      low = λ line one. no_line line one;
-      high = at_line scl (λ line. bit_at now line ≡ 1) is;
-      rise = at_line sda (λ line. Rises (Some before) now line) (data_was, data_is);
       fall = λ line one. no_line line one;
-      edge = λ line one. no_line line one;
+      edge = at_line sda Moves moves;
       steady = at_line scl (λ line. (¬ Rises (Some before) now line) × (¬ Falls (Some before) now line)) (λ up. absurd (omega (arith, was, up.0)), λ down. absurd (omega (arith, is, down.1)));
     };
     skipped = λ some. absurd (some refl);
@@ -70,10 +60,9 @@ module _ (scl sda from q before now : ℕ) where
 
   -- what it says of the lines that alternative i is met
   abbrev Facts : ℕ → Type 0
-  Facts zero = (bit_at before scl ≡ 1) × (bit_at before sda ≡ 1) × (bit_at now sda ≡ 0)
-  Facts (suc zero) = (bit_at before scl ≡ 1) × (bit_at before sda ≡ 0) × (bit_at now sda ≡ 1)
-  Facts (suc (suc zero)) = (bit_at before scl ≡ 0) × (bit_at now scl ≡ 1)
-  Facts (suc (suc (suc i))) = ⊥
+  Facts zero = (bit_at before scl ≡ 1) × Moves sda
+  Facts (suc zero) = (bit_at before scl ≡ 0) × (bit_at now scl ≡ 1)
+  Facts (suc (suc i)) = ⊥
 
   -- SCL was high where it is high and has not risen
   was_high : bit_at now scl ≡ 1 → (¬ Rises (Some before) now scl) → bit_at before scl ≡ 1
@@ -84,20 +73,14 @@ module _ (scl sda from q before now : ℕ) where
 
   facts : (i : ℕ) (alt : Alt) → slice_get alts i ≡ Some alt → Meets alt → (bit_at now scl ≡ 1) × Facts i
   facts zero alt at meets =
-      let m = same_alt alts (Some before) now from q (start_alt scl sda) alt at meets in
+      let m = same_alt alts (Some before) now from q (mark_alt scl sda) alt at meets in
       let is : bit_at now scl ≡ 1 = m.lines.high scl (bit_at-pow_same scl) in
-      let moves = m.lines.fall sda (bit_at-pow_same sda) in
-      (is, (was_high is (m.lines.steady scl (bit_at-pow_same scl)).0, moves.0, moves.1))
+      (is, (was_high is (m.lines.steady scl (bit_at-pow_same scl)).0, m.lines.edge sda (bit_at-pow_same sda)))
   facts (suc zero) alt at meets =
-      let m = same_alt alts (Some before) now from q (stop_alt scl sda) alt at meets in
-      let is : bit_at now scl ≡ 1 = m.lines.high scl (bit_at-pow_same scl) in
-      let moves = m.lines.rise sda (bit_at-pow_same sda) in
-      (is, (was_high is (m.lines.steady scl (bit_at-pow_same scl)).0, moves.0, moves.1))
-  facts (suc (suc zero)) alt at meets =
       let m = same_alt alts (Some before) now from q (clock_alt scl) alt at meets in
       let up = m.lines.rise scl (bit_at-pow_same scl) in
       (up.1, (up.0, up.1))
-  facts (suc (suc (suc i))) alt at meets = let within : suc (suc (suc i)) < 3 = slice_get_within alts (suc (suc (suc i))) alt at in absurd (omega (arith, within))
+  facts (suc (suc i)) alt at meets = let within : suc (suc i) < 2 = slice_get_within alts (suc (suc i)) alt at in absurd (omega (arith, within))
 
   -- one alternative is met and no other
   met_alone : (j : ℕ) (alt : Alt) → slice_get alts j ≡ Some alt → Meets alt → ((i : ℕ) → Facts i → i ≡ j) → MetSet alts (Some before) now from q (2 ^ j)
@@ -106,59 +89,45 @@ module _ (scl sda from q before now : ℕ) where
   met_by_none : ((i : ℕ) → bit_at now scl ≡ 1 → Facts i → ⊥) → MetSet alts (Some before) now from q 0
   met_by_none none = none_met alts (Some before) now from q (λ i other there meet. let f = facts i other there meet in none i f.0 f.1)
 
-  module _ (a b c d : Bool) (was : bit_at before scl ≡ bit_of a) (is : bit_at now scl ≡ bit_of b) (data_was : bit_at before sda ≡ bit_of c) (data_is : bit_at now sda ≡ bit_of d) where
-    only_start : bit_of a ≡ 1 → bit_of c ≡ 1 → (i : ℕ) → Facts i → i ≡ 0
-    only_start high one zero f = refl
-    only_start high one (suc zero) f = absurd (omega (arith, data_was, one, f.1))
-    only_start high one (suc (suc zero)) f = absurd (omega (arith, was, high, f.0))
-    only_start high one (suc (suc (suc i))) f = absurd f
+  only_mark : bit_at before scl ≡ 1 → (i : ℕ) → Facts i → i ≡ 0
+  only_mark high zero f = refl
+  only_mark high (suc zero) f = absurd (omega (arith, high, f.0))
+  only_mark high (suc (suc i)) f = absurd f
 
-    only_stop : bit_of a ≡ 1 → bit_of c ≡ 0 → (i : ℕ) → Facts i → i ≡ 1
-    only_stop high one zero f = absurd (omega (arith, data_was, one, f.1))
-    only_stop high one (suc zero) f = refl
-    only_stop high one (suc (suc zero)) f = absurd (omega (arith, was, high, f.0))
-    only_stop high one (suc (suc (suc i))) f = absurd f
+  only_clock : bit_at before scl ≡ 0 → (i : ℕ) → Facts i → i ≡ 1
+  only_clock low zero f = absurd (omega (arith, low, f.0))
+  only_clock low (suc zero) f = refl
+  only_clock low (suc (suc i)) f = absurd f
 
-    only_clock : bit_of a ≡ 0 → (i : ℕ) → Facts i → i ≡ 2
-    only_clock low zero f = absurd (omega (arith, was, low, f.0))
-    only_clock low (suc zero) f = absurd (omega (arith, was, low, f.0))
-    only_clock low (suc (suc zero)) f = refl
-    only_clock low (suc (suc (suc i))) f = absurd f
+  no_fact : bit_at before scl ≡ 1 → bit_at before sda ≡ bit_at now sda → (i : ℕ) → Facts i → ⊥
+  no_fact high same zero f = elim f.1 [
+    | inl up ↦ absurd (omega (arith, same, up.0, up.1))
+    | inr down ↦ absurd (omega (arith, same, down.0, down.1))
+  ]
+  no_fact high same (suc zero) f = absurd (omega (arith, high, f.0))
+  no_fact high same (suc (suc i)) f = f
 
-    no_fact : bit_of a ≡ 1 → bit_of c ≡ bit_of d → (i : ℕ) → Facts i → ⊥
-    no_fact high same zero f = absurd (omega (arith, same, data_was, data_is, f.1, f.2))
-    no_fact high same (suc zero) f = absurd (omega (arith, same, data_was, data_is, f.1, f.2))
-    no_fact high same (suc (suc zero)) f = absurd (omega (arith, was, high, f.0))
-    no_fact high same (suc (suc (suc i))) f = f
-
-    no_clock : bit_of b ≡ 0 → (i : ℕ) → bit_at now scl ≡ 1 → Facts i → ⊥
-    no_clock low i one f = absurd (omega (arith, is, low, one))
+  no_clock : bit_at now scl ≡ 0 → (i : ℕ) → bit_at now scl ≡ 1 → Facts i → ⊥
+  no_clock low i one f = absurd (omega (arith, low, one))
 
   set_by : (a b c d : Bool) → bit_at before scl ≡ bit_of a → bit_at now scl ≡ bit_of b → bit_at before sda ≡ bit_of c → bit_at now sda ≡ bit_of d
       → MetSet alts (Some before) now from q (code_of (event_by q a b c d))
-  set_by true true true true was is dw di = met_by_none (λ i one. no_fact true true true true was is dw di refl refl i)
-  set_by true true true false was is dw di = met_alone 0 (start_alt scl sda) refl (start_meets was is dw di) (only_start true true true false was is dw di refl refl)
-  set_by true true false true was is dw di = met_alone 1 (stop_alt scl sda) refl (stop_meets was is dw di) (only_stop true true false true was is dw di refl refl)
-  set_by true true false false was is dw di = met_by_none (λ i one. no_fact true true false false was is dw di refl refl i)
-  set_by true false c d was is dw di = met_by_none (no_clock true false c d was is dw di refl)
-  set_by false true c d was is dw di = met_alone 2 (clock_alt scl) refl (clock_meets was is) (only_clock false true c d was is dw di refl)
-  set_by false false c d was is dw di = met_by_none (no_clock false false c d was is dw di refl)
+  set_by true true true true was is dw di = met_by_none (λ i one. no_fact was (dw ∙ sym di) i)
+  set_by true true true false was is dw di = met_alone 0 (mark_alt scl sda) refl (mark_meets was is (inr (dw, di))) (only_mark was)
+  set_by true true false true was is dw di = met_alone 0 (mark_alt scl sda) refl (mark_meets was is (inl (dw, di))) (only_mark was)
+  set_by true true false false was is dw di = met_by_none (λ i one. no_fact was (dw ∙ sym di) i)
+  set_by true false c d was is dw di = met_by_none (no_clock is)
+  set_by false true c d was is dw di = met_alone 1 (clock_alt scl) refl (clock_meets was is) (only_clock was)
+  set_by false false c d was is dw di = met_by_none (no_clock is)
 
 -- without a sample before there is none to meet
 nothing_before : (scl sda from q now : ℕ) → MetSet (i2c_alts scl sda) None now from q 0
-nothing_before scl sda from q now = record {
-  each = λ i one. no_line i one;
-  all = λ i alt at meets. absurd (none i alt at meets);
-}
+nothing_before scl sda from q now = none_met (i2c_alts scl sda) None now from q none
   where
-    same_alt : (alt other : Alt) → Some alt ≡ Some other → MeetsAt other None now from q → MeetsAt alt None now from q
-    same_alt alt other is meets = subst (λ (a : Alt). MeetsAt a None now from q) (sym (ap (λ (o : Option Alt). unwrap_or o alt) is)) meets
-
     none : (i : ℕ) (alt : Alt) → slice_get (i2c_alts scl sda) i ≡ Some alt → MeetsAt alt None now from q → ⊥
-    none zero alt at meets = (same_alt (start_alt scl sda) alt at meets).lines.fall sda (bit_at-pow_same sda)
-    none (suc zero) alt at meets = (same_alt (stop_alt scl sda) alt at meets).lines.rise sda (bit_at-pow_same sda)
-    none (suc (suc zero)) alt at meets = (same_alt (clock_alt scl) alt at meets).lines.rise scl (bit_at-pow_same scl)
-    none (suc (suc (suc i))) alt at meets = let within : suc (suc (suc i)) < 3 = slice_get_within (i2c_alts scl sda) (suc (suc (suc i))) alt at in absurd (omega (arith, within))
+    none zero alt at meets = elim ((same_alt (i2c_alts scl sda) None now from q (mark_alt scl sda) alt at meets).lines.edge sda (bit_at-pow_same sda)) [ inl up ↦ absurd up | inr down ↦ absurd down ]
+    none (suc zero) alt at meets = (same_alt (i2c_alts scl sda) None now from q (clock_alt scl) alt at meets).lines.rise scl (bit_at-pow_same scl)
+    none (suc (suc i)) alt at meets = let within : suc (suc i) < 2 = slice_get_within (i2c_alts scl sda) (suc (suc i)) alt at in absurd (omega (arith, within))
 
 -- the set of alternatives that a sample meets
 met_set : (scl sda from q : ℕ) (before : Option ℕ) (now : ℕ) → MetSet (i2c_alts scl sda) before now from q (code_of (event_at scl sda q before now))
