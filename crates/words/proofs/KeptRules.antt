@@ -1,6 +1,7 @@
 -- Uses without a fault keep to the rules of their options.
 use Rattle.std.proofs.Common.{◌≡◌, ◌≤◌, ◌<◌, ◌+◌, ℕ, zero, suc, Bool, true, false, not, cond, List, [], ◌∷◌, ◌++◌, length, map, get_or, All, Option, Some, None, option_map, Result, Ok, Err, refl, sym, ◌∙◌, ap, subst, arith}
-use Rattle.std.specs.Prelude.{◌==◌, is_some, unwrap_or, option_and_then, IfSome}
+use Rattle.std.specs.Prelude.{◌==◌, is_some, option_and_then, IfSome}
+use Rattle.std.specs.Option.{option_or}
 use Rattle.std.specs.List.{after_first, list_any, position_or_len}
 use Rattle.std.specs.Str.{bytes_eq}
 use Rattle.std.proofs.lemmas.List.{length-drop}
@@ -112,7 +113,7 @@ is_of_same name None e = cc
 is_of_same name (Some other) e = ap (λ n. Some n) (same_name other name e)
 
 -- the usual values keep to the rules
-pub usual_good : (name : Name) → why_value (row name).takes (row name).usual ≡ None
+pub usual_good : (name : Name) → IfSome (row name).usual (λ text. why_value (row name).takes text ≡ None)
 usual_good Job = refl
 usual_good Format = refl
 usual_good Channels = refl
@@ -121,10 +122,10 @@ usual_good Threads = refl
 usual_good Ring = refl
 usual_good Show = refl
 
-good_value : (name : Name) (uses : List Used) → AllKept uses → why_value (row name).takes (value_of name uses) ≡ None
+good_value : (name : Name) (uses : List Used) → AllKept uses → IfSome (value_of name uses) (λ text. why_value (row name).takes text ≡ None)
 good_value name uses kept = by (use_of name uses) refl
   where
-    by : (o : Option Used) → use_of name uses ≡ o → why_value (row name).takes (unwrap_or (option_map (λ u. u.text) o) (row name).usual) ≡ None
+    by : (o : Option Used) → use_of name uses ≡ o → IfSome (option_or (option_map (λ u. u.text) o) (row name).usual) (λ text. why_value (row name).takes text ≡ None)
     by None is = usual_good name
     by (Some u) is = subst (λ (n : Option Name). KeepsRule n u.text) (is_of_same name u.name (find_passes (λ v. is_of name v.name) uses u is)) (kept_use name uses kept u is).rule
 

@@ -1,5 +1,5 @@
 -- The options that a word may name, and the values that each takes.
-use Rattle.std.specs.Prelude.{ℕ, List, [], ◌∷◌, Option, codes, find}
+use Rattle.std.specs.Prelude.{ℕ, ◌≤◌, List, [], ◌∷◌, Option, Some, codes, find}
 use Rattle.std.specs.Str.{bytes_eq}
 use Rattle.la_base.specs.declared.samples.TheConstants.{MOST_PINS}
 use Rattle.words.specs.Lexer.{Text}
@@ -13,21 +13,31 @@ pub data Kind : Type 0 where
   Ratio : Kind
   Free : Kind
 
--- an option: what stands behind its `--`, the values it takes, and the value that counts where it isn't given
+-- an option that takes numbers
+abbrev pub IsNumber : Kind → Type 0
+IsNumber (Number least most) = Unit {0}
+IsNumber takes = ⊥
+
+-- a number that such an option may be given
+abbrev pub IsWithin : Kind → ℕ → Type 0
+IsWithin (Number least most) number = (least ≤ number) × (number ≤ most)
+IsWithin takes number = ⊥
+
+-- an option: what stands behind its `--`, the values it takes, and the value that counts where it isn't given, if one does
 pub record Row : Type 0 where
   pub name : Text
   pub takes : Kind
-  pub usual : Text
+  pub usual : Option Text
 
 -- the table of options
 abbrev pub row : Name → Row
-row Job = record { name = codes "job"; takes = OneOf (codes "decode" ∷ codes "find" ∷ []); usual = codes "decode" }
-row Format = record { name = codes "format"; takes = OneOf (codes "raw" ∷ []); usual = codes "raw" }
-row Channels = record { name = codes "channels"; takes = Number 1 MOST_PINS; usual = codes "8" }
-row Rate = record { name = codes "rate"; takes = Ratio; usual = codes "1000000" }
-row Threads = record { name = codes "threads"; takes = OneOf (codes "yes" ∷ codes "no" ∷ []); usual = codes "yes" }
-row Ring = record { name = codes "ring"; takes = Number 1 16384; usual = codes "256" }
-row Show = record { name = codes "show"; takes = Free; usual = codes "all" }
+row Job = record { name = codes "job"; takes = OneOf (codes "decode" ∷ codes "find" ∷ []); usual = Some (codes "decode") }
+row Format = record { name = codes "format"; takes = OneOf (codes "raw" ∷ []); usual = Some (codes "raw") }
+row Channels = record { name = codes "channels"; takes = Number 1 MOST_PINS; usual = Some (codes "8") }
+row Rate = record { name = codes "rate"; takes = Ratio; usual = Some (codes "1000000") }
+row Threads = record { name = codes "threads"; takes = OneOf (codes "yes" ∷ codes "no" ∷ []); usual = Some (codes "yes") }
+row Ring = record { name = codes "ring"; takes = Number 1 16384; usual = Some (codes "256") }
+row Show = record { name = codes "show"; takes = Free; usual = Some (codes "all") }
 
 -- all options
 abbrev pub names : List Name

@@ -1,5 +1,5 @@
 -- What a row of the table of options means.
-use Rattle.std.specs.Prelude.{map}
+use Rattle.std.specs.Prelude.{map, option_map}
 use Rattle.words.specs.Options.{Kind, OneOf, Number, Ratio, Free, Row}
 use Rattle.words.specs.declared.options.OptionRow.{OptionRow}
 use Rattle.words.specs.declared.options.Takes.{Takes}
@@ -14,4 +14,4 @@ kind_of takes.Text = Free
 
 -- a row of the table, as the code has it
 abbrev pub row_of : OptionRow → Row
-row_of r = record { name = r.name.now; takes = kind_of r.takes; usual = r.usual.now }
+row_of r = record { name = r.name.now; takes = kind_of r.takes; usual = option_map (λ text. text.now) r.usual }

@@ -1,5 +1,6 @@
 -- What the words set, or their first fault.
-use Rattle.std.specs.Prelude.{◌≡◌, ℕ, Bool, List, [], ◌∷◌, length, map, slice_get, find, Option, Some, None, Result, Ok, Err, if◌then◌else◌, codes, option_map, option_and_then, unwrap_or}
+use Rattle.std.specs.Prelude.{◌≡◌, ℕ, ◌==◌, nat_lt, Bool, List, [], ◌∷◌, length, map, slice_get, find, Option, Some, None, Result, Ok, Err, IfSome, if◌then◌else◌, codes, option_map, option_and_then, unwrap_or}
+use Rattle.std.specs.Option.{option_or}
 use Rattle.std.specs.Str.{bytes_eq}
 use Rattle.text_parts.specs.Chains.{WordText, chain_of}
 use Rattle.text_parts.specs.Numbers.{number_after}
@@ -15,6 +16,8 @@ use Rattle.words.specs.declared.kinds.Format.{Format}
 use Rattle.words.specs.declared.kinds.Format.TheVariants.{Raw}
 use Rattle.words.specs.declared.kinds.Job.{Job}
 use Rattle.words.specs.declared.kinds.Job.TheVariants.{Decode, Find}
+use Rattle.words.specs.declared.kinds.WordCount.{WordCount}
+use Rattle.words.specs.declared.kinds.WordWhy.{WordWhy}
 use Rattle.words.specs.declared.kinds.WordWhy.TheVariants as why
 use Rattle.words.specs.declared.kinds.WordFault.{WordFault}
 use Rattle.words.specs.declared.options.Name.{Name}
@@ -40,13 +43,17 @@ word_text u = record { word = u.word; text = u.text }
 abbrev pub use_of : Name → List Used → Option Used
 use_of name uses = find (λ u. is_of name u.name) uses
 
--- the value of an option: the one that is given, else the usual one
-abbrev pub value_of : Name → List Used → Text
-value_of name uses = unwrap_or (option_map (λ u. u.text) (use_of name uses)) (row name).usual
+-- the value of an option: the one that is given, else the usual one, if there is one
+abbrev pub value_of : Name → List Used → Option Text
+value_of name uses = option_or (option_map (λ u. u.text) (use_of name uses)) (row name).usual
+
+-- its text, which is empty where there is no value
+abbrev pub text_of : Name → List Used → Text
+text_of name uses = unwrap_or (value_of name uses) []
 
 -- each value keeps to the rules of its option
 abbrev pub AreGood : List Used → Type 0
-AreGood uses = (name : Name) → why_value (row name).takes (value_of name uses) ≡ None
+AreGood uses = (name : Name) → IfSome (value_of name uses) (λ text. why_value (row name).takes text ≡ None)
 
 -- the job that a good value names
 abbrev pub job_named : Text → Job
@@ -67,30 +74,35 @@ unless_all u = if bytes_eq u.text (codes "all") then None else Some (word_text u
 -- what uses set
 abbrev pub values_of : List Used → Values
 values_of uses = record {
-  job = job_named (value_of name.Job uses);
-  format = format_named (value_of name.Format uses);
-  channels = number_after 0 (value_of name.Channels uses);
-  rate = rate_written (value_of name.Rate uses);
-  threads = is_yes (value_of name.Threads uses);
-  ring = number_after 0 (value_of name.Ring uses);
+  job = job_named (text_of name.Job uses);
+  format = format_named (text_of name.Format uses);
+  channels = number_after 0 (text_of name.Channels uses);
+  rate = rate_written (text_of name.Rate uses);
+  threads = is_yes (text_of name.Threads uses);
+  ring = number_after 0 (text_of name.Ring uses);
   show = option_and_then unless_all (use_of name.Show uses);
   chains = map word_text (chains_of uses);
 }
 
--- the most chains, or alternatives, that a job takes
-abbrev pub most_chains : Job → ℕ
-most_chains Decode = 24
-most_chains Find = 8
+-- how many chains, or alternatives, a job takes
+abbrev pub words_taken : Job → WordCount
+words_taken Decode = record { fewest = 1; most = 24 }
+words_taken Find = record { fewest = 1; most = 8 }
 
--- Many at a word, if there is one
-abbrev pub many_at : Option WordText → Option WordFault
-many_at None = None
-many_at (Some chain) = Some (record { word = chain.word; at = 0; why = why.Many })
+-- what a word is that is one too many: Extra where there may be none, else Many
+abbrev pub too_many : ℕ → WordWhy
+too_many most = if most == 0 then why.Extra else why.Many
 
--- Few where there is no such word, with the number of all words; Many at the first that is too many
-abbrev pub few_or_many : ℕ → ℕ → List WordText → Option WordFault
-few_or_many most count [] = Some (record { word = count; at = 0; why = why.Few })
-few_or_many most count (chain ∷ chains) = many_at (slice_get (chain ∷ chains) most)
+-- the fault of a word that is one too many, if there is one
+abbrev pub many_at : ℕ → Option WordText → Option WordFault
+many_at most None = None
+many_at most (Some chain) = Some (record { word = chain.word; at = 0; why = too_many most })
+
+-- Few where there are too few such words, with the number of all words; else the fault of the first that is too many
+abbrev pub few_or_many : WordCount → ℕ → List WordText → Option WordFault
+few_or_many taken count chains =
+    if nat_lt (length chains) taken.fewest then Some (record { word = count; at = 0; why = why.Few })
+    else many_at taken.most (slice_get chains taken.most)
 
 -- the fault of one alternative
 abbrev pub fault_of : ℕ → Result (List Meaning) CondFault → Option WordFault
@@ -114,7 +126,7 @@ job_fault Find chains = cond_fault chains
 
 -- the rules behind all the words, of which there are `count`
 abbrev pub fault_behind : ℕ → Job → List WordText → Option WordFault
-fault_behind count job chains = or_else (few_or_many (most_chains job) count chains) (job_fault job chains)
+fault_behind count job chains = or_else (few_or_many (words_taken job) count chains) (job_fault job chains)
 
 -- the values, unless there is a fault
 abbrev pub unless_fault : Option WordFault → Values → Result Values WordFault

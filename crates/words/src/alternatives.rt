@@ -2,45 +2,54 @@
 ghost use Rattle.std.specs.Prelude.{◌≡◌, map, All, IfOk};
 ghost use Rattle.text_parts.specs.Chains.{chain_of};
 ghost use Rattle.words.specs.Readable.{IsShort};
-ghost use Rattle.words.specs.Settings.{cond_fault, fault_behind, few_or_many, job_fault, most_chains};
+ghost use Rattle.words.specs.Settings.{cond_fault, fault_behind, few_or_many, job_fault, too_many, words_taken};
 
+use crate::kinds::WordCount;
 use crate::{Job, WordFault, WordWhy};
 use std::alloc::{AllocError, Global};
 use text_parts::ChainWord;
 use wait_cond::{CondError, read_alt};
 
-// How many chains decode takes.
-const MOST_CHAINS: usize = 24;
-
-// How many alternatives a condition may have.
-const MOST_ALTERNATIVES: usize = 8;
-
 // How many such words a job takes.
-fn most_chains(job: Job) -> usize
-    ensures { result ≡ most_chains job }
+fn words_taken(job: Job) -> WordCount
+    ensures { result ≡ words_taken job }
 {
     match job {
-        Job::Decode => MOST_CHAINS,
-        Job::Find => MOST_ALTERNATIVES,
+        Job::Decode => WordCount {
+            fewest: 1,
+            most: 24,
+        },
+        Job::Find => WordCount { fewest: 1, most: 8 },
     }
 }
 
-// The fault where there are too few such words, or too many.
-fn few_or_many(most: usize, count: u32, chains: &[ChainWord]) -> Option<WordFault>
-    ensures { result ≡ few_or_many most count (map chain_of chains.now) }
+// What a word is that is one too many, where there may be so many.
+fn too_many(most: usize) -> WordWhy
+    ensures { result ≡ too_many most }
 {
-    if chains.is_empty() {
+    if most == 0 {
+        WordWhy::Extra
+    } else {
+        WordWhy::Many
+    }
+}
+
+/// The fault where there are too few such words, or too many; there are `count` words in all.
+pub fn few_or_many(taken: WordCount, count: u32, chains: &[ChainWord]) -> Option<WordFault>
+    ensures { result ≡ few_or_many taken count (map chain_of chains.now) }
+{
+    if chains.len() < taken.fewest {
         return Some(WordFault {
             word: count,
             at: 0,
             why: WordWhy::Few,
         });
     }
-    let chain = chains.get(most)?;
+    let chain = chains.get(taken.most)?;
     Some(WordFault {
         word: chain.word,
         at: 0,
-        why: WordWhy::Many,
+        why: too_many(taken.most),
     })
 }
 
@@ -86,7 +95,7 @@ pub fn fault_behind(
     requires { All IsShort chains.now }
     ensures { IfOk result (λ fault. fault ≡ fault_behind count job (map chain_of chains.now)) }
 {
-    if let Some(fault) = few_or_many(most_chains(job), count, chains) {
+    if let Some(fault) = few_or_many(words_taken(job), count, chains) {
         return Ok(Some(fault));
     }
     job_fault(alloc, job, chains)

@@ -4,7 +4,7 @@ ghost use Rattle.std.specs.String.{string_bytes};
 ghost use Rattle.clap.specs.Words.{rule_of, app_of, found_of, kind_of, rows_of};
 ghost use Rattle.words.specs.App.{chains_rule, empty_app, option_rule, options_app, rows_of_uses, some_texts, word_app};
 ghost use Rattle.words.specs.Options.{names, row};
-ghost use Rattle.words.specs.Settings.{value_of};
+ghost use Rattle.words.specs.Settings.{text_of, value_of};
 ghost use Rattle.words.specs.Uses.{Used, uses_of, chains_of};
 
 use crate::options::{Name, OPTIONS};
@@ -64,14 +64,24 @@ pub fn matches<'a>(alloc: Global, words: &'a [String]) -> Result<ArgMatches<'a>,
     command(alloc)?.try_get_matches_from(words)
 }
 
-/// The value of an option: the one that is given, else the usual one.
-pub fn value<'a>(matches: &ArgMatches<'a>, name: Name) -> &'a str
-    ensures { (uses : List Used) → rows_of (found_of matches.now) ≡ rows_of_uses [] uses → result.now ≡ value_of name uses }
+/// The value of an option: the one that is given, else the usual one, if there is one.
+pub fn value<'a>(matches: &ArgMatches<'a>, name: Name) -> Option<&'a str>
+    ensures { (uses : List Used) → rows_of (found_of matches.now) ≡ rows_of_uses [] uses → option_map (λ s. s.now) result ≡ value_of name uses }
 {
     let row = name.row();
     match matches.get_str(row.name) {
-        Some(text) => text,
+        Some(text) => Some(text),
         None => row.usual,
+    }
+}
+
+/// The text of an option's value, which is empty where there is no value.
+pub fn text<'a>(matches: &ArgMatches<'a>, name: Name) -> &'a str
+    ensures { (uses : List Used) → rows_of (found_of matches.now) ≡ rows_of_uses [] uses → result.now ≡ text_of name uses }
+{
+    match value(matches, name) {
+        Some(text) => text,
+        None => "",
     }
 }
 

@@ -10,6 +10,13 @@ pub enum Job {
     Find,
 }
 
+/// How many chains of decoders, or alternatives of a condition, a job takes.
+#[derive(Clone, Copy, Debug, PartialEq, Eq)]
+pub struct WordCount {
+    pub fewest: usize,
+    pub most: usize,
+}
+
 /// The form of the capture.
 #[derive(Clone, Copy, Debug, PartialEq, Eq)]
 pub enum Format {
@@ -41,10 +48,10 @@ pub enum WordWhy {
     /// It has more than 4,096 bytes.
     #[error("the word is too long")]
     Long,
-    /// The job takes no such word.
+    /// The job takes no such words at all.
     #[error("the job takes no such word")]
     Extra,
-    /// The job needs one more word.
+    /// The job needs more words.
     #[error("too few words")]
     Few,
     /// It is one word more than there may be.

@@ -61,8 +61,8 @@ pub struct OptionRow {
     pub name: &'static str,
     /// The values that it takes.
     pub takes: Takes,
-    /// The value that counts where the option isn't given.
-    pub usual: &'static str,
+    /// The value that counts where the option isn't given, if one does.
+    pub usual: Option<&'static str>,
     /// What it sets, in one line.
     pub help: &'static str,
 }
@@ -90,13 +90,13 @@ impl Name {
             Name::Job => OptionRow {
                 name: "job",
                 takes: Takes::OneOf(&["decode", "find"]),
-                usual: "decode",
+                usual: Some("decode"),
                 help: "decode the capture, or find where a condition holds",
             },
             Name::Format => OptionRow {
                 name: "format",
                 takes: Takes::OneOf(&["raw"]),
-                usual: "raw",
+                usual: Some("raw"),
                 help: "the form of the capture",
             },
             Name::Channels => OptionRow {
@@ -105,19 +105,19 @@ impl Name {
                     least: 1,
                     most: MOST_PINS as u64,
                 },
-                usual: "8",
+                usual: Some("8"),
                 help: "channels of a raw capture",
             },
             Name::Rate => OptionRow {
                 name: "rate",
                 takes: Takes::Rate,
-                usual: "1000000",
+                usual: Some("1000000"),
                 help: "samples a second",
             },
             Name::Threads => OptionRow {
                 name: "threads",
                 takes: Takes::OneOf(&["yes", "no"]),
-                usual: "yes",
+                usual: Some("yes"),
                 help: "one thread for each decoder, or one for all",
             },
             Name::Ring => OptionRow {
@@ -126,13 +126,13 @@ impl Name {
                     least: 1,
                     most: MOST_RING as u64,
                 },
-                usual: "256",
+                usual: Some("256"),
                 help: "items that wait between two decoders at most",
             },
             Name::Show => OptionRow {
                 name: "show",
                 takes: Takes::Text,
-                usual: "all",
+                usual: Some("all"),
                 help: "the decoders whose notes are written: all, or names with commas between them",
             },
         }

@@ -12,14 +12,13 @@ ghost use Rattle.words.specs.Uses.{chains_of};
 
 use crate::alternatives::fault_behind;
 use crate::chains::{chains, numbers, shown};
-use crate::command::{chain_texts, matches, value};
-use crate::options::{MOST_RING, Name};
+use crate::command::{chain_texts, matches, text};
+use crate::options::Name;
 use crate::reading::read_uses;
 use crate::uses::Given;
 use crate::values::{format_named, is_yes, job_named, number, rate};
 use crate::{Settings, WordsError};
 use clap::ArgMatches;
-use la_base::MOST_PINS;
 use std::alloc::{AllocError, Global};
 use text_parts::ChainWord;
 
@@ -45,16 +44,16 @@ fn settings(alloc: Global, matches: &ArgMatches, uses: &[Given]) -> Result<Setti
     requires good { AreGood (map used_of uses.now) }
     ensures { IfOk result (λ s. meaning_of s ≡ values_of (map used_of uses.now)) }
 {
-    let show = shown(alloc, uses, value(matches, Name::Show))?;
+    let show = shown(alloc, uses, text(matches, Name::Show))?;
     let chains = chains_in(alloc, matches, uses)?;
-    let channels = number(value(matches, Name::Channels), 1, MOST_PINS as u64);
-    let ring = number(value(matches, Name::Ring), 1, MOST_RING as u64);
+    let channels = number(Name::Channels, text(matches, Name::Channels));
+    let ring = number(Name::Ring, text(matches, Name::Ring));
     Ok(Settings {
-        job: job_named(value(matches, Name::Job)),
-        format: format_named(value(matches, Name::Format)),
+        job: job_named(text(matches, Name::Job)),
+        format: format_named(text(matches, Name::Format)),
         channels: channels as u32,
-        rate: rate(value(matches, Name::Rate)),
-        threads: is_yes(value(matches, Name::Threads)),
+        rate: rate(text(matches, Name::Rate)),
+        threads: is_yes(text(matches, Name::Threads)),
         ring: ring as u32,
         show,
         chains,

@@ -1,7 +1,7 @@
 // What the words set.
 ghost use Rattle.std.specs.Prelude.{◌≤◌};
-ghost use Rattle.la_base.specs.declared.samples.TheConstants.{MOST_PINS};
-ghost use Rattle.words.specs.declared.options.TheConstants.{MOST_RING};
+ghost use Rattle.words.specs.Options.{IsWithin, row};
+ghost use Rattle.words.specs.declared.options.Name.TheVariants.{Channels, Ring};
 ghost use Rattle.words.specs.declared.values.TheConstants.{MOST_RATE_NUM, MOST_RATE_DEN};
 
 use crate::{Format, Job};
@@ -26,7 +26,7 @@ pub struct Settings {
     pub show: Option<ChainWord>,
     /// The chains of decoders, or the alternatives of a condition.
     pub chains: Vec<ChainWord>,
-    ghost channels_fit: { (1 ≤ channels) × (channels ≤ MOST_PINS) },
+    ghost channels_fit: { IsWithin (row Channels).takes channels },
     ghost rate_fits: { (rate.num ≤ MOST_RATE_NUM) × (rate.den ≤ MOST_RATE_DEN) },
-    ghost ring_fits: { (1 ≤ ring) × (ring ≤ MOST_RING) },
+    ghost ring_fits: { IsWithin (row Ring).takes ring },
 }

@@ -4,14 +4,14 @@ ghost use Rattle.std.specs.List.{list_any};
 ghost use Rattle.std.specs.Str.{bytes_eq};
 ghost use Rattle.text_parts.specs.Reading.{Gives};
 ghost use Rattle.text_parts.specs.Numbers.{number_after};
-ghost use Rattle.words.specs.Options.{Number, Ratio};
+ghost use Rattle.words.specs.Options.{IsNumber, IsWithin, Ratio, row};
 ghost use Rattle.words.specs.Rates.{den_in, most_den, most_num, numbers_of, rate_in, rate_written};
 ghost use Rattle.words.specs.Rows.{kind_of};
 ghost use Rattle.words.specs.Settings.{format_named, is_yes, job_named};
 ghost use Rattle.words.specs.Uses.{why_value};
 
 use crate::lexer::cut_at_slash;
-use crate::options::Takes;
+use crate::options::{Name, Takes};
 use crate::{Format, Job, WordWhy};
 use la_base::Rate;
 use text_parts::{NumberWhy, number_in};
@@ -82,15 +82,19 @@ pub fn why_value(takes: Takes, value: &str) -> Option<WordWhy>
     }
 }
 
-/// The number that a good value writes.
-pub fn number(text: &str, least: u64, most: u64) -> u64
-    requires { why_value (Number least most) text.now ≡ None }
+/// The number that a good value of an option writes.
+pub fn number(name: Name, text: &str) -> u64
+    requires number { IsNumber (row name).takes }
+    requires good { why_value (row name).takes text.now ≡ None }
     ensures number { result ≡ number_after 0 text.now }
-    ensures within { (least ≤ result) × (result ≤ most) }
+    ensures within { IsWithin (row name).takes result }
 {
-    match number_in(text, least, most) {
-        Ok(number) => number,
-        Err(_) => unreachable!(),
+    match name.row().takes {
+        Takes::Number { least, most } => match number_in(text, least, most) {
+            Ok(number) => number,
+            Err(_) => unreachable!(),
+        },
+        Takes::OneOf(_) | Takes::Rate | Takes::Text => unreachable!(),
     }
 }
 
