@@ -4,6 +4,7 @@ use Rattle.std.specs.List.{find, position}
 use Rattle.std.specs.Str.{bytes_eq}
 use Rattle.la_base.specs.declared.wires.Wire.{Wire}
 use Rattle.la_base.specs.declared.wires.Wire.TheVariants as wire
+use Rattle.decoder_set.specs.declared.kinds.Asked.{Asked}
 use Rattle.decoder_set.specs.declared.kinds.Kind.{Kind}
 use Rattle.decoder_set.specs.declared.kinds.Kind.TheVariants.{I2c}
 use Rattle.decoder_set.specs.declared.kinds.OptForm.{OptForm}
@@ -26,12 +27,14 @@ pub record OptionRow : Type 0 where
   pub name : Text
   pub form : Form
 
--- a kind: its name, the wires that it reads and gives, its options, the names of its classes of binary data
+-- a kind: its name, the wires that it reads and gives, its options, groups of these (by their rows) of each of which one has to be given, what options of its parent it asks for, the names of its classes of binary data
 pub record Row : Type 0 where
   pub name : Text
   pub input : Wire
   pub output : Wire
   pub options : List OptionRow
+  pub groups : List (List ℕ)
+  pub parent : List Asked
   pub classes : List Text
 
 -- the table
@@ -41,6 +44,8 @@ kind_row I2c = record {
   input = wire.Logic;
   output = wire.I2c;
   options = record { name = codes "scl"; form = Pin true } ∷ record { name = codes "sda"; form = Pin true } ∷ [];
+  groups = [];
+  parent = [];
   classes = codes "write" ∷ codes "read" ∷ [];
 }
 
@@ -73,5 +78,7 @@ row_of row = record {
   input = row.input;
   output = row.output;
   options = map opt_row row.options.now;
+  groups = map (λ group. group.now) row.groups.now;
+  parent = row.parent.now;
   classes = map (λ class. class.now) row.classes.now;
 }

@@ -10,6 +10,7 @@ use Rattle.dec_i2c.specs.Opening.{bus_of, StandsFor}
 use Rattle.dec_i2c.specs.Waits.{i2c_alts}
 use Rattle.dec_i2c.specs.declared.held.Bus.{Bus}
 use Rattle.dec_i2c.specs.declared.held.I2c.{I2c}
+use Rattle.dec_i2c.specs.declared.held.I2cOpts.{I2cOpts}
 use Rattle.la_base.specs.declared.samples.Rate.{Rate}
 use Rattle.decoder_set.specs.declared.kinds.Kind.{Kind}
 use Rattle.decoder_set.specs.declared.kinds.Kind.TheVariants as kind
@@ -18,18 +19,18 @@ use Rattle.decoder_set.specs.declared.setup.Setup.{Setup}
 use Rattle.decoder_set.specs.declared.any.AnyDecoder.{AnyDecoder}
 use Rattle.decoder_set.specs.declared.any.AnyMachine.{AnyMachine}
 use Rattle.decoder_set.specs.declared.any.AnyMachine.TheVariants as machine
-use Rattle.decoder_set.specs.Setups.{value_at}
+use Rattle.decoder_set.specs.Options.{i2c_options}
 use Rattle.decoder_set.specs.Values.{in_range}
 
--- an I2C decoder of these values has consumed this input
-pub record I2cConsumed (values : List (Option ℕ)) (driver : Driver I2c Bus) (input : List Item) : Type 0 where
-  pub scl : (bus_of driver.machine).scl ≡ value_at values 0
-  pub sda : (bus_of driver.machine).sda ≡ value_at values 1
+-- an I2C decoder with these options has consumed this input
+pub record I2cConsumed (options : I2cOpts) (driver : Driver I2c Bus) (input : List Item) : Type 0 where
+  pub scl : (bus_of driver.machine).scl ≡ options.scl
+  pub sda : (bus_of driver.machine).sda ≡ options.sda
   pub drives : Drives StandsFor (λ machine. i2c_alts (bus_of machine).scl (bus_of machine).sda) driver.machine driver.waiter input
 
--- a decoder of this kind and these values has consumed this input
-abbrev pub Consumed : Kind → List (Option ℕ) → AnyMachine → List Item → Type 0
-Consumed kind.I2c values (machine.I2c driver) input = I2cConsumed values driver input
+-- a decoder of this kind, with these values at this rate, has consumed this input
+abbrev pub Consumed : Kind → List (Option ℕ) → Rate → AnyMachine → List Item → Type 0
+Consumed kind.I2c values rate (machine.I2c driver) input = I2cConsumed (i2c_options values) driver input
 
 -- its kind, options and rate
 abbrev pub setup_of : AnyDecoder → Setup
@@ -37,7 +38,7 @@ setup_of decoder = decoder.setup
 
 -- a decoder has consumed this input
 abbrev pub HasConsumed : AnyDecoder → List Item → Type 0
-HasConsumed decoder input = Consumed decoder.setup.kind decoder.setup.values.given decoder.machine input
+HasConsumed decoder input = Consumed decoder.setup.kind decoder.setup.values.given decoder.setup.rate decoder.machine input
 
 -- whether a rate is too low for the options of a kind
 abbrev pub too_slow : Kind → List (Option ℕ) → Rate → Bool

@@ -2,16 +2,18 @@
 ghost use Rattle.std.specs.Prelude.{◌≡◌, ◌≤◌, ◌<◌, ◌^◌, true, [], IfOk, IsOk};
 ghost use Rattle.la_base.specs.declared.samples.TheConstants.{MOST_PINS};
 ghost use Rattle.decoder_set.specs.Values.{in_range};
-ghost use Rattle.decoder_set.specs.Setups.{outs_of, near_of, value_at};
+ghost use Rattle.decoder_set.specs.Options.{i2c_options};
+ghost use Rattle.decoder_set.specs.Setups.{outs_of, near_of};
 ghost use Rattle.decoder_set.specs.Opening.{Opens, HasConsumed, I2cConsumed, setup_of};
 ghost use Rattle.decoder_set.specs.Kinds.{kind_row};
 ghost use Rattle.decoder_set.specs.Laws.{nothing_of, prefix_of, order_of, few_of, on_wire_of};
 
+use crate::options::i2c_options;
 use crate::values::in_range;
 use crate::{Kind, OptValues, Setup, input_of};
-use dec_i2c::{I2c, I2cOpts};
+use dec_i2c::I2c;
 use decoder_core::{Driver, Machine, OptFault, Outs};
-use la_base::{Feed, MOST_PINS, Rate, Wire};
+use la_base::{Feed, Rate, Wire};
 
 #[derive(Drop)]
 enum AnyMachine {
@@ -25,26 +27,13 @@ pub struct AnyDecoder {
     machine: AnyMachine,
 }
 
-// The bit of a channel, which is in range where its place has one.
-fn bit_at(values: &OptValues, place: usize) -> u32
-    requires place { place < 8 }
-    requires bit { value_at values.now.given place < MOST_PINS }
-    ensures { result ≡ value_at values.now.given place }
-{
-    values.given[place].unwrap_or(0) as u32
-}
-
 // An I2C decoder of values in range.
 fn open_i2c(values: &OptValues, rate: Rate) -> Result<Driver<I2c>, OptFault>
     requires { in_range MOST_PINS Kind.I2c values.now.given ≡ true }
-    ensures opens { IfOk result (λ driver. I2cConsumed values.now.given driver []) }
+    ensures opens { IfOk result (λ driver. I2cConsumed (i2c_options values.now.given) driver []) }
     ensures always { IsOk result }
 {
-    let opts = I2cOpts {
-        scl: bit_at(values, 0),
-        sda: bit_at(values, 1),
-    };
-    match I2c::open(opts, rate) {
+    match I2c::open(i2c_options(values), rate) {
         Ok(machine) => Ok(Driver::new(machine)),
         Err(fault) => Err(fault),
     }
@@ -54,8 +43,8 @@ impl AnyDecoder {
     /// Opens a decoder of a kind with these options at a rate; it has consumed nothing. `Range` comes
     /// exactly where an option isn't in its range: a channel that is required and not given, or that
     /// isn't one of the bits of a sample; a number that is too small or too large; a place behind the
-    /// words of a choice. `Rate` comes where the options are in range and the rate is too low for
-    /// them, and never for I2C.
+    /// words of a choice; or where of some options at least one has to be given, and none is. `Rate`
+    /// comes where the options are in range and the rate is too low for them, and never for I2C.
     pub fn open(kind: Kind, values: OptValues, rate: Rate) -> Result<AnyDecoder, OptFault>
         requires { rate.num ≤ 10 ^ 15 }
         ensures { Opens MOST_PINS kind values rate result }

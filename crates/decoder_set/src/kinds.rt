@@ -25,13 +25,27 @@ pub struct OptRow {
     pub form: OptForm,
 }
 
-/// All that is said of a kind: its name, the wire that it reads, the wire that it gives, its options,
-/// and the names of its classes of binary data.
+/// A number that an option must have, by its row.
+#[derive(Clone, Copy, Debug, PartialEq, Eq)]
+pub struct Asked {
+    pub row: usize,
+    pub number: u64,
+}
+
+/// All that is said of a kind.
 #[derive(Clone, Copy)]
 pub struct KindRow {
     pub name: &'static str,
+    /// The wire that it reads.
     pub input: Wire,
+    /// The wire that it gives.
     pub output: Wire,
+    /// Its options, those of channels first.
     pub options: &'static [OptRow],
+    /// Groups of options, by their rows. Of each group at least one is given.
+    pub groups: &'static [&'static [usize]],
+    /// What options of its parent it asks for.
+    pub parent: &'static [Asked],
+    /// The names of its classes of binary data.
     pub classes: &'static [&'static str],
 }

@@ -3,16 +3,23 @@
 
 mod any;
 mod kinds;
+mod laws;
+mod options;
 mod setup;
 mod table;
 mod texts;
 mod values;
 
 pub use any::AnyDecoder;
-pub use kinds::{Kind, OptForm, OptRow};
+pub use kinds::{Asked, Kind, OptForm, OptRow};
+pub use laws::{kinds_are_whole, one_input_makes_one_decoder};
 pub use setup::{MOST_OPTIONS, OptValues, Setup};
-pub use table::{KINDS, class_of, input_of, kind_name, kind_of, options_of, output_of, word_place};
+pub use table::{
+    KINDS, asked_of, class_of, groups_of, input_of, kind_name, kind_of, options_of, output_of,
+    word_place,
+};
 pub use texts::note_text;
+pub use values::number_of;
 
 #[cfg(test)]
 mod tests;

@@ -4,7 +4,7 @@ ghost use Rattle.std.specs.List.{position};
 ghost use Rattle.std.specs.Str.{bytes_eq};
 ghost use Rattle.decoder_set.specs.Kinds.{kind_row, row_of, opt_row, kind_of, class_of};
 
-use crate::kinds::{Kind, KindRow, OptForm, OptRow};
+use crate::kinds::{Asked, Kind, KindRow, OptForm, OptRow};
 use la_base::Wire;
 
 /// The kinds, in the order in which they are told.
@@ -25,11 +25,13 @@ const I2C: KindRow = KindRow {
             form: OptForm::Pin { required: true },
         },
     ],
+    groups: &[],
+    parent: &[],
     classes: &["write", "read"],
 };
 
-// The row of a kind.
-fn row(kind: Kind) -> KindRow
+/// The row of a kind.
+pub fn row(kind: Kind) -> KindRow
     ensures row { row_of result ≡ kind_row kind }
     ensures short { length result.name.now ≤ 32 }
     ensures few { length result.options.now ≤ 8 }
@@ -78,6 +80,20 @@ pub fn options_of(kind: Kind) -> &'static [OptRow]
     ensures few { length result.now ≤ 8 }
 {
     row(kind).options
+}
+
+/// Groups of options of a kind, by their rows, of each of which at least one has to be given.
+pub fn groups_of(kind: Kind) -> &'static [&'static [usize]]
+    ensures { map (λ group. group.now) result.now ≡ (kind_row kind).groups }
+{
+    row(kind).groups
+}
+
+/// The numbers that a kind asks options of its parent to have.
+pub fn asked_of(kind: Kind) -> &'static [Asked]
+    ensures { result.now ≡ (kind_row kind).parent }
+{
+    row(kind).parent
 }
 
 /// The place of the first of these words that is a text.

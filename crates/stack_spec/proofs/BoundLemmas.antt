@@ -27,7 +27,7 @@ use Rattle.stack_spec.proofs.LinkLemmas.{flat_map-append}
 use Rattle.stack_spec.proofs.RowLemmas.{parts_turn, rows_in_range, not_slow, slow}
 
 module _ (most : ℕ) (names : List (List ℕ)) (rate : Rate) (pins : List ℕ) (entry : ℕ) (instance : Instance) (new : List ℕ) (values : OptValues)
-    (b : BindsRows (rows_bound most names pins entry instance) pins new values.given) (fit : options_fit (kind_row instance.kind).options instance.options ≡ true) where
+    (b : BindsRows (rows_bound most names pins entry instance) pins new values.given) (fit : options_fit (kind_row instance.kind) instance.options ≡ true) where
   range : in_range most instance.kind values.given ≡ true
   range = ap (λ (l : List (Option ℕ)). in_range most instance.kind l) b.values_are ∙ rows_in_range most names pins entry instance b.rows b.reads fit
 
@@ -82,11 +82,11 @@ take_one (y ∷ ys) zero x within is = ap (λ z. z ∷ []) (sym is)
 take_one (y ∷ ys) (suc k) x within is = (let next : suc k + 1 ≡ suc (k + 1) = omega arith in ap (λ (n : ℕ). take n (y ∷ ys)) next) ∙ ap (λ l. y ∷ l) (take_one ys k x (omega (arith, within)) is)
 
 -- an instance of a sound stack has options that fit
-pub options_right : (before xs : List Instance) (k : ℕ) (x : Instance) → right_from before xs ≡ true → k < length xs → x ≡ get_or xs k x → options_fit (kind_row x.kind).options x.options ≡ true
+pub options_right : (before xs : List Instance) (k : ℕ) (x : Instance) → right_from before xs ≡ true → k < length xs → x ≡ get_or xs k x → options_fit (kind_row x.kind) x.options ≡ true
 options_right before [] k x all within is = absurd (omega (arith, within))
 options_right before (y ∷ ys) zero x all within is =
     let right = both (is_right before y) (right_from (before ++ y ∷ []) ys) all in
-    subst (λ (i : Instance). options_fit (kind_row i.kind).options i.options ≡ true) (sym is) (both (parent_fits before y.kind y.parent) (options_fit (kind_row y.kind).options y.options) right.0).1
+    subst (λ (i : Instance). options_fit (kind_row i.kind) i.options ≡ true) (sym is) (both (parent_fits before y.kind y.parent) (options_fit (kind_row y.kind) y.options) right.0).1
 options_right before (y ∷ ys) (suc k) x all within is = options_right (before ++ y ∷ []) ys k x (both (is_right before y) (right_from (before ++ y ∷ []) ys) all).1 (omega (arith, within)) is
 
 -- the first k instances are bound

@@ -5,8 +5,10 @@ use Rattle.std.proofs.lemmas.Bool.Decides.{nat_tests}
 use Rattle.std.proofs.lemmas.List.{length_push}
 use Rattle.la_base.specs.declared.wires.Wire.{Wire}
 use Rattle.la_base.specs.declared.wires.Wire.TheVariants.{Logic, I2c, Spi, Uart, OwLink, OwNet, Nothing}
+use Rattle.la_base.specs.Kinds.{same_wire}
 use Rattle.decoder_set.specs.Kinds.{kind_row}
-use Rattle.stack_spec.specs.Instances.{Instance, same_wire, output_of, output_at, stands_on}
+use Rattle.decoder_set.specs.declared.kinds.Kind.{Kind}
+use Rattle.stack_spec.specs.Instances.{Instance, has_numbers, output_of, stands_on}
 use Rattle.stack_spec.specs.Sound.{options_fit, parent_fits, is_right, right_from, is_sound, HasParent, IsForest}
 use Rattle.stack_spec.proofs.OptionLemmas.{both}
 
@@ -25,14 +27,20 @@ get_front [] ys k low = absurd (omega (arith, low))
 get_front (x ∷ xs) ys zero low = refl
 get_front (x ∷ xs) ys (suc k) low = get_front xs ys k (omega (arith, low))
 
+on_wire : (parent : Option Instance) (kind : Kind) → stands_on parent kind ≡ true → output_of parent ≡ (kind_row kind).input
+on_wire None kind e = cc
+on_wire (Some parent) kind e =
+    let parts = both (same_wire (kind_row parent.kind).output (kind_row kind).input) (has_numbers (kind_row parent.kind).options parent.options (kind_row kind).parent) e in
+    same_wire_true (kind_row parent.kind).output (kind_row kind).input parts.0
+
 parent_right : (before rest : List Instance) (instance : Instance) (parent : Option ℕ) → parent_fits before instance.kind parent ≡ true → HasParent (before ++ rest) (length before + 0) instance parent
 parent_right before rest instance None e = sym (same_wire_true Logic (kind_row instance.kind).input e)
 parent_right before rest instance (Some parent) e =
-    let parts = both (nat_lt parent (length before)) (stands_on before parent instance.kind) e in
+    let parts = both (nat_lt parent (length before)) (stands_on (slice_get before parent) instance.kind) e in
     let test = parts.0 in
     let low : parent < length before = grind (arith, nat_tests) in (
       omega arith,
-      ap output_of (get_front before rest parent low) ∙ same_wire_true (output_at before parent) (kind_row instance.kind).input parts.1,
+      ap output_of (get_front before rest parent low) ∙ on_wire (slice_get before parent) instance.kind parts.1,
     )
 
 parents_right : (before xs : List Instance) (k : ℕ) (instance : Instance) → right_from before xs ≡ true → slice_get xs k ≡ Some instance → HasParent (before ++ xs) (length before + k) instance instance.parent
@@ -40,7 +48,7 @@ parents_right before [] k instance all is = absurd cc
 parents_right before (x ∷ xs) zero instance all is =
     let same : x ≡ instance = cc in
     let right = both (is_right before x) (right_from (before ++ x ∷ []) xs) all in
-    let fits = both (parent_fits before x.kind x.parent) (options_fit (kind_row x.kind).options x.options) right.0 in
+    let fits = both (parent_fits before x.kind x.parent) (options_fit (kind_row x.kind) x.options) right.0 in
     subst (λ (i : Instance). HasParent (before ++ x ∷ xs) (length before + 0) i i.parent) same (parent_right before (x ∷ xs) x x.parent fits.0)
 parents_right before (x ∷ xs) (suc k) instance all is =
     let right = both (is_right before x) (right_from (before ++ x ∷ []) xs) all in

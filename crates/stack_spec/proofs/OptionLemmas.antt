@@ -9,14 +9,15 @@ use Rattle.text_parts.specs.Numbers.{number_in, number_after, is_number}
 use Rattle.text_parts.specs.Places.{Placed, placed_from}
 use Rattle.text_parts.specs.Reading.{read_parts, then_read}
 use Rattle.text_parts.specs.declared.numbers.NumberWhy.TheVariants as number
-use Rattle.decoder_set.specs.Kinds.{Text, Form, OptionRow, Pin, Number, Choice}
+use Rattle.decoder_set.specs.Kinds.{Text, Form, OptionRow, Row, Pin, Number, Choice}
+use Rattle.decoder_set.specs.Values.{has_groups}
 use Rattle.stack_spec.specs.declared.faults.StackFault.{StackFault}
 use Rattle.stack_spec.specs.declared.faults.StackWhy.{StackWhy}
 use Rattle.stack_spec.specs.declared.faults.StackWhy.TheVariants as why
-use Rattle.stack_spec.specs.Instances.{Value, Channel, Given}
+use Rattle.stack_spec.specs.Instances.{Value, Channel, Given, given_at}
 use Rattle.stack_spec.specs.Instances as value
-use Rattle.stack_spec.specs.Options.{is_colon, is_equals, at_place, numeric, chosen, read_channel, value_of, given_at, option_named, with_row, named_at, option_of, option_at, option_list, options_behind, needs, is_missing, unless_missing, options_at}
-use Rattle.stack_spec.specs.Sound.{fits, options_fit}
+use Rattle.stack_spec.specs.Options.{is_colon, is_equals, at_place, numeric, chosen, read_channel, value_of, option_named, with_row, named_at, option_of, option_at, option_list, options_behind, needs, have_all, is_missing, unless_missing, options_at}
+use Rattle.stack_spec.specs.Sound.{each_fits, fits, options_fit}
 
 -- what was read keeps what each part keeps
 pub read_keeps : {P V F : Type 0} (judge : List V → P → Result V F) (Keeps : List V → Type 0)
@@ -180,19 +181,25 @@ rows_fit rows given n (option ∷ rest) all there e =
     (rows_fit rows given (n + 1) rest all (λ j o is. let place : n + 1 + j ≡ n + suc j = omega arith in ap (λ (k : ℕ). slice_get rows k) place ∙ there (suc j) o is) parts.1)
 
 -- the options that are read fit their kind
-pub options_read_fit : (rows : List OptionRow) (word : ℕ) (part : Placed) (given : List Given) → options_at rows word part ≡ Ok given → options_fit rows given ≡ true
-options_read_fit rows word part given e = by (options_behind rows word part.0 part.1) refl e
+pub options_read_fit : (row : Row) (word : ℕ) (part : Placed) (given : List Given) → options_at row.options row.groups word part ≡ Ok given → options_fit row given ≡ true
+options_read_fit row word part given e = by (options_behind row.options word part.0 part.1) refl e
   where
-    kept : (read : List Given) (b : Bool) → is_missing rows read ≡ b → AllGood rows read → (if b then at_place word part.0 (Err why.Missing) else Ok read) ≡ Ok given → options_fit rows given ≡ true
-    kept read true is all e = cc
-    kept read false is all e =
-        let same : read ≡ given = cc in
-        subst (λ (g : List Given). options_fit rows g ≡ true) same (rows_fit rows read 0 rows all (λ j o is. let place : 0 + j ≡ j = omega arith in ap (λ (k : ℕ). slice_get rows k) place ∙ is) (not_false (list_all (λ p. not (needs p.1.form) || is_some (given_at read p.0)) (enumerate_from 0 rows)) is))
-      where
-        not_false : (b : Bool) → not b ≡ false → b ≡ true
-        not_false true e = refl
-        not_false false e = cc
+    has : List Given → Bool
+    has read = has_groups (λ place. is_some (given_at read place)) row.groups
 
-    by : (r : Result (List Given) StackFault) → options_behind rows word part.0 part.1 ≡ r → then_read r (unless_missing rows word part.0) ≡ Ok given → options_fit rows given ≡ true
-    by (Ok read) is e = kept read (is_missing rows read) refl (behind_good rows word part.0 part.1 read is) e
+    not_false : (b : Bool) → not b ≡ false → b ≡ true
+    not_false true e = refl
+    not_false false e = cc
+
+    fit : (read : List Given) → AllGood row.options read → is_missing row.options row.groups read ≡ false → options_fit row read ≡ true
+    fit read all is =
+        let parts = both (have_all row.options read) (has read) (not_false (have_all row.options read && has read) is) in
+        join (each_fits row.options read) (has read) (rows_fit row.options read 0 row.options all (λ j o is. let place : 0 + j ≡ j = omega arith in ap (λ (k : ℕ). slice_get row.options k) place ∙ is) parts.0) parts.1
+
+    kept : (read : List Given) (b : Bool) → is_missing row.options row.groups read ≡ b → AllGood row.options read → (if b then at_place word part.0 (Err why.Missing) else Ok read) ≡ Ok given → options_fit row given ≡ true
+    kept read true is all e = cc
+    kept read false is all e = let same : read ≡ given = cc in subst (λ (g : List Given). options_fit row g ≡ true) same (fit read all is)
+
+    by : (r : Result (List Given) StackFault) → options_behind row.options word part.0 part.1 ≡ r → then_read r (unless_missing row.options row.groups word part.0) ≡ Ok given → options_fit row given ≡ true
+    by (Ok read) is e = kept read (is_missing row.options row.groups read) refl (behind_good row.options word part.0 part.1 read is) e
     by (Err fault) is e = cc

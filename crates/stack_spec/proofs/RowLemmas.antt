@@ -1,7 +1,8 @@
 -- Rows that are bound one after another.
 use Rattle.std.proofs.Common.{◌≡◌, ℕ, zero, suc, ◌+◌, ◌-◌, ◌<◌, ◌≤◌, Bool, true, false, not, if◌then◌else◌, List, [], ◌∷◌, ◌++◌, length, map, drop, replicate, get_or, Option, Some, None, Result, Ok, Err, refl, sym, ◌∙◌, ap, subst, arith, append_assoc}
-use Rattle.std.specs.Prelude.{nat_lt}
-use Rattle.std.specs.List.{list_all, enumerate_from, zip}
+use Rattle.std.specs.Prelude.{nat_lt, ◌&&◌, ◌||◌, is_some}
+use Rattle.std.specs.List.{list_all, list_any, enumerate_from, zip}
+use Rattle.std.proofs.lemmas.Bool.Decides.{nat_tests}
 use Rattle.std.proofs.Math.ListN.{set}
 use Rattle.std.proofs.lemmas.List.{append-nil, length_push, at_drop_more, at_drop_all, length-map}
 use Rattle.text_parts.specs.Reading.{read_parts, then_read}
@@ -15,14 +16,15 @@ use Rattle.decoder_core.specs.declared.faults.OptFault.{OptFault}
 use Rattle.decoder_core.specs.declared.faults.OptFault.TheVariants as opt
 use Rattle.decoder_set.specs.Kinds.{Form, OptionRow, Pin, Number, Choice, kind_row}
 use Rattle.decoder_set.specs.Opening.{open_fault, too_slow}
-use Rattle.decoder_set.specs.Values.{takes, in_range}
+use Rattle.decoder_set.specs.Values.{takes, has_groups, in_range, row_in_range}
+use Rattle.decoder_set.specs.Values as set_values
+use Rattle.decoder_set.proofs.WholeRows.{kind_whole}
 use Rattle.decoder_set.specs.declared.kinds.Kind.{Kind}
 use Rattle.stack_spec.specs.Binding.{RowBound, Absent, Plain, On, channels, with_channels, at_item, bit_of, on_channel, bind_value, row_at, given_rows, value_of, values_of, rows_bound}
 use Rattle.stack_spec.specs.BindSteps.{pins_behind, BindsRow, BindsRows}
-use Rattle.stack_spec.specs.Instances.{Value, Channel, Given, Instance}
+use Rattle.stack_spec.specs.Instances.{Value, Channel, Given, Instance, given_at}
 use Rattle.stack_spec.specs.Instances as value
-use Rattle.stack_spec.specs.Options.{given_at}
-use Rattle.stack_spec.specs.Sound.{fits, options_fit}
+use Rattle.stack_spec.specs.Sound.{each_fits, fits, options_fit}
 use Rattle.stack_spec.proofs.OptionLemmas.{both, join}
 
 -- reading goes on behind a part
@@ -145,35 +147,86 @@ row_takes most names pins (Pin required) (Some (Channel reference)) row e fit = 
 row_takes most names pins (Number least high usual) (Some (Channel reference)) row e fit = cc
 row_takes most names pins (Choice words) (Some (Channel reference)) row e fit = cc
 
--- rows that are bound behind others, each of which takes its value
+-- what is given has a value when it is bound, and nothing else has
+bound_is_given : (most : ℕ) (names : List (List ℕ)) (pins : List ℕ) (o : Option Value) (row : RowBound) → bind_value most names pins o ≡ Ok row → is_some o ≡ is_some (value_of row)
+bound_is_given most names pins None row e = let same : Absent ≡ row = cc in ap (λ (r : RowBound). is_some (value_of r)) same
+bound_is_given most names pins (Some (value.Number number)) row e = let same : Plain number ≡ row = cc in ap (λ (r : RowBound). is_some (value_of r)) same
+bound_is_given most names pins (Some (Channel reference)) row e = found (find_channel names reference) e
+  where
+    bound : (channel : ℕ) (b : Bool) → (if b then Ok (On channel (bit_of pins channel)) else Err why.TooMany) ≡ Ok row → true ≡ is_some (value_of row)
+    bound channel true e = let same : On channel (bit_of pins channel) ≡ row = cc in ap (λ (r : RowBound). is_some (value_of r)) same
+    bound channel false e = cc
+
+    found : (o : Option ℕ) → on_channel most pins o ≡ Ok row → true ≡ is_some (value_of row)
+    found None e = cc
+    found (Some channel) e = bound channel (nat_lt (bit_of pins channel) most) e
+
+-- rows that are bound behind others: each takes its value, and has one where it is given
+record RowsTaken (most : ℕ) (options : List Given) (n : ℕ) (forms : List OptionRow) (before rows : List RowBound) (behind : List (Option ℕ)) : Type 0 where
+  more : List RowBound
+  rows_are : rows ≡ before ++ more
+  take_all : list_all (λ p. takes most p.0.form p.1) (zip forms (map value_of more ++ behind)) ≡ true
+  given : (k : ℕ) → k < length forms → is_some (given_at options (n + k)) ≡ is_some (set_values.given_at (map value_of more ++ behind) k)
+
 rows_take : (most : ℕ) (names : List (List ℕ)) (pins : List ℕ) (entry : ℕ) (options : List Given) (n : ℕ) (forms : List OptionRow) (before rows : List RowBound) (behind : List (Option ℕ))
     → read_parts (row_at most names pins entry) before (map (λ p. (p.0, given_at options p.0)) (enumerate_from n forms)) ≡ Ok rows → list_all (λ p. fits p.1.form (given_at options p.0)) (enumerate_from n forms) ≡ true
-    → (more : List RowBound) × (rows ≡ before ++ more) × (list_all (λ p. takes most p.0.form p.1) (zip forms (map value_of more ++ behind)) ≡ true)
-rows_take most names pins entry options n [] before rows behind e fit = let same : before ≡ rows = cc in ([], sym same ∙ sym (append-nil before), refl)
+    → RowsTaken most options n forms before rows behind
+rows_take most names pins entry options n [] before rows behind e fit =
+    let same : before ≡ rows = cc in
+    record { more = []; rows_are = sym same ∙ sym (append-nil before); take_all = refl; given = λ k within. absurd (omega (arith, within)) }
 rows_take most names pins entry options n (form ∷ forms) before rows behind e fit = by (bind_value most names (with_channels pins (channels before)) (given_at options n)) refl e (λ row r. rows_take most names pins entry options (n + 1) forms (before ++ row ∷ []) rows behind r parts.1)
   where
     parts : (fits form.form (given_at options n) ≡ true) × (list_all (λ p. fits p.1.form (given_at options p.0)) (enumerate_from (n + 1) forms) ≡ true)
     parts = both (fits form.form (given_at options n)) (list_all (λ p. fits p.1.form (given_at options p.0)) (enumerate_from (n + 1) forms)) fit
 
+    at : (row : RowBound) (values : List (Option ℕ)) → is_some (given_at options n) ≡ is_some (value_of row) → ((k : ℕ) → k < length forms → is_some (given_at options (n + 1 + k)) ≡ is_some (set_values.given_at values k))
+        → (k : ℕ) → k < length (form ∷ forms) → is_some (given_at options (n + k)) ≡ is_some (set_values.given_at (value_of row ∷ values) k)
+    at row values here more zero within = (let same : n + 0 ≡ n = omega arith in ap (λ (m : ℕ). is_some (given_at options m)) same) ∙ here
+    at row values here more (suc k) within = (let same : n + suc k ≡ n + 1 + k = omega arith in ap (λ (m : ℕ). is_some (given_at options m)) same) ∙ more k (omega (arith, within))
+
     by : (r : Result RowBound BindWhy) → bind_value most names (with_channels pins (channels before)) (given_at options n) ≡ r
         → then_read (at_item entry n r) (λ row. read_parts (row_at most names pins entry) (before ++ row ∷ []) (map (λ p. (p.0, given_at options p.0)) (enumerate_from (n + 1) forms))) ≡ Ok rows
         → ((row : RowBound) → read_parts (row_at most names pins entry) (before ++ row ∷ []) (map (λ p. (p.0, given_at options p.0)) (enumerate_from (n + 1) forms)) ≡ Ok rows
-        → (more : List RowBound) × (rows ≡ (before ++ row ∷ []) ++ more) × (list_all (λ p. takes most p.0.form p.1) (zip forms (map value_of more ++ behind)) ≡ true))
-        → (more : List RowBound) × (rows ≡ before ++ more) × (list_all (λ p. takes most p.0.form p.1) (zip (form ∷ forms) (map value_of more ++ behind)) ≡ true)
+        → RowsTaken most options (n + 1) forms (before ++ row ∷ []) rows behind) → RowsTaken most options n (form ∷ forms) before rows behind
     by (Ok row) is e next =
-        let m = next row e in (
-          row ∷ m.0,
-          m.1 ∙ append_assoc before (row ∷ []) m.0,
-          join (takes most form.form (value_of row)) (list_all (λ p. takes most p.0.form p.1) (zip forms (map value_of m.0 ++ behind))) (row_takes most names (with_channels pins (channels before)) form.form (given_at options n) row is parts.0) m.2,
-        )
+        let m = next row e in
+        let bound = with_channels pins (channels before) in
+        record {
+          more = row ∷ m.more;
+          rows_are = m.rows_are ∙ append_assoc before (row ∷ []) m.more;
+          take_all = join (takes most form.form (value_of row)) (list_all (λ p. takes most p.0.form p.1) (zip forms (map value_of m.more ++ behind))) (row_takes most names bound form.form (given_at options n) row is parts.0) m.take_all;
+          given = at row (map value_of m.more ++ behind) (bound_is_given most names bound (given_at options n) row is) m.given;
+        }
     by (Err why) is e next = cc
+
+-- groups of places below a bound, by two tests that agree there
+any_same : (p q : ℕ → Bool) (count : ℕ) → ((k : ℕ) → k < count → p k ≡ q k) → (group : List ℕ) → list_all (λ place. nat_lt place count) group ≡ true → list_any p group ≡ list_any q group
+any_same p q count same [] below = refl
+any_same p q count same (place ∷ group) below =
+    let parts = both (nat_lt place count) (list_all (λ k. nat_lt k count) group) below in
+    let test = parts.0 in
+    let low : place < count = grind (arith, nat_tests) in
+    (λ i. same place low i || any_same p q count same group parts.1 i)
+
+groups_same : (p q : ℕ → Bool) (count : ℕ) → ((k : ℕ) → k < count → p k ≡ q k) → (groups : List (List ℕ)) → list_all (λ group. list_all (λ place. nat_lt place count) group) groups ≡ true → has_groups p groups ≡ has_groups q groups
+groups_same p q count same [] below = refl
+groups_same p q count same (group ∷ groups) below =
+    let parts = both (list_all (λ k. nat_lt k count) group) (list_all (λ group. list_all (λ place. nat_lt place count) group) groups) below in
+    (λ i. any_same p q count same group parts.0 i && groups_same p q count same groups parts.1 i)
 
 -- the values of an instance that is bound are in range
 pub rows_in_range : (most : ℕ) (names : List (List ℕ)) (pins : List ℕ) (entry : ℕ) (instance : Instance) (rows : List RowBound) → rows_bound most names pins entry instance ≡ Ok rows
-    → options_fit (kind_row instance.kind).options instance.options ≡ true → in_range most instance.kind (values_of rows) ≡ true
+    → options_fit (kind_row instance.kind) instance.options ≡ true → in_range most instance.kind (values_of rows) ≡ true
 rows_in_range most names pins entry instance rows e fit =
-    let r = rows_take most names pins entry instance.options 0 (kind_row instance.kind).options [] rows (replicate (8 - length rows) None) e fit in
-    ap (λ (l : List RowBound). list_all (λ p. takes most p.0.form p.1) (zip (kind_row instance.kind).options (map value_of l ++ replicate (8 - length rows) None))) r.1 ∙ r.2
+    let row = kind_row instance.kind in
+    let behind = replicate {A = Option ℕ} (8 - length rows) None in
+    let is_given = λ (place : ℕ). is_some (given_at instance.options place) in
+    let parts = both (each_fits row.options instance.options) (has_groups is_given row.groups) fit in
+    let r = rows_take most names pins entry instance.options 0 row.options [] rows behind e parts.0 in
+    let given = λ (k : ℕ) (within : k < length row.options). (let same : k ≡ 0 + k = omega arith in ap is_given same) ∙ r.given k within in
+    let groups = sym (groups_same is_given (λ place. is_some (set_values.given_at (map value_of r.more ++ behind) place)) (length row.options) given row.groups (kind_whole instance.kind).groups) ∙ parts.1 in
+    ap (λ (l : List RowBound). row_in_range most row (map value_of l ++ behind)) r.rows_are
+    ∙ join (list_all (λ p. takes most p.0.form p.1) (zip row.options (map value_of r.more ++ behind))) (has_groups (λ place. is_some (set_values.given_at (map value_of r.more ++ behind) place)) row.groups) r.take_all groups
 
 -- what an opened decoder, and one that isn't, say of the rate
 pub not_slow : (most : ℕ) (kind : Kind) (values : List (Option ℕ)) (rate : Rate) → in_range most kind values ≡ true → open_fault most kind values rate ≡ None → too_slow kind values rate ≡ false

@@ -1,6 +1,6 @@
 -- The instances of a stack that is read are sound.
 use Rattle.std.proofs.Common.{◌≡◌, ℕ, ◌<◌, Bool, true, false, cond, ◌&&◌, if◌then◌else◌, List, [], ◌∷◌, ◌++◌, length, Option, Some, None, Result, Ok, Err, refl, sym, ◌∙◌, ap, subst, arith, append_assoc, length-append}
-use Rattle.std.specs.Prelude.{nat_lt, nat_le}
+use Rattle.std.specs.Prelude.{nat_lt, nat_le, slice_get}
 use Rattle.std.specs.List.{position, position_or_len, list_any}
 use Rattle.std.specs.Option.{IfSome}
 use Rattle.std.specs.Str.{bytes_eq}
@@ -9,6 +9,7 @@ use Rattle.std.proofs.lemmas.List.{append-nil}
 use Rattle.text_parts.specs.Chains.{WordText}
 use Rattle.text_parts.specs.Places.{Placed, parts_between}
 use Rattle.text_parts.specs.Reading.{read_parts, then_read}
+use Rattle.la_base.specs.Kinds.{same_wire}
 use Rattle.la_base.specs.declared.wires.Wire.TheVariants.{Logic}
 use Rattle.decoder_set.specs.Kinds.{kind_row, kind_of}
 use Rattle.decoder_set.specs.declared.kinds.Kind.{Kind}
@@ -16,7 +17,7 @@ use Rattle.stack_spec.specs.declared.faults.StackFault.{StackFault}
 use Rattle.stack_spec.specs.declared.faults.StackWhy.{StackWhy}
 use Rattle.stack_spec.specs.declared.faults.StackWhy.TheVariants as why
 use Rattle.stack_spec.specs.Chains.{Link, news, last_place, kind_text, instance_by, placed_by, kind_at, instance_at, added_at, earlier_at, is_dash, part_at, link_at, all_of, chain_at, instances_of}
-use Rattle.stack_spec.specs.Instances.{Instance, Given, name_of, place_named, same_wire, stands_on, unless_full, why_not}
+use Rattle.stack_spec.specs.Instances.{Instance, Given, name_of, place_named, stands_on, unless_full, why_not}
 use Rattle.stack_spec.specs.Options.{fault, options_at}
 use Rattle.stack_spec.specs.Sound.{options_fit, parent_fits, is_right, right_from, is_sound}
 use Rattle.stack_spec.proofs.LinkLemmas.{flat_map-append, last_place-push}
@@ -56,33 +57,33 @@ stands before None kind e within = by (same_wire Logic (kind_row kind).input) re
     by false is e = absurd cc
 stands before (Some parent) kind e within = full (nat_le 24 (length before)) refl e
   where
-    on : (b : Bool) → stands_on before parent kind ≡ b → (if b then None else Some why.Mismatch) ≡ None → stands_on before parent kind ≡ true
+    on : (b : Bool) → stands_on (slice_get before parent) kind ≡ b → (if b then None else Some why.Mismatch) ≡ None → stands_on (slice_get before parent) kind ≡ true
     on true is e = is
     on false is e = absurd cc
 
-    full : (b : Bool) → nat_le 24 (length before) ≡ b → (if b then Some why.Many else if stands_on before parent kind then None else Some why.Mismatch) ≡ None
-        → ((nat_lt parent (length before) && stands_on before parent kind) ≡ true) × (length before < 24)
+    full : (b : Bool) → nat_le 24 (length before) ≡ b → (if b then Some why.Many else if stands_on (slice_get before parent) kind then None else Some why.Mismatch) ≡ None
+        → ((nat_lt parent (length before) && stands_on (slice_get before parent) kind) ≡ true) × (length before < 24)
     full true is e = absurd cc
     full false is e =
         let low : nat_lt parent (length before) ≡ true = grind (arith, nat_tests) in
-        (join (nat_lt parent (length before)) (stands_on before parent kind) low (on (stands_on before parent kind) refl e), grind (arith, nat_tests))
+        (join (nat_lt parent (length before)) (stands_on (slice_get before parent) kind) low (on (stands_on (slice_get before parent) kind) refl e), grind (arith, nat_tests))
 
 -- a new instance is right
 instance_right : (before : List Instance) (parent : Option ℕ) (word : ℕ) (part : Placed) (instance : Instance) → IfSome parent (λ p. p < length before) → instance_at before parent word part ≡ Ok instance
     → (is_right before instance ≡ true) × (length before < 24)
 instance_right before parent word part instance within e = by (kind_of (kind_text part.1)) e
   where
-    made : (kind : Kind) (r : Result (List Given) StackFault) → options_at (kind_row kind).options word part ≡ r → parent_fits before kind parent ≡ true → then_read r (λ options. Ok (instance_by before parent kind options)) ≡ Ok instance → is_right before instance ≡ true
+    made : (kind : Kind) (r : Result (List Given) StackFault) → options_at (kind_row kind).options (kind_row kind).groups word part ≡ r → parent_fits before kind parent ≡ true → then_read r (λ options. Ok (instance_by before parent kind options)) ≡ Ok instance → is_right before instance ≡ true
     made kind (Ok options) is fits e =
         let same : instance_by before parent kind options ≡ instance = cc in
-        subst (λ (i : Instance). is_right before i ≡ true) same (join (parent_fits before kind parent) (options_fit (kind_row kind).options options) fits (options_read_fit (kind_row kind).options word part options is))
+        subst (λ (i : Instance). is_right before i ≡ true) same (join (parent_fits before kind parent) (options_fit (kind_row kind) options) fits (options_read_fit (kind_row kind) word part options is))
     made kind (Err fault) is fits e = cc
 
     placed : (kind : Kind) (o : Option StackWhy) → why_not before parent kind ≡ o → placed_by before parent kind word part o ≡ Ok instance → (is_right before instance ≡ true) × (length before < 24)
     placed kind (Some why) is e = absurd cc
     placed kind None is e =
         let s = stands before parent kind is within in
-        (made kind (options_at (kind_row kind).options word part) refl s.0 e, s.1)
+        (made kind (options_at (kind_row kind).options (kind_row kind).groups word part) refl s.0 e, s.1)
 
     by : (o : Option Kind) → kind_at before parent word part o ≡ Ok instance → (is_right before instance ≡ true) × (length before < 24)
     by None e = absurd cc

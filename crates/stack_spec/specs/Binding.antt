@@ -11,8 +11,7 @@ use Rattle.wait_cond.specs.Binding.{first_uses}
 use Rattle.wait_cond.specs.declared.faults.BindWhy.{BindWhy}
 use Rattle.wait_cond.specs.declared.faults.BindWhy.TheVariants as why
 use Rattle.stack_spec.specs.declared.faults.BindFault.{BindFault}
-use Rattle.stack_spec.specs.Instances.{Value, Channel, Number, Instance}
-use Rattle.stack_spec.specs.Options.{given_at}
+use Rattle.stack_spec.specs.Instances.{Value, Channel, Number, Instance, given_at}
 
 -- what a row of an instance's options is bound to: nothing, where it isn't given; a number; a channel with its bit
 pub data RowBound : Type 0 where

@@ -39,7 +39,7 @@ instance_by before parent kind options = record { kind = kind; number = next_num
 -- an instance of a kind: why it can't stand here, else its options
 abbrev pub placed_by : List Instance → Option ℕ → Kind → ℕ → Placed → Option StackWhy → Result Instance StackFault
 placed_by before parent kind word part (Some why) = fault word part.0 why
-placed_by before parent kind word part None = then_read (options_at (kind_row kind).options word part) (λ options. Ok (instance_by before parent kind options))
+placed_by before parent kind word part None = then_read (options_at (kind_row kind).options (kind_row kind).groups word part) (λ options. Ok (instance_by before parent kind options))
 
 -- an instance of the kind that was found, if one was
 abbrev pub kind_at : List Instance → Option ℕ → ℕ → Placed → Option Kind → Result Instance StackFault

@@ -1,11 +1,14 @@
 -- Instances of decoders, their names, and what they stand on.
-use Rattle.std.specs.Prelude.{ℕ, ◌+◌, Bool, true, false, List, ◌++◌, length, slice_get, nat_le, Option, Some, None, if◌then◌else◌, codes, count_by}
+use Rattle.std.specs.Prelude.{ℕ, ◌+◌, ◌==◌, ◌&&◌, Bool, false, List, ◌++◌, length, slice_get, nat_le, Option, Some, None, option_map, if◌then◌else◌, codes, count_by}
 use Rattle.std.specs.Fmt.{decimal}
-use Rattle.std.specs.List.{position}
+use Rattle.std.specs.List.{find, list_all, position}
 use Rattle.std.specs.Str.{bytes_eq}
 use Rattle.la_base.specs.declared.wires.Wire.{Wire}
-use Rattle.la_base.specs.declared.wires.Wire.TheVariants.{Logic, I2c, Spi, Uart, OwLink, OwNet, Nothing}
-use Rattle.decoder_set.specs.Kinds.{Text, kind_row}
+use Rattle.la_base.specs.declared.wires.Wire.TheVariants.{Logic, Nothing}
+use Rattle.la_base.specs.Kinds.{same_wire}
+use Rattle.decoder_set.specs.Kinds.{OptionRow, Text, kind_row}
+use Rattle.decoder_set.specs.Values.{number_by}
+use Rattle.decoder_set.specs.declared.kinds.Asked.{Asked}
 use Rattle.decoder_set.specs.declared.kinds.Kind.{Kind}
 use Rattle.stack_spec.specs.declared.faults.StackWhy.{StackWhy}
 use Rattle.stack_spec.specs.declared.faults.StackWhy.TheVariants as why
@@ -43,17 +46,6 @@ same_kind one other = bytes_eq (kind_row one).name (kind_row other).name
 abbrev pub next_number : List Instance → Kind → ℕ
 next_number before kind = count_by (λ instance. same_kind instance.kind kind) before + 1
 
--- two wires are the same
-abbrev pub same_wire : Wire → Wire → Bool
-same_wire Logic Logic = true
-same_wire I2c I2c = true
-same_wire Spi Spi = true
-same_wire Uart Uart = true
-same_wire OwLink OwLink = true
-same_wire OwNet OwNet = true
-same_wire Nothing Nothing = true
-same_wire one other = false
-
 -- the wire that an instance gives, if there is one
 abbrev pub output_of : Option Instance → Wire
 output_of None = Nothing
@@ -63,9 +55,28 @@ output_of (Some instance) = (kind_row instance.kind).output
 abbrev pub output_at : List Instance → ℕ → Wire
 output_at before place = output_of (slice_get before place)
 
--- a kind wants the wire that the instance at a place gives
-abbrev pub stands_on : List Instance → ℕ → Kind → Bool
-stands_on before parent kind = same_wire (output_at before parent) (kind_row kind).input
+-- what a row is given, if anything
+abbrev pub given_at : List Given → ℕ → Option Value
+given_at options row = option_map (λ given. given.value) (find (λ given. given.row == row) options)
+
+-- the number among what is given
+abbrev pub number_in : Option Value → Option ℕ
+number_in None = None
+number_in (Some (Channel reference)) = None
+number_in (Some (Number number)) = Some number
+
+-- the number that the option of a row has: the one that is given, else its usual one
+abbrev pub number_given : List OptionRow → List Given → ℕ → ℕ
+number_given rows options row = number_by (slice_get rows row) (number_in (given_at options row))
+
+-- options have the numbers that are asked for
+abbrev pub has_numbers : List OptionRow → List Given → List Asked → Bool
+has_numbers rows options asked = list_all (λ a. number_given rows options a.row == a.number) asked
+
+-- a kind stands on an instance, if there is one: it wants the wire that this gives, and the numbers that its options have
+abbrev pub stands_on : Option Instance → Kind → Bool
+stands_on None kind = false
+stands_on (Some parent) kind = same_wire (kind_row parent.kind).output (kind_row kind).input && has_numbers (kind_row parent.kind).options parent.options (kind_row kind).parent
 
 -- the most instances of a stack
 abbrev pub most_instances : ℕ
@@ -78,4 +89,4 @@ unless_full before next = if nat_le most_instances (length before) then Some why
 -- why a kind can't stand here: at the head of a chain it reads samples; there are no more than `most_instances`; it stands on what it wants
 abbrev pub why_not : List Instance → Option ℕ → Kind → Option StackWhy
 why_not before None kind = if same_wire Logic (kind_row kind).input then unless_full before None else Some why.NoParent
-why_not before (Some parent) kind = unless_full before (if stands_on before parent kind then None else Some why.Mismatch)
+why_not before (Some parent) kind = unless_full before (if stands_on (slice_get before parent) kind then None else Some why.Mismatch)

@@ -1,5 +1,5 @@
 -- The options of an instance.
-use Rattle.std.specs.Prelude.{ℕ, ◌+◌, ◌==◌, ◌||◌, Bool, false, not, List, [], length, Option, Some, None, is_some, option_map, Result, Ok, Err, if◌then◌else◌}
+use Rattle.std.specs.Prelude.{ℕ, ◌+◌, ◌==◌, ◌||◌, ◌&&◌, Bool, false, not, List, [], length, Option, Some, None, is_some, Result, Ok, Err, if◌then◌else◌}
 use Rattle.std.specs.List.{position, position_or_len, before_first, after_first, slice_split, list_all, enumerate_from, find}
 use Rattle.std.specs.Str.{bytes_eq}
 use Rattle.text_parts.specs.Numbers.{number_in}
@@ -8,10 +8,11 @@ use Rattle.text_parts.specs.Reading.{read_parts, then_read}
 use Rattle.text_parts.specs.declared.numbers.NumberWhy.{NumberWhy}
 use Rattle.text_parts.specs.declared.numbers.NumberWhy.TheVariants as number
 use Rattle.decoder_set.specs.Kinds.{Text, Form, OptionRow, Pin, Number, Choice}
+use Rattle.decoder_set.specs.Values.{has_groups}
 use Rattle.stack_spec.specs.declared.faults.StackFault.{StackFault}
 use Rattle.stack_spec.specs.declared.faults.StackWhy.{StackWhy}
 use Rattle.stack_spec.specs.declared.faults.StackWhy.TheVariants as why
-use Rattle.stack_spec.specs.Instances.{Given, Value}
+use Rattle.stack_spec.specs.Instances.{Given, Value, given_at}
 use Rattle.stack_spec.specs.Instances as value
 
 -- what stands between the name of an option and its value
@@ -51,10 +52,6 @@ abbrev pub value_of : Form → Text → Result Value StackWhy
 value_of (Pin required) text = read_channel text
 value_of (Number least most usual) text = numeric (number_in least most text)
 value_of (Choice words) text = chosen (position (λ word. bytes_eq word text) words)
-
--- what a row is given, if anything
-abbrev pub given_at : List Given → ℕ → Option Value
-given_at options row = option_map (λ given. given.value) (find (λ given. given.row == row) options)
 
 -- the option of a name, with its row
 abbrev pub option_named : List OptionRow → Text → Option (ℕ × OptionRow)
@@ -100,14 +97,18 @@ needs (Pin required) = required
 needs (Number least most usual) = false
 needs (Choice words) = false
 
--- a channel that is required isn't given
-abbrev pub is_missing : List OptionRow → List Given → Bool
-is_missing rows given = not (list_all (λ p. not (needs p.1.form) || is_some (given_at given p.0)) (enumerate_from 0 rows))
+-- all that has to be given is
+abbrev pub have_all : List OptionRow → List Given → Bool
+have_all rows given = list_all (λ p. not (needs p.1.form) || is_some (given_at given p.0)) (enumerate_from 0 rows)
+
+-- a channel that is required isn't given, or none of a group of which one is
+abbrev pub is_missing : List OptionRow → List (List ℕ) → List Given → Bool
+is_missing rows groups given = not (have_all rows given && has_groups (λ row. is_some (given_at given row)) groups)
 
 -- options, none of which is missing
-abbrev pub unless_missing : List OptionRow → ℕ → ℕ → List Given → Result (List Given) StackFault
-unless_missing rows word at given = if is_missing rows given then fault word at why.Missing else Ok given
+abbrev pub unless_missing : List OptionRow → List (List ℕ) → ℕ → ℕ → List Given → Result (List Given) StackFault
+unless_missing rows groups word at given = if is_missing rows groups given then fault word at why.Missing else Ok given
 
 -- the options of an instance that begins at a place, in their order, none of which is missing; or the first fault
-abbrev pub options_at : List OptionRow → ℕ → Placed → Result (List Given) StackFault
-options_at rows word part = then_read (options_behind rows word part.0 part.1) (unless_missing rows word part.0)
+abbrev pub options_at : List OptionRow → List (List ℕ) → ℕ → Placed → Result (List Given) StackFault
+options_at rows groups word part = then_read (options_behind rows word part.0 part.1) (unless_missing rows groups word part.0)

@@ -1,12 +1,13 @@
 -- What holds of the instances of every stack that is read.
-use Rattle.std.specs.Prelude.{ℕ, ◌≡◌, ◌<◌, ◌≤◌, Bool, true, false, not, ◌&&◌, nat_le, nat_lt, List, [], ◌∷◌, ◌++◌, length, slice_get, Option, Some, None}
+use Rattle.std.specs.Prelude.{ℕ, ◌≡◌, ◌<◌, ◌≤◌, Bool, true, false, not, ◌&&◌, nat_le, nat_lt, List, [], ◌∷◌, ◌++◌, length, slice_get, Option, Some, None, is_some}
 use Rattle.std.specs.List.{list_all, enumerate_from}
 use Rattle.la_base.specs.declared.wires.Wire.TheVariants.{Logic}
-use Rattle.decoder_set.specs.Kinds.{Form, OptionRow, Pin, Number, Choice, kind_row}
+use Rattle.la_base.specs.Kinds.{same_wire}
+use Rattle.decoder_set.specs.Kinds.{Form, OptionRow, Row, Pin, Number, Choice, kind_row}
+use Rattle.decoder_set.specs.Values.{has_groups}
 use Rattle.decoder_set.specs.declared.kinds.Kind.{Kind}
-use Rattle.stack_spec.specs.Instances.{Value, Channel, Given, Instance, same_wire, output_at, stands_on, most_instances}
+use Rattle.stack_spec.specs.Instances.{Value, Channel, Given, Instance, given_at, output_at, stands_on, most_instances}
 use Rattle.stack_spec.specs.Instances as value
-use Rattle.stack_spec.specs.Options.{given_at}
 
 -- an option takes what it is given, or nothing
 abbrev pub fits : Form → Option Value → Bool
@@ -20,18 +21,22 @@ fits (Choice words) None = true
 fits (Choice words) (Some (Channel reference)) = false
 fits (Choice words) (Some (value.Number place)) = nat_lt place (length words)
 
--- each option of a kind takes what it is given
-abbrev pub options_fit : List OptionRow → List Given → Bool
-options_fit rows given = list_all (λ p. fits p.1.form (given_at given p.0)) (enumerate_from 0 rows)
+-- each option takes what it is given
+abbrev pub each_fits : List OptionRow → List Given → Bool
+each_fits rows given = list_all (λ p. fits p.1.form (given_at given p.0)) (enumerate_from 0 rows)
+
+-- each option of a kind takes what it is given, and of each group one is given
+abbrev pub options_fit : Row → List Given → Bool
+options_fit row given = each_fits row.options given && has_groups (λ place. is_some (given_at given place)) row.groups
 
 -- a kind stands on an instance before it, which gives what it wants; or it reads samples
 abbrev pub parent_fits : List Instance → Kind → Option ℕ → Bool
 parent_fits before kind None = same_wire Logic (kind_row kind).input
-parent_fits before kind (Some parent) = nat_lt parent (length before) && stands_on before parent kind
+parent_fits before kind (Some parent) = nat_lt parent (length before) && stands_on (slice_get before parent) kind
 
 -- an instance is right behind those before it
 abbrev pub is_right : List Instance → Instance → Bool
-is_right before instance = parent_fits before instance.kind instance.parent && options_fit (kind_row instance.kind).options instance.options
+is_right before instance = parent_fits before instance.kind instance.parent && options_fit (kind_row instance.kind) instance.options
 
 -- each instance is right behind those before it
 abbrev pub right_from : List Instance → List Instance → Bool

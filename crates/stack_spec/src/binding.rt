@@ -99,7 +99,7 @@ fn bind_instance(
 ) -> Result<AnyDecoder, BindFault>
     requires pins { ArePins MOST_PINS (length names.now) pins.old.items }
     requires rate { rate.num ≤ 10 ^ 15 }
-    requires fit { options_fit (kind_row instance.now.kind).options (map given_of instance.now.options.items) ≡ true }
+    requires fit { options_fit (kind_row instance.now.kind) (map given_of instance.now.options.items) ≡ true }
     ensures step { InstanceStep (instance_bound MOST_PINS names.now rate pins.old.items entry (instance_of instance.now)) pins.old.items pins.new.items result }
     ensures pins { ArePins MOST_PINS (length names.now) pins.new.items }
 {

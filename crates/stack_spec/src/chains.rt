@@ -14,7 +14,7 @@ use crate::naming::{next_number, place_named};
 use crate::options::read_options;
 use crate::standing::why_not;
 use crate::{StackError, StackWhy};
-use decoder_set::{kind_of, options_of};
+use decoder_set::{groups_of, kind_of, options_of};
 use std::alloc::Global;
 use text_parts::{ChainWord, place_behind};
 
@@ -55,7 +55,7 @@ fn read_instance(
     if let Some(why) = why_not(before, parent, kind) {
         return Err(fault(word, at, why));
     }
-    match read_options(alloc, options_of(kind), word, at, text) {
+    match read_options(alloc, options_of(kind), groups_of(kind), word, at, text) {
         Ok(options) => Ok(Instance {
             kind,
             number: next_number(before, kind),

@@ -1,11 +1,12 @@
 // Reading the options of an instance.
 ghost use Rattle.std.specs.Prelude.{◌≡◌, ◌==◌, ◌+◌, ◌<◌, ◌≤◌, ◌^◌, ◌||◌, not, length, map, option_map, is_some};
-ghost use Rattle.std.specs.List.{find, list_all, enumerate_from};
+ghost use Rattle.std.specs.List.{find, list_all, list_any, enumerate_from};
 ghost use Rattle.std.specs.Str.{bytes_eq};
 ghost use Rattle.text_parts.specs.Numbers.{number_in};
 ghost use Rattle.text_parts.specs.Reading.{Gives};
 ghost use Rattle.decoder_set.specs.Kinds.{Choice, form_of, opt_row};
-ghost use Rattle.stack_spec.specs.Options.{given_at, is_missing, needs, numeric, option_list, option_at, option_named, option_of, options_at, options_behind, read_channel, row_at, value_of};
+ghost use Rattle.stack_spec.specs.Instances.{given_at};
+ghost use Rattle.stack_spec.specs.Options.{is_missing, needs, numeric, option_list, option_at, option_named, option_of, options_at, options_behind, read_channel, row_at, value_of};
 ghost use Rattle.stack_spec.specs.Meaning.{fault_in, given_of, meaning_of, why_in};
 
 use crate::errors::{fault, refusal};
@@ -212,27 +213,46 @@ fn have_all(rows: &[OptRow], given: &[GivenOption]) -> bool
     rows.iter().enumerate().all(|(row, option)| !needs(option.form) || is_given(given, row))
 }
 
-// Whether a channel that is required isn't given.
-fn is_missing(rows: &[OptRow], given: &[GivenOption]) -> bool
-    ensures { result ≡ is_missing (map opt_row rows.now) (map given_of given.now) }
+// Whether one of a group is given.
+fn has_one(group: &[usize], given: &[GivenOption]) -> bool
+    ensures { result ≡ list_any (λ row. is_some (given_at (map given_of given.now) row)) group.now }
 {
-    !have_all(rows, given)
+    group.iter().any(|row| is_given(given, *row))
 }
 
-/// The options of an instance that begins at a place of a word, or their first fault.
+// Whether one of each group is given.
+fn has_groups(groups: &[&[usize]], given: &[GivenOption]) -> bool
+    ensures { result ≡ list_all (λ group. list_any (λ row. is_some (given_at (map given_of given.now) row)) group.now) groups.now }
+{
+    groups.iter().all(|group| has_one(group, given))
+}
+
+// Whether a channel that is required isn't given, or none of a group.
+fn is_missing(rows: &[OptRow], groups: &[&[usize]], given: &[GivenOption]) -> bool
+    ensures { result ≡ is_missing (map opt_row rows.now) (map (λ group. group.now) groups.now) (map given_of given.now) }
+{
+    if !have_all(rows, given) {
+        return true;
+    }
+    !has_groups(groups, given)
+}
+
+/// The options of an instance that begins at a place of a word, or their first fault. Of each group of
+/// rows at least one has to be given.
 pub fn read_options(
     alloc: Global,
     rows: &[OptRow],
+    groups: &[&[usize]],
     word: u32,
     at: u32,
     text: &str,
 ) -> Result<Vec<GivenOption>, StackError>
     requires { at + length text.now + 1 < 2 ^ 32 }
-    ensures { Gives (λ v. map given_of v.items) fault_in (options_at (map opt_row rows.now) word (at, text.now)) result }
+    ensures { Gives (λ v. map given_of v.items) fault_in (options_at (map opt_row rows.now) (map (λ group. group.now) groups.now) word (at, text.now)) result }
 {
     match read_behind(alloc, rows, word, at, text) {
         Ok(options) => {
-            if is_missing(rows, &options) {
+            if is_missing(rows, groups, &options) {
                 return Err(fault(word, at, StackWhy::Missing));
             }
             Ok(options)

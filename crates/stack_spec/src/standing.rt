@@ -1,38 +1,64 @@
 // What instances stand on.
-ghost use Rattle.std.specs.Prelude.{◌≡◌, ◌<◌, None, map, length};
-ghost use Rattle.stack_spec.specs.Instances.{output_at, same_wire, stands_on, why_not};
-ghost use Rattle.stack_spec.specs.Meaning.{instance_of};
+ghost use Rattle.std.specs.Prelude.{◌≡◌, ◌<◌, None, Some, map, option_map, slice_get, length};
+ghost use Rattle.decoder_set.specs.Kinds.{opt_row};
+ghost use Rattle.stack_spec.specs.Instances.{has_numbers, number_given, number_in, stands_on, why_not};
+ghost use Rattle.stack_spec.specs.Meaning.{given_of, instance_of, meaning_of};
 
 use crate::StackWhy;
-use crate::instance::Instance;
-use decoder_set::{Kind, input_of, output_of};
-use la_base::Wire;
+use crate::instance::{GivenOption, GivenValue, Instance};
+use crate::options::value_at;
+use decoder_set::{Asked, Kind, OptRow, asked_of, input_of, number_of, options_of, output_of};
+use la_base::{Wire, same_wire};
 
 // The most instances of a stack.
 const MOST_INSTANCES: usize = 24;
 
-// Whether two wires are the same.
-fn same_wire(one: Wire, other: Wire) -> bool
-    ensures { result ≡ same_wire one other }
+// The number among what is given.
+fn number_in(value: Option<&GivenValue>) -> Option<u64>
+    ensures { result ≡ number_in (option_map (λ v. meaning_of v.now) value.entry) }
 {
-    one == other
-}
-
-// The wire that the instance at a place gives.
-fn output_at(before: &[Instance], place: u32) -> Wire
-    ensures { result ≡ output_at (map instance_of before.now) place }
-{
-    match before.get(place as usize) {
-        Some(instance) => output_of(instance.kind),
-        None => Wire::Nothing,
+    match value {
+        Some(GivenValue::Number(number)) => Some(*number),
+        Some(GivenValue::Channel(_)) => None,
+        None => None,
     }
 }
 
-// Whether a kind wants the wire that the instance at a place gives.
-fn stands_on(before: &[Instance], parent: u32, kind: Kind) -> bool
-    ensures { result ≡ stands_on (map instance_of before.now) parent kind }
+// The number that the option of a row has.
+fn number_given(rows: &[OptRow], options: &[GivenOption], row: usize) -> u64
+    ensures { result ≡ number_given (map opt_row rows.now) (map given_of options.now) row }
 {
-    same_wire(output_at(before, parent), input_of(kind))
+    match rows.get(row) {
+        Some(option) => number_of(option.form, number_in(value_at(options, row))),
+        None => 0,
+    }
+}
+
+/// Whether options have the numbers that are asked for.
+pub fn has_numbers(rows: &[OptRow], options: &[GivenOption], asked: &[Asked]) -> bool
+    ensures { result ≡ has_numbers (map opt_row rows.now) (map given_of options.now) asked.now }
+{
+    asked.iter().all(|asked| number_given(rows, options, asked.row) == asked.number)
+}
+
+// Whether a kind stands on an instance.
+fn stands_on(parent: &Instance, kind: Kind) -> bool
+    ensures { result ≡ stands_on (Some (instance_of parent.now)) kind }
+{
+    if !same_wire(output_of(parent.kind), input_of(kind)) {
+        return false;
+    }
+    has_numbers(options_of(parent.kind), &parent.options, asked_of(kind))
+}
+
+// Whether a kind stands on the instance at a place.
+fn stands_at(before: &[Instance], parent: u32, kind: Kind) -> bool
+    ensures { result ≡ stands_on (slice_get (map instance_of before.now) parent) kind }
+{
+    match before.get(parent as usize) {
+        Some(parent) => stands_on(parent, kind),
+        None => false,
+    }
 }
 
 /// Why a kind can't stand here, behind the instances before it.
@@ -54,7 +80,7 @@ pub fn why_not(before: &[Instance], parent: Option<u32>, kind: Kind) -> Option<S
             if before.len() >= MOST_INSTANCES {
                 return Some(StackWhy::Many);
             }
-            if !stands_on(before, parent, kind) {
+            if !stands_at(before, parent, kind) {
                 return Some(StackWhy::Mismatch);
             }
             None

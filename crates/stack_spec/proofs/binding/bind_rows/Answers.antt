@@ -4,9 +4,8 @@ use Rattle.la_base.specs.declared.samples.TheConstants.{MOST_PINS}
 use Rattle.decoder_set.specs.Kinds.{kind_row, opt_row}
 use Rattle.stack_spec.specs.Binding.{bind_value}
 use Rattle.stack_spec.specs.BindSteps.{BindsRow}
-use Rattle.stack_spec.specs.Instances.{Value}
+use Rattle.stack_spec.specs.Instances.{Value, given_at}
 use Rattle.stack_spec.specs.Meaning.{given_of, instance_of}
-use Rattle.stack_spec.specs.Options.{given_at}
 use Rattle.stack_spec.specs.declared.instance.GivenOption.{GivenOption}
 use Rattle.stack_spec.proofs.RowLemmas.{rows_more, rows_stop}
 use Rattle.stack_spec.proofs.binding.bind_rows.Goals as goal

@@ -1,0 +1,30 @@
+-- What holds of each row of the table, and of two decoders of one setup.
+use Rattle.std.specs.Prelude.{ℕ, ◌≡◌, ◌≤◌, Bool, true, nat_lt, nat_le, ◌&&◌, List, length}
+use Rattle.std.specs.List.{list_all}
+use Rattle.decoder_core.specs.Driving.{SameState}
+use Rattle.decoder_set.specs.declared.any.AnyMachine.{AnyMachine}
+use Rattle.decoder_set.specs.declared.any.AnyMachine.TheVariants as machine
+use Rattle.decoder_set.specs.declared.any.AnyDecoder.{AnyDecoder}
+use Rattle.decoder_set.specs.Opening.{setup_of}
+use Rattle.decoder_set.specs.Kinds.{Form, Pin, Number, Choice, Row}
+
+-- the usual value of an option is one that it takes
+abbrev pub usual_fits : Form → Bool
+usual_fits (Pin required) = true
+usual_fits (Number least most usual) = nat_le least usual && nat_le usual most
+usual_fits (Choice words) = nat_lt 0 (length words)
+
+-- a row of the table: no more than eight options, each with a usual value that it takes, and groups of these
+pub record IsWhole (row : Row) : Type 0 where
+  pub few : length row.options ≤ 8
+  pub usual : list_all (λ option. usual_fits option.form) row.options ≡ true
+  pub groups : list_all (λ group. list_all (λ place. nat_lt place (length row.options)) group) row.groups ≡ true
+
+-- two machines hold the same
+abbrev pub SameMachine : AnyMachine → AnyMachine → Type 0
+SameMachine (machine.I2c one) (machine.I2c other) = SameState one.machine other.machine one.waiter other.waiter
+
+-- two decoders hold the same
+pub record SameDecoder (one other : AnyDecoder) : Type 0 where
+  pub setup : setup_of one ≡ setup_of other
+  pub machine : SameMachine one.machine other.machine
