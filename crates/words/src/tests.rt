@@ -1,5 +1,7 @@
+use crate::alternatives::few_or_many;
+use crate::kinds::WordCount;
 use crate::{
-    Format, Job, Name, OPTIONS, Settings, Takes, WordFault, WordWhy, WordsError,
+    ChainWord, Format, Job, Name, OPTIONS, Settings, Takes, WordFault, WordWhy, WordsError,
     clap_reads_the_uses, options_are_whole, read_words,
 };
 use std::alloc::Global;
@@ -217,6 +219,40 @@ fn finds_faults_behind_all_words(rt: HostRuntime) -> Result<(), Fail> {
     Ok(())
 }
 
+// The fault of so many such words, the first of which is word 3, for a job that takes these counts.
+fn count_fault(
+    alloc: Global,
+    words: usize,
+    fewest: usize,
+    most: usize,
+) -> Result<Option<(u32, WordWhy)>, Fail> {
+    let mut chains = Vec::new(alloc);
+    let mut word: u32 = 3;
+    for _ in 0..words {
+        let text = String::from_str(alloc, "a")?;
+        chains.push(ChainWord { word, text })?;
+        word = word.wrapping_add(1);
+    }
+    let fault = few_or_many(WordCount { fewest, most }, 9, &chains);
+    Ok(fault.map(|fault| (fault.word, fault.why)))
+}
+
+// Jobs that no word names yet: one that takes no such words, and one that takes two or three.
+#[test]
+fn too_few_and_too_many_go_by_what_a_job_takes(rt: HostRuntime) -> Result<(), Fail> {
+    for (words, fewest, most, want) in [
+        (0, 0, 0, None),
+        (1, 0, 0, Some((3, WordWhy::Extra))),
+        (1, 2, 3, Some((9, WordWhy::Few))),
+        (2, 2, 3, None),
+        (3, 2, 3, None),
+        (4, 2, 3, Some((6, WordWhy::Many))),
+    ] {
+        assert_eq!(rt; count_fault(rt.alloc(), words, fewest, most)?, want);
+    }
+    Ok(())
+}
+
 // What the options set: job, channels, rate, threads and ring.
 fn values(alloc: Global, line: &str) -> Result<String, Fail> {
     let Ok(settings) = read(alloc, line)? else {
@@ -405,7 +441,8 @@ fn tells_options(rt: HostRuntime) -> Result<(), Fail> {
     let mut told = String::new(alloc);
     for option in OPTIONS {
         let row = option.row();
-        told.push_str(format!(in alloc; "{} ({}) {}\n", row.name, row.takes, row.usual)?.as_str())?;
+        let usual = row.usual.unwrap_or("none");
+        told.push_str(format!(in alloc; "{} ({}) {usual}\n", row.name, row.takes)?.as_str())?;
     }
     assert_eq!(rt;
         told.as_str(),
