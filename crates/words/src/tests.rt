@@ -7,6 +7,166 @@ use crate::{
 use std::alloc::Global;
 use std::test::Fail;
 
+// The tables here are texts, since one text is proved much faster than a list of many. A row has words
+// between brackets, and behind them what they give.
+
+// The number of the word at fault, the place of the fault in it, and why.
+const FAULTS: &str = "\
+# empty words, and words that begin with a hyphen and are no options
+[] 0 0 Empty
+[ i2c] 0 0 Empty
+[i2c ] 1 0 Empty
+[-] 0 0 Unknown
+[--] 0 0 Unknown
+[-j find] 0 0 Unknown
+[---job find] 0 0 Unknown
+[--=x] 0 0 Unknown
+[--é=x] 0 0 Unknown
+[--help] 0 0 Unknown
+[--version] 0 0 Unknown
+[--rat 5] 0 0 Unknown
+[--Job find] 0 0 Unknown
+[--down 1] 0 0 Unknown
+[--chains x] 0 0 Unknown
+[i2c -x] 1 0 Unknown
+# an option is given once, with a value that it takes
+[--job] 0 0 NoValue
+[i2c --ring] 1 0 NoValue
+[--job --job=find] 0 0 NoValue
+[--channels -5] 0 0 NoValue
+[--job find --job=find] 2 0 Repeat
+[--job=find --job] 1 0 Repeat
+[--job=find --job=] 1 0 Repeat
+[--job=find --job=x] 1 0 Repeat
+[--show=all x --show all] 2 0 Repeat
+[--job=] 0 0 Empty
+[--show=] 0 0 Empty
+[--job ] 1 0 Empty
+[--show  i2c] 1 0 Empty
+[--job Find] 1 0 Value
+[--job=make] 0 0 Value
+[--job=find=] 0 0 Value
+[i2c --job seek] 2 0 Value
+[--format vcd] 1 0 Value
+[--format=RAW] 0 0 Value
+[--threads maybe] 1 0 Value
+[--threads=Yes] 0 0 Value
+# of two faults the first word's is told
+[--ring=x] 0 0 Value
+[--x --channels=0] 0 0 Unknown
+[--channels=0 --x] 0 0 Range
+[-y ] 0 0 Unknown
+[ -y] 0 0 Empty
+[--ring=x --rate=0] 0 0 Value
+[--rate=0 --ring=x] 0 0 Range
+[--threads= --job] 0 0 Empty
+[--job --threads=] 0 0 NoValue
+[--ring=1 --ring --x] 1 0 Repeat
+[--ring=1 --x --ring] 1 0 Unknown
+[i2c --ring 0 --job] 2 0 Range
+[i2c --job --ring 0] 1 0 NoValue
+[--show  --x] 1 0 Empty
+[--show x  --x] 2 0 Empty
+# numbers
+[--channels 0] 1 0 Range
+[--channels 65] 1 0 Range
+[--channels=+5] 0 0 Value
+[--channels=-5] 0 0 Value
+[--channels=8x] 0 0 Value
+[--channels=0x8] 0 0 Value
+[--channels=00000000000000000008] 0 0 Range
+[--channels 99999999999999999999] 1 0 Range
+[--channels 9999999999999999999x] 1 0 Value
+[--ring 0] 1 0 Range
+[--ring=16385] 0 0 Range
+[--ring=1e3] 0 0 Value
+[--ring ten] 1 0 Value
+# rates: N is judged whole, and then D
+[--rate 0] 1 0 Range
+[--rate=1000000000000001] 0 0 Range
+[--rate=10000000000000000000] 0 0 Range
+[--rate=+5] 0 0 Value
+[--rate=1.5] 0 0 Value
+[--rate 5/] 1 0 Value
+[--rate=/5] 0 0 Value
+[--rate=/] 0 0 Value
+[--rate 5/1/1] 1 0 Value
+[--rate 1/+1] 1 0 Value
+[--rate=5/0] 0 0 Range
+[--rate=5/1000000001] 0 0 Range
+[--rate 0/x] 1 0 Range
+[--rate x/0] 1 0 Value
+[--rate=0/0] 0 0 Range
+[--rate=x/x] 0 0 Value
+# behind all words: too few, too many before what an alternative is, and faults of words before both
+[--threads=no] 1 0 Few
+[--job decode] 2 0 Few
+[--job find] 2 0 Few
+[--job=find --ring 5 --rate=5] 4 0 Few
+[a a a a a a a a a a a a a a a a a a a a a a a a a] 24 0 Many
+[a a a a a a a a a a a a a a a a a a a a a a a a --ring 5 a a] 26 0 Many
+[a=h --job find a=h a=h a=h a=h a=h a=h a=h a=h a=h] 10 0 Many
+[--job=find a=q a=h a=h a=h a=h a=h a=h a=h a=h] 9 0 Many
+[--job find D0=q] 2 3 Cond
+[--job=find D0] 1 0 Cond
+[D0=h =r --job=find] 1 0 Cond
+[D0=h --job find D1=h D10=] 4 4 Cond
+[--job=find D0=x D1=y] 1 3 Cond
+[--job=find D0=h D10=hh D1=y] 2 4 Cond
+[D0=q --job=find --ring=0] 2 0 Range
+[--job=find D0=q --x] 2 0 Unknown
+[--job=find a a a a a a a a a --job] 10 0 Repeat";
+
+// The job, the channels, the rate, whether there are threads, and the ring.
+const VALUES: &str = "\
+[i2c] decode 8 1000000/1 yes 256
+[--job decode i2c] decode 8 1000000/1 yes 256
+[D0=h --job find] find 8 1000000/1 yes 256
+[--job=find D0=h] find 8 1000000/1 yes 256
+[--format raw i2c] decode 8 1000000/1 yes 256
+[i2c --format=raw] decode 8 1000000/1 yes 256
+[--channels 64 i2c] decode 64 1000000/1 yes 256
+[--channels=1 i2c] decode 1 1000000/1 yes 256
+[i2c --channels=0000000000000000007] decode 7 1000000/1 yes 256
+[--rate 1 i2c] decode 8 1/1 yes 256
+[--rate 0001/0003 i2c] decode 8 1/3 yes 256
+[--rate=4/2 i2c] decode 8 4/2 yes 256
+[--rate=1000000000000000/1000000000 i2c] decode 8 1000000000000000/1000000000 yes 256
+[--threads no i2c] decode 8 1000000/1 no 256
+[--threads=yes i2c] decode 8 1000000/1 yes 256
+[--ring 1 i2c] decode 8 1000000/1 yes 1
+[--ring=16384 i2c] decode 8 1000000/1 yes 16384
+[--ring=4 --threads no D0=h --rate=2/3 --channels 16 --format=raw --show all --job=find] find 16 2/3 no 4";
+
+// The decoders that are shown, and the other words, each with its number. Decode takes 24 chains,
+// whatever they are, and find 8 alternatives.
+const TEXTS: &str = "\
+[help] 0:help
+[é a=b] 0:é 1:a=b
+[a --ring 5 b --rate=5 c] 0:a 3:b 5:c
+[--job=find D0=h --ring 5 D1=r] 1:D0=h 4:D1=r
+[--show all a] 2:a
+[--show=all a] 1:a
+[--show i2c-1 i2c] 1:i2c-1 of 2:i2c
+[i2c --show=i2c-1,spi-1] 1:i2c-1,spi-1 of 0:i2c
+[a --show all,i2c-1] 2:all,i2c-1 of 0:a
+[--show=-all a] 0:-all of 1:a
+[--show=a=b a] 0:a=b of 1:a
+[--show==x a] 0:=x of 1:a
+[D0=q a a a a a a a a a a a a a a a a a a a a a a a] 0:D0=q 1:a 2:a 3:a 4:a 5:a 6:a 7:a 8:a 9:a 10:a 11:a 12:a 13:a 14:a 15:a 16:a 17:a 18:a 19:a 20:a 21:a 22:a 23:a
+[a=h a=l a=r a=f a=e a=s a=h a=h --job=find] 0:a=h 1:a=l 2:a=r 3:a=f 4:a=e 5:a=s 6:a=h 7:a=h";
+
+// The words of a row.
+fn line_of(row: &str) -> Option<&str> {
+    match row.strip_prefix('[') {
+        Some(rest) => match rest.split_once(']') {
+            Some((line, _)) => Some(line),
+            None => None,
+        },
+        None => None,
+    }
+}
+
 // What the words of a line give: they stand between single blanks, so that two blanks have an empty
 // word between them.
 fn read(alloc: Global, line: &str) -> Result<Result<Settings, WordsError>, Fail> {
@@ -17,193 +177,24 @@ fn read(alloc: Global, line: &str) -> Result<Result<Settings, WordsError>, Fail>
     Ok(read_words(alloc, &words))
 }
 
-fn fault(alloc: Global, line: &str) -> Result<Option<(u32, u32, WordWhy)>, Fail> {
+// The row of a line with its fault.
+fn fault_row(alloc: Global, line: &str) -> Result<String, Fail> {
     Ok(match read(alloc, line)? {
-        Err(WordsError::Fault(WordFault { word, at, why })) => Some((word, at, why)),
-        _ => None,
+        Err(WordsError::Fault(WordFault { word, at, why })) => {
+            format!(in alloc; "[{line}] {word} {at} {why:?}")?
+        }
+        _ => String::new(alloc),
     })
 }
 
-// A line, and the word and the reason of its first fault, which lies at the word's front.
-type FaultRow = (&'static str, u32, WordWhy);
-
-// The first of these lines whose first fault is another.
-fn wrong(alloc: Global, rows: &[FaultRow]) -> Result<Option<&'static str>, Fail> {
-    for (line, word, why) in rows {
-        if fault(alloc, line)? != Some((*word, 0, *why)) {
-            return Ok(Some(line));
-        }
-    }
-    Ok(None)
-}
-
 #[test]
-fn words_are_neither_empty_nor_unknown_options(rt: HostRuntime) -> Result<(), Fail> {
-    let rows = [
-        ("", 0, WordWhy::Empty),
-        (" i2c", 0, WordWhy::Empty),
-        ("i2c ", 1, WordWhy::Empty),
-        ("-", 0, WordWhy::Unknown),
-        ("--", 0, WordWhy::Unknown),
-        ("-j find", 0, WordWhy::Unknown),
-        ("---job find", 0, WordWhy::Unknown),
-        ("--=x", 0, WordWhy::Unknown),
-        ("--é=x", 0, WordWhy::Unknown),
-        ("--help", 0, WordWhy::Unknown),
-        ("--version", 0, WordWhy::Unknown),
-        ("--rat 5", 0, WordWhy::Unknown),
-        ("--Job find", 0, WordWhy::Unknown),
-        ("--down 1", 0, WordWhy::Unknown),
-        ("--chains x", 0, WordWhy::Unknown),
-        ("i2c -x", 1, WordWhy::Unknown),
-    ];
-    assert_eq!(rt; wrong(rt.alloc(), &rows)?, None);
-    Ok(())
-}
-
-#[test]
-fn options_are_given_once_with_a_value(rt: HostRuntime) -> Result<(), Fail> {
-    let rows = [
-        ("--job", 0, WordWhy::NoValue),
-        ("i2c --ring", 1, WordWhy::NoValue),
-        ("--job --job=find", 0, WordWhy::NoValue),
-        ("--channels -5", 0, WordWhy::NoValue),
-        ("--job find --job=find", 2, WordWhy::Repeat),
-        ("--job=find --job", 1, WordWhy::Repeat),
-        ("--job=find --job=", 1, WordWhy::Repeat),
-        ("--job=find --job=x", 1, WordWhy::Repeat),
-        ("--show=all x --show all", 2, WordWhy::Repeat),
-        ("--job=", 0, WordWhy::Empty),
-        ("--show=", 0, WordWhy::Empty),
-        ("--job ", 1, WordWhy::Empty),
-        ("--show  i2c", 1, WordWhy::Empty),
-        ("--job Find", 1, WordWhy::Value),
-        ("--job=make", 0, WordWhy::Value),
-        ("--job=find=", 0, WordWhy::Value),
-        ("i2c --job seek", 2, WordWhy::Value),
-        ("--format vcd", 1, WordWhy::Value),
-        ("--format=RAW", 0, WordWhy::Value),
-        ("--threads maybe", 1, WordWhy::Value),
-        ("--threads=Yes", 0, WordWhy::Value),
-    ];
-    assert_eq!(rt; wrong(rt.alloc(), &rows)?, None);
-    Ok(())
-}
-
-#[test]
-fn of_two_faults_the_first_word_is_told(rt: HostRuntime) -> Result<(), Fail> {
-    let rows = [
-        ("--ring=x", 0, WordWhy::Value),
-        ("--x --channels=0", 0, WordWhy::Unknown),
-        ("--channels=0 --x", 0, WordWhy::Range),
-        ("-y ", 0, WordWhy::Unknown),
-        (" -y", 0, WordWhy::Empty),
-        ("--ring=x --rate=0", 0, WordWhy::Value),
-        ("--rate=0 --ring=x", 0, WordWhy::Range),
-        ("--threads= --job", 0, WordWhy::Empty),
-        ("--job --threads=", 0, WordWhy::NoValue),
-        ("--ring=1 --ring --x", 1, WordWhy::Repeat),
-        ("--ring=1 --x --ring", 1, WordWhy::Unknown),
-        ("i2c --ring 0 --job", 2, WordWhy::Range),
-        ("i2c --job --ring 0", 1, WordWhy::NoValue),
-        ("--show  --x", 1, WordWhy::Empty),
-        ("--show x  --x", 2, WordWhy::Empty),
-    ];
-    assert_eq!(rt; wrong(rt.alloc(), &rows)?, None);
-    Ok(())
-}
-
-#[test]
-fn numbers_are_in_their_range(rt: HostRuntime) -> Result<(), Fail> {
-    let rows = [
-        ("--channels 0", 1, WordWhy::Range),
-        ("--channels 65", 1, WordWhy::Range),
-        ("--channels=+5", 0, WordWhy::Value),
-        ("--channels=-5", 0, WordWhy::Value),
-        ("--channels=8x", 0, WordWhy::Value),
-        ("--channels=0x8", 0, WordWhy::Value),
-        ("--channels=00000000000000000008", 0, WordWhy::Range),
-        ("--channels 99999999999999999999", 1, WordWhy::Range),
-        ("--channels 9999999999999999999x", 1, WordWhy::Value),
-        ("--ring 0", 1, WordWhy::Range),
-        ("--ring=16385", 0, WordWhy::Range),
-        ("--ring=1e3", 0, WordWhy::Value),
-        ("--ring ten", 1, WordWhy::Value),
-    ];
-    assert_eq!(rt; wrong(rt.alloc(), &rows)?, None);
-    Ok(())
-}
-
-#[test]
-fn rates_are_a_number_or_a_quotient(rt: HostRuntime) -> Result<(), Fail> {
-    let rows = [
-        ("--rate 0", 1, WordWhy::Range),
-        ("--rate=1000000000000001", 0, WordWhy::Range),
-        ("--rate=10000000000000000000", 0, WordWhy::Range),
-        ("--rate=+5", 0, WordWhy::Value),
-        ("--rate=1.5", 0, WordWhy::Value),
-        ("--rate 5/", 1, WordWhy::Value),
-        ("--rate=/5", 0, WordWhy::Value),
-        ("--rate=/", 0, WordWhy::Value),
-        ("--rate 5/1/1", 1, WordWhy::Value),
-        ("--rate 1/+1", 1, WordWhy::Value),
-        ("--rate=5/0", 0, WordWhy::Range),
-        ("--rate=5/1000000001", 0, WordWhy::Range),
-        // N is judged whole, and then D.
-        ("--rate 0/x", 1, WordWhy::Range),
-        ("--rate x/0", 1, WordWhy::Value),
-        ("--rate=0/0", 0, WordWhy::Range),
-        ("--rate=x/x", 0, WordWhy::Value),
-    ];
-    assert_eq!(rt; wrong(rt.alloc(), &rows)?, None);
-    Ok(())
-}
-
-#[test]
-fn finds_faults_behind_all_words(rt: HostRuntime) -> Result<(), Fail> {
+fn finds_the_first_fault(rt: HostRuntime) -> Result<(), Fail> {
     let alloc = rt.alloc();
-    for (line, word, at, why) in [
-        ("--threads=no", 1, 0, WordWhy::Few),
-        ("--job decode", 2, 0, WordWhy::Few),
-        ("--job find", 2, 0, WordWhy::Few),
-        ("--job=find --ring 5 --rate=5", 4, 0, WordWhy::Few),
-        (
-            "a a a a a a a a a a a a a a a a a a a a a a a a a",
-            24,
-            0,
-            WordWhy::Many,
-        ),
-        (
-            "a a a a a a a a a a a a a a a a a a a a a a a a --ring 5 a a",
-            26,
-            0,
-            WordWhy::Many,
-        ),
-        (
-            "a=h --job find a=h a=h a=h a=h a=h a=h a=h a=h a=h",
-            10,
-            0,
-            WordWhy::Many,
-        ),
-        // Too many come before what an alternative is.
-        (
-            "--job=find a=q a=h a=h a=h a=h a=h a=h a=h a=h",
-            9,
-            0,
-            WordWhy::Many,
-        ),
-        ("--job find D0=q", 2, 3, WordWhy::Cond),
-        ("--job=find D0", 1, 0, WordWhy::Cond),
-        ("D0=h =r --job=find", 1, 0, WordWhy::Cond),
-        ("D0=h --job find D1=h D10=", 4, 4, WordWhy::Cond),
-        ("--job=find D0=x D1=y", 1, 3, WordWhy::Cond),
-        ("--job=find D0=h D10=hh D1=y", 2, 4, WordWhy::Cond),
-        // Faults of words come before both.
-        ("D0=q --job=find --ring=0", 2, 0, WordWhy::Range),
-        ("--job=find D0=q --x", 2, 0, WordWhy::Unknown),
-        ("--job=find a a a a a a a a a --job", 10, 0, WordWhy::Repeat),
-    ] {
-        assert_eq!(rt; fault(alloc, line)?, Some((word, at, why)), "at {line}");
+    for row in FAULTS.split('\n') {
+        match line_of(row) {
+            Some(line) => assert_eq!(rt; fault_row(alloc, line)?.as_str(), row),
+            None => assert!(rt; row.starts_with('#'), "{row}"),
+        }
     }
     let none = Vec::new(alloc);
     assert!(rt;
@@ -253,8 +244,8 @@ fn too_few_and_too_many_go_by_what_a_job_takes(rt: HostRuntime) -> Result<(), Fa
     Ok(())
 }
 
-// What the options set: job, channels, rate, threads and ring.
-fn values(alloc: Global, line: &str) -> Result<String, Fail> {
+// The row of a line with what its options set.
+fn values_row(alloc: Global, line: &str) -> Result<String, Fail> {
     let Ok(settings) = read(alloc, line)? else {
         return Ok(String::new(alloc));
     };
@@ -266,7 +257,7 @@ fn values(alloc: Global, line: &str) -> Result<String, Fail> {
     let threads = if settings.threads { "yes" } else { "no" };
     let (num, den) = (settings.rate.num, settings.rate.den);
     Ok(format!(in alloc;
-        "{job} {} {num}/{den} {threads} {}",
+        "[{line}] {job} {} {num}/{den} {threads} {}",
         settings.channels, settings.ring
     )?)
 }
@@ -274,81 +265,37 @@ fn values(alloc: Global, line: &str) -> Result<String, Fail> {
 #[test]
 fn sets_options(rt: HostRuntime) -> Result<(), Fail> {
     let alloc = rt.alloc();
-    for (line, wanted) in [
-        ("i2c", "decode 8 1000000/1 yes 256"),
-        ("--job decode i2c", "decode 8 1000000/1 yes 256"),
-        ("D0=h --job find", "find 8 1000000/1 yes 256"),
-        ("--job=find D0=h", "find 8 1000000/1 yes 256"),
-        ("--format raw i2c", "decode 8 1000000/1 yes 256"),
-        ("i2c --format=raw", "decode 8 1000000/1 yes 256"),
-        ("--channels 64 i2c", "decode 64 1000000/1 yes 256"),
-        ("--channels=1 i2c", "decode 1 1000000/1 yes 256"),
-        (
-            "i2c --channels=0000000000000000007",
-            "decode 7 1000000/1 yes 256",
-        ),
-        ("--rate 1 i2c", "decode 8 1/1 yes 256"),
-        ("--rate 0001/0003 i2c", "decode 8 1/3 yes 256"),
-        ("--rate=4/2 i2c", "decode 8 4/2 yes 256"),
-        (
-            "--rate=1000000000000000/1000000000 i2c",
-            "decode 8 1000000000000000/1000000000 yes 256",
-        ),
-        ("--threads no i2c", "decode 8 1000000/1 no 256"),
-        ("--threads=yes i2c", "decode 8 1000000/1 yes 256"),
-        ("--ring 1 i2c", "decode 8 1000000/1 yes 1"),
-        ("--ring=16384 i2c", "decode 8 1000000/1 yes 16384"),
-        (
-            "--ring=4 --threads no D0=h --rate=2/3 --channels 16 --format=raw --show all --job=find",
-            "find 16 2/3 no 4",
-        ),
-    ] {
-        assert_eq!(rt; values(alloc, line)?.as_str(), wanted, "at {line}");
+    for row in VALUES.split('\n') {
+        match line_of(row) {
+            Some(line) => assert_eq!(rt; values_row(alloc, line)?.as_str(), row),
+            None => assert!(rt; row.starts_with('#'), "{row}"),
+        }
     }
     Ok(())
 }
 
-// The decoders that are shown, and the other words, each with its number.
-fn texts(alloc: Global, line: &str) -> Result<String, Fail> {
-    let mut texts = String::new(alloc);
+// The row of a line with the decoders that are shown, and the other words.
+fn texts_row(alloc: Global, line: &str) -> Result<String, Fail> {
+    let mut row = format!(in alloc; "[{line}]")?;
     if let Ok(settings) = read(alloc, line)? {
         if let Some(show) = &settings.show {
-            texts.push_str(format!(in alloc; "{}:{} of", show.word, show.text)?.as_str())?;
+            row.push_str(format!(in alloc; " {}:{} of", show.word, show.text)?.as_str())?;
         }
         for chain in &settings.chains {
-            texts.push_str(format!(in alloc; " {}:{}", chain.word, chain.text)?.as_str())?;
+            row.push_str(format!(in alloc; " {}:{}", chain.word, chain.text)?.as_str())?;
         }
     }
-    Ok(texts)
+    Ok(row)
 }
 
 #[test]
 fn keeps_texts(rt: HostRuntime) -> Result<(), Fail> {
     let alloc = rt.alloc();
-    for (line, wanted) in [
-        ("help", " 0:help"),
-        ("é a=b", " 0:é 1:a=b"),
-        ("a --ring 5 b --rate=5 c", " 0:a 3:b 5:c"),
-        ("--job=find D0=h --ring 5 D1=r", " 1:D0=h 4:D1=r"),
-        ("--show all a", " 2:a"),
-        ("--show=all a", " 1:a"),
-        ("--show i2c-1 i2c", "1:i2c-1 of 2:i2c"),
-        ("i2c --show=i2c-1,spi-1", "1:i2c-1,spi-1 of 0:i2c"),
-        ("a --show all,i2c-1", "2:all,i2c-1 of 0:a"),
-        ("--show=-all a", "0:-all of 1:a"),
-        ("--show=a=b a", "0:a=b of 1:a"),
-        ("--show==x a", "0:=x of 1:a"),
-        // Decode takes 24 chains, whatever they are, and find 8 alternatives.
-        (
-            "D0=q a a a a a a a a a a a a a a a a a a a a a a a",
-            " 0:D0=q 1:a 2:a 3:a 4:a 5:a 6:a 7:a 8:a 9:a 10:a 11:a 12:a 13:a 14:a 15:a 16:a 17:a 18:a 19:a 20:a 21:a 22:a 23:a",
-        ),
-        (
-            "a=h a=l a=r a=f a=e a=s a=h a=h --job=find",
-            " 0:a=h 1:a=l 2:a=r 3:a=f 4:a=e 5:a=s 6:a=h 7:a=h",
-        ),
-    ] {
-        assert_eq!(rt; texts(alloc, line)?.as_str(), wanted, "at {line}");
+    for row in TEXTS.split('\n') {
+        match line_of(row) {
+            Some(line) => assert_eq!(rt; texts_row(alloc, line)?.as_str(), row),
+            None => assert!(rt; row.starts_with('#'), "{row}"),
+        }
     }
     Ok(())
 }
