@@ -1,9 +1,12 @@
 // The table of kinds, by hand from the options and classes that each kind has.
-ghost use Rattle.std.specs.Prelude.{◌≤◌, ◌^◌};
+ghost use Rattle.std.specs.Prelude.{◌≡◌, ◌≤◌, ◌^◌, ◌++◌, ◌∷◌, [], None};
 
+use crate::kinds::KindRow;
+use crate::values::row_in_range;
 use crate::{
-    AnyDecoder, Kind, MOST_OPTIONS, OptForm, OptRow, OptValues, Setup, class_of, input_of,
-    kind_name, kind_of, note_text, options_of, output_of,
+    AnyDecoder, Kind, MOST_OPTIONS, OptForm, OptRow, OptValues, Setup, asked_of, class_of,
+    groups_of, input_of, kind_name, kind_of, kinds_are_whole, note_text,
+    one_input_makes_one_decoder, options_of, output_of,
 };
 use decoder_core::{Machine, OptFault, Outs};
 use la_base::{Feed, Note, Out, Packet, PacketKind, Rate, Run, Wire};
@@ -76,6 +79,85 @@ fn lines_must_be_given_and_be_bits_of_a_sample(rt: HostRuntime) {
     assert_eq!(rt; fault(values), None);
 }
 
+// A kind that isn't there yet: a channel, two of which one has to be given, a number and a choice.
+const MADE_UP: KindRow = KindRow {
+    name: "made-up",
+    input: Wire::Logic,
+    output: Wire::Nothing,
+    options: &[
+        OptRow {
+            name: "sck",
+            form: OptForm::Pin { required: true },
+        },
+        OptRow {
+            name: "mosi",
+            form: OptForm::Pin { required: false },
+        },
+        OptRow {
+            name: "miso",
+            form: OptForm::Pin { required: false },
+        },
+        OptRow {
+            name: "bits",
+            form: OptForm::Number {
+                least: 1,
+                most: 32,
+                usual: 8,
+            },
+        },
+        OptRow {
+            name: "mode",
+            form: OptForm::Choice {
+                words: &["msb", "lsb"],
+            },
+        },
+    ],
+    groups: &[&[1, 2]],
+    parent: &[],
+    classes: &[],
+};
+
+// Five values, and none behind them.
+fn five(values: [Option<u64>; 5]) -> OptValues
+    ensures { result.given ≡ values ++ None ∷ None ∷ None ∷ [] }
+{
+    let [sck, mosi, miso, bits, mode] = values;
+    OptValues {
+        given: [sck, mosi, miso, bits, mode, None, None, None],
+    }
+}
+
+#[test]
+fn values_of_any_kind_go_by_its_row(rt: HostRuntime) {
+    for (values, want, bits, mode) in [
+        ([Some(0), Some(1), None, None, None], true, 8, 0),
+        ([Some(0), None, Some(1), Some(16), Some(1)], true, 16, 1),
+        ([Some(0), Some(1), Some(63), Some(1), None], true, 1, 0),
+        ([None, Some(1), Some(2), None, None], false, 8, 0),
+        ([Some(0), None, None, None, None], false, 8, 0),
+        ([Some(0), None, None, Some(8), Some(0)], false, 8, 0),
+        ([Some(0), Some(64), None, None, None], false, 8, 0),
+        ([Some(0), Some(1), None, Some(0), None], false, 0, 0),
+        ([Some(0), Some(1), None, Some(33), None], false, 33, 0),
+        ([Some(0), Some(1), None, None, Some(2)], false, 8, 2),
+    ] {
+        let values = five(values);
+        assert_eq!(rt; row_in_range(MADE_UP, &values), want);
+        assert_eq!(rt; values.number(MADE_UP.options, 3), bits);
+        assert_eq!(rt; values.number(MADE_UP.options, 4), mode);
+        assert_eq!(rt; values.number(MADE_UP.options, 5), 0);
+    }
+    let values = five([Some(9), None, Some(5), None, None]);
+    assert_eq!(rt; values.channel(0), 9);
+    assert_eq!(rt; values.channel(1), 0);
+    assert_eq!(rt; values.maybe_channel(1), None);
+    assert_eq!(rt; values.maybe_channel(2), Some(5));
+    assert_eq!(rt; values.at(8), None);
+    assert_eq!(rt; groups_of(Kind::I2c).len(), 0);
+    assert_eq!(rt; asked_of(Kind::I2c).len(), 0);
+    kinds_are_whole();
+}
+
 fn is_send<T: Send + Drop>(_: &T) {}
 
 // START: SDA falls while SCL is high.
@@ -85,6 +167,7 @@ fn an_opened_decoder_takes_any_feed(rt: HostRuntime) {
     match AnyDecoder::open(Kind::I2c, values, RATE) {
         Ok(mut decoder) => {
             is_send(&decoder);
+            one_input_makes_one_decoder(&decoder, &decoder);
             let mut outs = Outs::new();
             assert_eq!(rt; decoder.wants(), Wire::Logic);
             assert_eq!(rt; decoder.floor(), 0);
