@@ -1,7 +1,7 @@
 -- How a decoder is opened, and what it has consumed.
 use Rattle.std.specs.Prelude.{ℕ, ◌≡◌, Bool, false, not, List, [], Option, Some, None, Result, Ok, Err, if◌then◌else◌}
 use Rattle.decoder_core.specs.Inputs.{Item}
-use Rattle.decoder_core.specs.Driving.{Drives}
+use Rattle.decoder_core.specs.Driving.{Drives, Sleeps}
 use Rattle.decoder_core.specs.declared.driver.Driver.{Driver}
 use Rattle.decoder_core.specs.declared.faults.OptFault.{OptFault}
 use Rattle.decoder_core.specs.declared.faults.OptFault.TheVariants.{Range}
@@ -31,6 +31,13 @@ pub record I2cConsumed (options : I2cOpts) (driver : Driver I2c Bus) (input : Li
 -- a decoder of this kind, with these values at this rate, has consumed this input
 abbrev pub Consumed : Kind → List (Option ℕ) → Rate → AnyMachine → List Item → Type 0
 Consumed kind.I2c values rate (machine.I2c driver) input = I2cConsumed (i2c_options values) driver input
+
+-- behind an input that it has consumed, no item of `more` is a stop of its wait
+abbrev pub SleepsBy : AnyMachine → List Item → List Item → Type 0
+SleepsBy (machine.I2c driver) input more = Sleeps (λ machine. i2c_alts (bus_of machine).scl (bus_of machine).sda) driver.machine driver.waiter input more
+
+abbrev pub IsAsleep : AnyDecoder → List Item → List Item → Type 0
+IsAsleep decoder input more = SleepsBy decoder.machine input more
 
 -- its kind, options and rate
 abbrev pub setup_of : AnyDecoder → Setup

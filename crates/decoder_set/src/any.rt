@@ -4,7 +4,7 @@ ghost use Rattle.la_base.specs.declared.samples.TheConstants.{MOST_PINS};
 ghost use Rattle.decoder_set.specs.Values.{in_range};
 ghost use Rattle.decoder_set.specs.Options.{i2c_options};
 ghost use Rattle.decoder_set.specs.Setups.{outs_of, near_of};
-ghost use Rattle.decoder_set.specs.Opening.{Opens, HasConsumed, I2cConsumed, setup_of};
+ghost use Rattle.decoder_set.specs.Opening.{Opens, HasConsumed, IsAsleep, I2cConsumed, setup_of};
 ghost use Rattle.decoder_set.specs.Kinds.{kind_row};
 ghost use Rattle.decoder_set.specs.Laws.{nothing_of, prefix_of, order_of, few_of, on_wire_of};
 
@@ -77,6 +77,8 @@ impl Machine for AnyDecoder {
     ghost gives = { λ setup. (kind_row setup.kind).output };
 
     ghost consumed = { λ d input. HasConsumed d input };
+
+    ghost sleeps = { λ d input more. IsAsleep d input more };
 
     fn wants(&self) -> Wire {
         input_of(self.setup.kind)

@@ -1,5 +1,5 @@
 -- What the help tells.
-use Rattle.std.specs.Prelude.{ℕ, ◌≡◌, List, [], ◌∷◌, ◌++◌, codes}
+use Rattle.std.specs.Prelude.{ℕ, ◌≡◌, List, [], ◌∷◌, ◌++◌, codes, unwrap_or}
 use Rattle.decoder_set.specs.Kinds.{kind_row}
 use Rattle.decoder_set.specs.declared.kinds.Kind.{Kind}
 use Rattle.words.specs.Options.{row}
@@ -14,9 +14,9 @@ in_a_row (text ∷ texts) = text ++ in_a_row texts
 abbrev pub option_lines : List ℕ → List ℕ → List ℕ → List ℕ → List ℕ
 option_lines name sets values usual = in_a_row (codes "  --" ∷ name ∷ codes "\n      " ∷ sets ∷ codes "\n      values: " ∷ values ∷ codes "; usual: " ∷ usual ∷ codes "\n" ∷ [])
 
--- a text that tells an option of the program: its name and its usual value are those of its row
+-- a text that tells an option of the program: its name and its usual value, or that it has none, are those of its row
 abbrev pub TellsOption : Name → List ℕ → Type 0
-TellsOption name text = (sets values : List ℕ) × (text ≡ option_lines (row name).name sets values (row name).usual)
+TellsOption name text = (sets values : List ℕ) × (text ≡ option_lines (row name).name sets values (unwrap_or (row name).usual (codes "none")))
 
 -- a text that tells a decoder: its name, and then its options
 abbrev pub TellsKind : Kind → List ℕ → Type 0

@@ -81,7 +81,13 @@ fn option_text(alloc: Global, name: Name) -> Result<String, AllocError>
 {
     let row = name.row();
     let values = format!(in alloc; "{}", row.takes)?;
-    option_lines(alloc, row.name, row.help, values.as_str(), row.usual)
+    option_lines(
+        alloc,
+        row.name,
+        row.help,
+        values.as_str(),
+        row.usual.unwrap_or("none"),
+    )
 }
 
 // The line of a decoder.
