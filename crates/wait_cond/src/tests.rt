@@ -154,43 +154,52 @@ fn stops_of_runs(rt: HostRuntime) -> Result<(), Fail> {
     Ok(())
 }
 
-// Samples as runs of at most `most`.
-fn runs_of(alloc: Global, samples: &[Word], most: usize) -> Result<Vec<(Word, u64)>, Fail>
-    requires { 1 ≤ most }
+// So many runs of values below `values`, by a number: 1 to 3 samples each. Neighbours may have the
+// same value, so that a longer run comes cut.
+fn runs_of(
+    alloc: Global,
+    number: u64,
+    values: u64,
+    count: u32,
+) -> Result<Vec<(Word, u64)>, AllocError>
+    requires { 1 ≤ values }
 {
+    let mut rest = number;
     let mut runs = Vec::new(alloc);
-    for equal in samples.chunk_by(|a, b| a == b) {
-        for piece in equal.chunks(most) {
-            let value = *piece.first().ok_or("no sample")?;
-            runs.push((value, piece.len() as u64))?;
-        }
+    for _ in 0..count {
+        runs.push((rest % values, 1 + rest / values % 3))?;
+        rest = rest / values / 3;
     }
     Ok(runs)
 }
 
-// Compares the stops of samples that come as runs, whole ones and cut ones, with the definition.
-fn compare(rt: &impl Abort, alloc: Global, alts: &[Alt], samples: &[Word]) -> Result<(), Fail> {
-    assert!(rt; alts.len() <= 8 && samples.len() as u64 <= FAR);
-    let stops = all_stops(alloc, alts, samples)?;
-    for most in [1, 2, 3, 6] {
-        let runs = runs_of(alloc, samples, most)?;
-        let found = scanned(rt, alloc, alts, &runs, 7)?;
-        assert_eq!(rt; found, stops, "{alts:?} at {samples:?} in runs of {most}");
-    }
-    Ok(())
-}
-
-// So many samples below `values`: the digits of a number, the lowest first.
-fn digits(alloc: Global, number: u64, values: u64, count: u32) -> Result<Vec<Word>, AllocError>
-    requires { 1 ≤ values }
-{
-    let mut rest = number;
+// Each sample of runs by itself.
+fn samples_of(alloc: Global, runs: &[(Word, u64)]) -> Result<Vec<Word>, AllocError> {
     let mut samples = Vec::new(alloc);
-    for _ in 0..count {
-        samples.push(rest % values)?;
-        rest /= values;
+    for (value, len) in runs {
+        for _ in 0..*len {
+            samples.push(*value)?;
+        }
     }
     Ok(samples)
+}
+
+// Compares the stops that a waiter finds in runs with the definition.
+fn compare(
+    rt: &impl Abort,
+    alloc: Global,
+    alts: &[Alt],
+    runs: &[(Word, u64)],
+    samples: &[Word],
+) -> Result<(), Fail> {
+    assert!(rt; alts.len() <= 8 && samples.len() as u64 <= FAR);
+    let stops = all_stops(alloc, alts, samples)?;
+    assert_eq!(rt;
+        scanned(rt, alloc, alts, runs, 4)?,
+        stops,
+        "{alts:?} at {runs:?}"
+    );
+    Ok(())
 }
 
 // Each letter of these lines with each skip up to 4 has a number below 30.
@@ -201,14 +210,16 @@ fn numbered(number: usize, lines: Word) -> Alt {
 #[test]
 fn one_or_two_alternatives_stop_at_the_samples_that_meet_them(rt: HostRuntime) -> Result<(), Fail> {
     let alloc = rt.alloc();
-    for (first, second, values, count) in [(0b01, 0b01, 2, 6), (0b01, 0b10, 4, 3)] {
-        for number in 0..64 {
-            let samples = digits(alloc, number, values, count)?;
+    // all lists of three runs of one line, and of two runs of two lines
+    for (second, values, count, lists) in [(0b01, 2, 3, 216), (0b10, 4, 2, 144)] {
+        for number in 0..lists {
+            let runs = runs_of(alloc, number, values, count)?;
+            let samples = samples_of(alloc, &runs)?;
             for one in 0..30 {
-                let one = numbered(one, first);
-                compare(&rt, alloc, &[one], &samples)?;
+                let one = numbered(one, 0b01);
+                compare(&rt, alloc, &[one], &runs, &samples)?;
                 for other in 0..30 {
-                    compare(&rt, alloc, &[one, numbered(other, second)], &samples)?;
+                    compare(&rt, alloc, &[one, numbered(other, second)], &runs, &samples)?;
                 }
             }
         }
@@ -219,8 +230,10 @@ fn one_or_two_alternatives_stop_at_the_samples_that_meet_them(rt: HostRuntime) -
 #[test]
 fn letters_on_two_lines_stop_at_the_samples_where_both_hold(rt: HostRuntime) -> Result<(), Fail> {
     let alloc = rt.alloc();
-    for number in 0..1024 {
-        let samples = digits(alloc, number, 4, 5)?;
+    // all lists of three runs of two lines
+    for number in 0..1728 {
+        let runs = runs_of(alloc, number, 4, 3)?;
+        let samples = samples_of(alloc, &runs)?;
         for first in 0..30 {
             let one = numbered(first, 0b01);
             for letter in LETTERS {
@@ -230,7 +243,7 @@ fn letters_on_two_lines_stop_at_the_samples_where_both_hold(rt: HostRuntime) -> 
                 } else {
                     0b10
                 };
-                compare(&rt, alloc, &[asks(one, letter, both)], &samples)?;
+                compare(&rt, alloc, &[asks(one, letter, both)], &runs, &samples)?;
             }
         }
     }
@@ -248,14 +261,15 @@ fn a_new_condition_keeps_what_was_consumed(rt: HostRuntime) {
         rest: None,
     };
     assert_eq!(rt; waiter.scan(Run { value: 0, len: 1 }), first);
+    // behind the stop the line rises
     waiter.renew(Cond::one(alt(Letter::Rise, 1, 0)));
-    let second = Scan::Met {
+    let met = Scan::Met {
         at: 1,
         value: 1,
         met: 1,
         rest: Some(Run { value: 1, len: 1 }),
     };
-    assert_eq!(rt; waiter.scan(Run { value: 1, len: 2 }), second);
+    assert_eq!(rt; waiter.scan(Run { value: 1, len: 2 }), met);
 }
 
 fn fault(alloc: Global, word: &str) -> Option<(u32, CondWhy)> {
@@ -307,31 +321,28 @@ fn the_first_fault_of_a_word(rt: HostRuntime) {
     }
 }
 
-// So many terms `0=h` with a comma behind each, and then this.
-fn behind_terms(alloc: Global, count: u32, last: &str) -> Result<String, Fail> {
-    let mut word = String::new(alloc);
-    for _ in 0..count {
-        word.push_str("0=h,")?;
-    }
-    word.push_str(last)?;
-    Ok(word)
-}
+// 63 terms, of 304 bytes.
+const SIXTY_THREE: &str =
+    "0=h,1=h,2=h,3=h,4=h,5=h,6=h,7=h,8=h,9=h,10=h,11=h,12=h,13=h,14=h,15=h,16=h,17=h,18=h,\
+    19=h,20=h,21=h,22=h,23=h,24=h,25=h,26=h,27=h,28=h,29=h,30=h,31=h,32=h,33=h,34=h,35=h,\
+    36=h,37=h,38=h,39=h,40=h,41=h,42=h,43=h,44=h,45=h,46=h,47=h,48=h,49=h,50=h,51=h,52=h,\
+    53=h,54=h,55=h,56=h,57=h,58=h,59=h,60=h,61=h,62=h";
 
 #[test]
 fn the_term_behind_64_is_one_too_many(rt: HostRuntime) -> Result<(), Fail> {
     let alloc = rt.alloc();
-    for (count, last, at, why) in [
-        (64, "0=h", 256, CondWhy::Many),
-        (64, "", 256, CondWhy::Many),
-        (64, "skip=0", 256, CondWhy::Many),
-        (63, "0", 252, CondWhy::Term),
-        (63, "", 252, CondWhy::Empty),
+    let front = SIXTY_THREE;
+    for (last, found) in [
+        (",0=h,0=h", Some((309, CondWhy::Many))),
+        (",0=h,", Some((309, CondWhy::Many))),
+        (",0=h,skip=0", Some((309, CondWhy::Many))),
+        (",0", Some((305, CondWhy::Term))),
+        (",", Some((305, CondWhy::Empty))),
+        (",63=h", None),
     ] {
-        let word = behind_terms(alloc, count, last)?;
-        assert_eq!(rt; fault(alloc, word.as_str()), Some((at, why)));
+        let word = format!(in alloc; "{front}{last}").ok().ok_or("no memory")?;
+        assert_eq!(rt; fault(alloc, word.as_str()), found, "{last}");
     }
-    let word = behind_terms(alloc, 63, "0=h")?;
-    assert_eq!(rt; words(alloc, word.as_str())?.terms.len(), 64);
     Ok(())
 }
 
@@ -389,7 +400,10 @@ fn words(alloc: Global, word: &str) -> Result<AltWords, Fail> {
     if word.len() > 4096 {
         return Err("a long word".into());
     }
-    Ok(read_alt(alloc, word).ok().ok_or("a fault")?)
+    match read_alt(alloc, word) {
+        Ok(words) => Ok(words),
+        Err(_) => Err("a fault".into()),
+    }
 }
 
 #[test]
@@ -423,30 +437,16 @@ fn binds_by_name_and_by_number(rt: HostRuntime) -> Result<(), Fail> {
 #[test]
 fn binds_no_more_channels_than_a_sample_has_bits(rt: HostRuntime) -> Result<(), Fail> {
     let alloc = rt.alloc();
-    let mut names = Names::new(alloc);
-    let mut terms = Vec::new(alloc);
-    for channel in 0..=MOST_PINS {
-        if names.count() < 4096 && names.push(b"x").is_err() {
-            return Err("no memory".into());
-        }
-        let reference = format!(in alloc; "{channel}").ok().ok_or("no memory")?;
-        let letter = Letter::High;
-        terms
-            .push(Term::Line { reference, letter })
-            .ok()
-            .ok_or("no memory")?;
-    }
-    if terms.len() > 4096 {
-        return Err("too many terms".into());
-    }
+    let names = names(alloc, &["x"; MOST_PINS as usize + 1])?;
     let mut pins = Pins::new();
-    let bound = bind_alt(&AltWords { terms }, &names, &mut pins);
+    let _ = bind_alt(&words(alloc, SIXTY_THREE)?, &names, &mut pins);
     let many = ItemFault {
-        item: MOST_PINS,
+        item: 2,
         why: BindWhy::TooMany,
     };
-    assert_eq!(rt; bound.err(), Some(many));
-    assert_eq!(rt; pins.len(), 0);
+    let bound = bind_alt(&words(alloc, "63=h,skip=1,64=h")?, &names, &mut pins);
+    assert_eq!(rt; bound, Err(many));
+    assert_eq!(rt; pins.len(), 63);
     Ok(())
 }
 
