@@ -42,39 +42,50 @@ fn a_piece_is_written_in_parts(rt: HostRuntime) -> Result<(), Fail> {
 }
 
 #[test]
-fn more_than_a_buffer_holds(rt: HostRuntime) -> Result<(), Fail> {
-    let bytes = numbered(rt.alloc(), 40_000)?;
-    let mut sink = sink_of(&rt, rt.alloc(), 7000, &[], 40_000)?;
-    let mut buffered = Buffered::new(&mut sink);
-    for piece in bytes.chunks(3000) {
-        assert_eq!(rt; write_whole(&mut buffered, piece), Ok(()));
+fn what_goes_through_a_buffer(rt: HostRuntime) -> Result<(), Fail> {
+    // how many bytes come in pieces of which size, what the sink takes at once and its calls that
+    // fail; what each flush then answers, and how many bytes the sink has got
+    for (count, size, most, fails, flushes, got) in [
+        (
+            40_000,
+            3000,
+            7000,
+            [].as_slice(),
+            [Ok(())].as_slice(),
+            40_000,
+        ),
+        (
+            8,
+            8,
+            3,
+            [1, 2].as_slice(),
+            [Err(Failed), Err(Failed), Ok(())].as_slice(),
+            8,
+        ),
+        // the byte behind a full buffer isn't taken
+        (
+            16_385,
+            16_384,
+            10_000,
+            [1].as_slice(),
+            [Ok(())].as_slice(),
+            16_384,
+        ),
+    ] {
+        let bytes = numbered(rt.alloc(), count)?;
+        let mut sink = sink_of(&rt, rt.alloc(), most, fails, 40_000)?;
+        let mut buffered = Buffered::new(&mut sink);
+        assert!(rt; size >= 1 && got <= bytes.len());
+        for piece in bytes.chunks(size) {
+            if write_whole(&mut buffered, piece).is_err() {
+                break;
+            }
+        }
+        for answer in flushes {
+            assert_eq!(rt; buffered.flush(), *answer, "{count}");
+        }
+        assert_eq!(rt; sink.written(), &bytes[..got]);
     }
-    assert_eq!(rt; buffered.flush(), Ok(()));
-    assert_eq!(rt; sink.written(), bytes.as_slice());
-    Ok(())
-}
-
-#[test]
-fn a_failed_flush_keeps_the_rest(rt: HostRuntime) -> Result<(), Fail> {
-    let mut sink = sink_of(&rt, rt.alloc(), 3, &[1, 2], 8)?;
-    let mut buffered = Buffered::new(&mut sink);
-    assert_eq!(rt; write_whole(&mut buffered, b"abcdefgh"), Ok(()));
-    assert_eq!(rt; buffered.flush(), Err(Failed));
-    assert_eq!(rt; buffered.flush(), Err(Failed));
-    assert_eq!(rt; buffered.flush(), Ok(()));
-    assert_eq!(rt; sink.written(), b"abcdefgh".as_slice());
-    Ok(())
-}
-
-#[test]
-fn a_failed_write_into_a_full_buffer(rt: HostRuntime) -> Result<(), Fail> {
-    let bytes = numbered(rt.alloc(), 16_384)?;
-    let mut sink = sink_of(&rt, rt.alloc(), 10_000, &[1], 16_385)?;
-    let mut buffered = Buffered::new(&mut sink);
-    assert_eq!(rt; write_whole(&mut buffered, &bytes), Ok(()));
-    assert_eq!(rt; buffered.write(b"x"), Err(Failed));
-    assert_eq!(rt; buffered.flush(), Ok(()));
-    assert_eq!(rt; sink.written(), bytes.as_slice());
     Ok(())
 }
 
@@ -86,21 +97,32 @@ fn source_of(alloc: Global, texts: &[&str], fails: &[u64]) -> Result<MemSource, 
     Ok(MemSource::new(pieces, fails.to_vec(alloc)?))
 }
 
-#[test]
-fn pieces_are_read_with_a_failure_between(rt: HostRuntime) -> Result<(), Fail> {
-    let mut source = source_of(rt.alloc(), &["ab", "", "cde"], &[1, 3])?;
+// What reads into two bytes answer, and the bytes that each gives.
+fn reads<S: Source>(rt: &impl Abort, source: &mut S, answers: &[(Result<usize, Failed>, &str)]) {
     let mut buf = [0; 2];
-    for (answer, given) in [
+    for (answer, given) in answers {
+        assert_eq!(rt; source.read(&mut buf), *answer, "{given}");
+        assert!(rt; buf.starts_with(given.as_bytes()));
+    }
+}
+
+#[test]
+fn sources_give_their_bytes(rt: HostRuntime) -> Result<(), Fail> {
+    let answers = [(Ok(2), "ab"), (Ok(1), "c"), (Ok(0), "")];
+    let alloc = rt.alloc();
+    reads(&rt, &mut SureSource::new(b"abc".to_vec(alloc)?), &answers);
+    reads(&rt, &mut StdSource::new(b"abc".as_slice()), &answers);
+    reads(&rt, &mut StdSource::new(Broken), &[(Err(Failed), "")]);
+    let mut source = source_of(alloc, &["ab", "", "cde"], &[1, 3])?;
+    let failing = [
         (Ok(2), "ab"),
         (Err(Failed), ""),
         (Ok(2), "cd"),
         (Err(Failed), ""),
         (Ok(1), "e"),
         (Ok(0), ""),
-    ] {
-        assert_eq!(rt; source.read(&mut buf), answer);
-        assert!(rt; buf.starts_with(given.as_bytes()));
-    }
+    ];
+    reads(&rt, &mut source, &failing);
     Ok(())
 }
 
@@ -126,21 +148,7 @@ fn what_was_not_let_go_is_still_held(rt: HostRuntime) -> Result<(), Fail> {
     Ok(())
 }
 
-#[test]
-fn sure_ones_never_fail(rt: HostRuntime) -> Result<(), Fail> {
-    let mut source = SureSource::new(b"abc".to_vec(rt.alloc())?);
-    let mut buf = [0; 2];
-    assert_eq!(rt; source.read(&mut buf), Ok(2));
-    assert_eq!(rt; buf.as_slice(), b"ab".as_slice());
-    assert_eq!(rt; source.read(&mut buf), Ok(1));
-    assert_eq!(rt; buf[0], b'c');
-    assert_eq!(rt; source.read(&mut buf), Ok(0));
-    let mut sink = SureSink::new();
-    assert_eq!(rt; sink.write(b"abc"), Ok(3));
-    Ok(())
-}
-
-// A reader and a writer whose every call is an error.
+// A reader whose every call is an error.
 #[derive(Drop)]
 struct Broken;
 
@@ -151,19 +159,8 @@ impl Read for Broken {
 }
 
 #[test]
-fn a_reader_as_a_source(rt: HostRuntime) {
-    let mut source = StdSource::new(b"abc".as_slice());
-    let mut buf = [0; 2];
-    assert_eq!(rt; source.read(&mut buf), Ok(2));
-    assert_eq!(rt; buf.as_slice(), b"ab".as_slice());
-    assert_eq!(rt; source.read(&mut buf), Ok(1));
-    assert_eq!(rt; buf[0], b'c');
-    assert_eq!(rt; source.read(&mut buf), Ok(0));
-    assert_eq!(rt; StdSource::new(Broken).read(&mut buf), Err(Failed));
-}
-
-#[test]
-fn a_writer_as_a_sink(rt: HostRuntime) -> Result<(), Fail> {
+fn a_writer_is_a_sink(rt: HostRuntime) -> Result<(), Fail> {
+    assert_eq!(rt; SureSink::new().write(b"abc"), Ok(3));
     let mut bytes = Vec::new(rt.alloc());
     assert_eq!(rt; write_whole(&mut StdSink::new(&mut bytes), b"abc"), Ok(()));
     assert_eq!(rt; bytes.as_slice(), b"abc".as_slice());
