@@ -6,6 +6,7 @@ use Rattle.wait_cond.specs.Stops.{MetSet}
 use Rattle.decoder_core.specs.Promises.{NotesFrom, packet_starts}
 use Rattle.sample_walks.specs.Walks.{Between, Walk}
 
+-- a walk by events: its states, and what one event does to a state
 pub record EventWalk (H E : Type 0) : Type 0 where
   -- the event of a sample, by its place, the sample before it and its own value
   pub event_at : ℕ → Option ℕ → ℕ → List E
@@ -16,6 +17,7 @@ pub record EventWalk (H E : Type 0) : Type 0 where
   pub alts : H → List Alt
   pub near : H → ℕ → ℕ
 
+-- whether there is an event
 abbrev pub is_some_event : {E : Type 0} → List E → Bool
 is_some_event [] = false
 is_some_event (e ∷ es) = true
@@ -30,6 +32,7 @@ module _ {H E : Type 0} (w : EventWalk H E) where
   next_all h [] = h
   next_all h (e ∷ es) = next_all (w.next h e) es
 
+  -- the walk over samples that goes by the events of neighbours
   abbrev pub by_events : Walk H
   by_events = record {
     begin = w.begin;
@@ -40,7 +43,7 @@ module _ {H E : Type 0} (w : EventWalk H E) where
     near = w.near;
   }
 
-  -- what events owe
+  -- what events owe: ten facts, all of one state and one sample. `fits` is that of a walk over samples; no time is asked for, since no alternative has a skip
   pub record SoundEvents (fits : H → ℕ → Option ℕ → Type 0) : Type 0 where
     pub one : (q : ℕ) (before : Option ℕ) (now : ℕ) → (w.event_at q before now ≡ []) ⊎ ((e : E) × (w.event_at q before now ≡ e ∷ []))
     pub begin_fits : fits w.begin 0 None

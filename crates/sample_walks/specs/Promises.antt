@@ -5,6 +5,7 @@ use Rattle.list_cuts.specs.Neighbours.{last_of}
 use Rattle.decoder_core.specs.Promises.{IsFloor, GivesNothing, KeepsFront, PacketsInOrder, AddsFew, Rests}
 use Rattle.sample_walks.specs.Walks.{Walk, walked, given, EndsThere, Sound}
 
+-- quiet, one stop, nothing, prefix, order, few, and the floor of all later samples
 pub record Promises {H : Type 0} (w : Walk H) (outs : List ℕ → List Out) : Type 0 where
   pub quiet : (seen more : List ℕ) → EndsThere w seen → Rests (w.alts (walked w seen)) seen more → outs (seen ++ more) ≡ outs seen
   pub one_stop : (seen more : List ℕ) → EndsThere w seen → EndsThere w (seen ++ more) → Rests (w.alts (walked w seen)) seen more → more ≡ []

@@ -12,6 +12,7 @@ abbrev pub Between : ℕ → ℕ → List ℕ → Type 0
 Between low high [] = low ≤ high
 Between low high (n ∷ ns) = (low ≤ n) × Between n high ns
 
+-- a walk: its states, and what one more sample does to a state
 pub record Walk (H : Type 0) : Type 0 where
   -- what is kept of no samples
   pub begin : H
@@ -24,6 +25,7 @@ pub record Walk (H : Type 0) : Type 0 where
   pub near : H → ℕ → ℕ
 
 module _ {H : Type 0} (w : Walk H) where
+  -- the state behind samples, the first of which stands at place k, and what they give
   abbrev pub walk_from : H → ℕ → Option ℕ → List ℕ → H
   walk_from h k before [] = h
   walk_from h k before (now ∷ later) = walk_from (w.next h k before now) (k + 1) (Some now) later
