@@ -1,5 +1,5 @@
 // I2C as a decoder of samples: it sleeps between two events.
-ghost use Rattle.std.specs.Prelude.{◌≡◌, ◌<◌, ◌^◌, ◌∷◌, [], ℕ, List};
+ghost use Rattle.std.specs.Prelude.{◌≡◌, ◌<◌, ◌^◌, ◌∷◌, [], ℕ, List, true};
 ghost use Rattle.dec_i2c.specs.Bus.{i2c_outs, i2c_near};
 ghost use Rattle.dec_i2c.specs.laws.Machine.{near_by};
 ghost use Rattle.dec_i2c.specs.laws.Machine.{mark_alt, clock_alt, i2c_alts};
@@ -7,7 +7,7 @@ ghost use Rattle.dec_i2c.specs.Opening.{StandsFor, Opens};
 ghost use Rattle.dec_i2c.specs.laws.I2cLaws.{i2c_quiet, i2c_nothing, i2c_prefix, i2c_order, i2c_few, i2c_one_stop};
 ghost use Rattle.la_base.specs.declared.wires.Wire.TheVariants.{I2c as I2cWire};
 ghost use Rattle.dec_i2c.specs.laws.WireLaws.{i2c_on_wire};
-ghost use Rattle.dec_i2c.specs.laws.MachineLaws.{one_i2c, ends_too};
+ghost use Rattle.dec_i2c.specs.laws.MachineLaws.{one_i2c, ends_too, same_alts};
 
 use crate::outputs::give;
 use crate::steps::{closed, step};
@@ -102,6 +102,8 @@ impl LogicMachine for I2c {
 
     ghost alts = { λ machine. i2c_alts machine.bus.scl machine.bus.sda };
 
+    ghost fixes_alts = { λ _. true };
+
     fn cond(&self) -> Cond {
         let mut cond = Cond::one(mark_alt(self.bus));
         cond.add(clock_alt(self.bus));
@@ -133,6 +135,8 @@ impl LogicMachine for I2c {
     ghost few = { λ machine. i2c_few machine.bus.scl machine.bus.sda };
 
     ghost on_wire = { λ machine. i2c_on_wire machine.bus.scl machine.bus.sda };
+
+    ghost fixed = { λ one other same _. same_alts one other same };
 
     ghost one_machine = { λ one other list same stands also. one_i2c one other list same stands also };
 

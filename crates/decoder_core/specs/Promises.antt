@@ -1,7 +1,7 @@
 -- What a decoder promises. *Outputs*: `outs` is all that the decoder's definition gives on a whole input, at one
 -- setup. *Stands for*: `stands` says that a machine holds what it has to know of a list of samples, which ends with
 -- the machine's last stop; its condition `alts` is pending from there on.
-use Rattle.std.specs.Prelude.{ℕ, ◌≡◌, ◌+◌, ◌≤◌, List, [], ◌∷◌, ◌++◌, take, length, slice_index}
+use Rattle.std.specs.Prelude.{ℕ, ◌≡◌, ◌+◌, ◌≤◌, Bool, true, List, [], ◌∷◌, ◌++◌, take, length, slice_index}
 use Rattle.std.specs.List.Sorted.{IsNonDecreasing}
 use Rattle.la_base.specs.Kinds.{wire_of}
 use Rattle.la_base.specs.declared.wires.Wire.{Wire}
@@ -65,6 +65,10 @@ IsLoud outs stands alts at value met into =
 -- after a stop a machine stands for the samples up to it, and the stop itself
 abbrev pub StandsThere : (List ℕ → Type 0) → (List ℕ → Type 0) → List Alt → ℕ → ℕ → ℕ → Type 0
 StandsThere old new alts at value met = (seen more : List ℕ) → old seen → StopsIn alts seen more at value met → new (take (at + 1) (seen ++ more))
+
+-- *fixed*: where a setup fixes the alternatives, all machines of it wait for the same
+abbrev pub FixesAlts : {L S : Type 0} → (L → S) → (S → Bool) → (L → List Alt) → Type 0
+FixesAlts {L} setup fixes alts = (one other : L) → setup one ≡ setup other → fixes (setup one) ≡ true → alts one ≡ alts other
 
 -- *one machine*: two machines of one setup that stand for the same samples are equal
 abbrev pub OneMachine : {L S : Type 0} → (L → S) → (L → List ℕ → Type 0) → Type 0

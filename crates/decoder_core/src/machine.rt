@@ -1,11 +1,11 @@
 // What a decoder is, by the outputs of its whole input.
-ghost use Rattle.std.specs.Prelude.{◌≡◌, ◌≤◌, ◌<◌, ◌+◌, ◌^◌, [], ◌∷◌, ◌++◌, ℕ, List, length, take, true};
+ghost use Rattle.std.specs.Prelude.{◌≡◌, ◌≤◌, ◌<◌, ◌+◌, ◌^◌, [], ◌∷◌, ◌++◌, ℕ, List, length, take, Bool};
 ghost use Rattle.la_base.specs.declared.wires.Out.{Out};
 ghost use Rattle.la_base.specs.declared.wires.Wire.{Wire};
 ghost use Rattle.wait_cond.specs.declared.alt.Alt.{Alt};
 ghost use Rattle.wait_cond.specs.Conds.{cond_alts};
 ghost use Rattle.decoder_core.specs.Inputs.{Item};
-ghost use Rattle.decoder_core.specs.Promises.{IsFloor, GivesNothing, GivesOn, KeepsFront, PacketsInOrder, AddsFew, Rests, IsQuiet, IsLoud, StandsThere, OneMachine, OneLastStop};
+ghost use Rattle.decoder_core.specs.Promises.{IsFloor, GivesNothing, GivesOn, KeepsFront, PacketsInOrder, AddsFew, Rests, IsQuiet, IsLoud, StandsThere, FixesAlts, OneMachine, OneLastStop};
 ghost use Rattle.decoder_core.specs.Driving.{Steps, StopsFirst};
 
 use crate::Outs;
@@ -37,13 +37,16 @@ pub trait LogicMachine {
     /// The alternatives that it waits for.
     ghost alts: { Self → List Alt };
 
+    /// Whether a setup fixes the alternatives.
+    ghost fixes_alts: { Self.Setup → Bool };
+
     /// The condition of its next stop.
     fn cond(&self) -> Cond
         ensures { cond_alts result ≡ alts self.now };
 
     /// Whether its setup fixes the alternatives. Then `cond` isn't asked again after the first wait.
     fn has_fixed_cond(&self) -> bool
-        ensures { result ≡ true → (other : Self) → setup other ≡ setup self.now → alts other ≡ alts self.now };
+        ensures { result ≡ fixes_alts (setup self.now) };
 
     /// Takes the stop at sample number `at`, whose value is `value`; bit i of `met` says whether it
     /// meets alternative i. *Loud*: the outputs grow by those that are put into `into`, in their order,
@@ -80,6 +83,9 @@ pub trait LogicMachine {
 
     /// *Wire*: each packet that is put out is of that wire.
     ghost on_wire: { (machine : Self) → GivesOn (gives (setup machine)) (outs (setup machine)) };
+
+    /// *Fixed*: where a setup fixes the alternatives, all machines of it wait for the same.
+    ghost fixed: { FixesAlts setup fixes_alts alts };
 
     /// *One machine*: two machines of one setup that stand for the same samples are equal.
     ghost one_machine: { OneMachine setup stands };

@@ -1,5 +1,5 @@
 // A small decoder: what a decoder has to give and to show.
-ghost use Rattle.std.specs.Prelude.{◌≡◌, [], ◌∷◌, List, ℕ, length};
+ghost use Rattle.std.specs.Prelude.{◌≡◌, true, [], ◌∷◌, List, ℕ, length};
 ghost use Rattle.std.proofs.Common.{refl};
 ghost use Rattle.wait_cond.specs.declared.alt.Alt.{Alt};
 ghost use Rattle.la_base.specs.declared.wires.Wire.TheVariants.{Nothing};
@@ -48,6 +48,8 @@ impl LogicMachine for Edges {
 
     ghost alts = { λ _. edge_alts };
 
+    ghost fixes_alts = { λ _. true };
+
     fn cond(&self) -> Cond {
         Cond::one(Alt {
             low: 0,
@@ -83,6 +85,8 @@ impl LogicMachine for Edges {
     ghost few = { λ _. edges_few };
 
     ghost on_wire = { λ _. edges_on_wire };
+
+    ghost fixed = { λ _ _ _ _. refl };
 
     ghost one_machine = { λ _ _ _ _ _ _. refl };
 

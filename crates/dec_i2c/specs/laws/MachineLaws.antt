@@ -43,3 +43,7 @@ module _ (scl sda : ℕ) (held : Held) (at value met : ℕ) (level : Bool) (leve
     stop_ends scl sda seen more at value met stop,
     kept ∙ (λ i. next (is i) (event_met met at (level_is i))) ∙ sym (stop_holds scl sda seen more at value met stop),
   )
+
+-- the lines alone say what is waited for
+pub same_alts : (one other : I2c) → bus_of one ≡ bus_of other → i2c_alts one.bus.scl one.bus.sda ≡ i2c_alts other.bus.scl other.bus.sda
+same_alts one other same = ap (λ (bus : Bus). i2c_alts bus.scl bus.sda) same
