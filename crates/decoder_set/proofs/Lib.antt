@@ -1,3 +1,4 @@
 pub mod ListLemmas
 pub mod WholeRows
+pub mod RangeLemmas
 pub mod OneDecoder

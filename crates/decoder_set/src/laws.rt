@@ -1,9 +1,10 @@
 // Laws of the table and of its decoders.
-ghost use Rattle.std.specs.Prelude.{◌≡◌, List, Some};
+ghost use Rattle.std.specs.Prelude.{ℕ, ◌≡◌, ◌<◌, Bool, true, IfSome, List, Option, Some, slice_get};
 ghost use Rattle.decoder_core.specs.Inputs.{Item};
-ghost use Rattle.decoder_set.specs.Kinds.{kind_of, kind_row};
+ghost use Rattle.decoder_set.specs.Kinds.{OptionRow, Pin, Row, kind_of, kind_row};
 ghost use Rattle.decoder_set.specs.Opening.{HasConsumed, setup_of};
-ghost use Rattle.decoder_set.specs.Whole.{IsWhole, SameDecoder};
+ghost use Rattle.decoder_set.specs.Values.{channel_at, maybe_channel_at, number_at, row_in_range};
+ghost use Rattle.decoder_set.specs.Whole.{IsWhole, NumberFits, SameDecoder, usual_fits};
 ghost use Rattle.decoder_set.specs.declared.kinds.Kind.{Kind};
 
 use crate::AnyDecoder;
@@ -13,6 +14,17 @@ use crate::AnyDecoder;
 pub fn kinds_are_whole()
     ensures found { (kind : Kind) → kind_of (kind_row kind).name ≡ Some kind }
     ensures whole { (kind : Kind) → IsWhole (kind_row kind) }
+{}
+
+/// Of values in range, by any row: an option's number is one that it takes, and a channel's bit is one
+/// of a sample, whether it has to be given or not. (A law; nothing is done.)
+pub fn values_in_range_fit()
+    ensures number { (bits : ℕ) (row : Row) (values : List (Option ℕ)) (place : ℕ) (option : OptionRow) → row_in_range bits row values ≡ true → slice_get row.options place ≡ Some option
+        → usual_fits option.form ≡ true → NumberFits option.form (number_at row.options values place) }
+    ensures channel { (bits : ℕ) (row : Row) (values : List (Option ℕ)) (place : ℕ) (option : OptionRow) → row_in_range bits row values ≡ true → slice_get row.options place ≡ Some option
+        → (required : Bool) → option.form ≡ Pin required → 0 < bits → channel_at values place < bits }
+    ensures maybe_channel { (bits : ℕ) (row : Row) (values : List (Option ℕ)) (place : ℕ) (option : OptionRow) → row_in_range bits row values ≡ true → slice_get row.options place ≡ Some option
+        → (required : Bool) → option.form ≡ Pin required → IfSome (maybe_channel_at values place) (λ bit. bit < bits) }
 {}
 
 /// The input makes the decoder: two decoders of one setup that have consumed the same input hold the

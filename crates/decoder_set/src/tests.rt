@@ -156,6 +156,7 @@ fn values_of_any_kind_go_by_its_row(rt: HostRuntime) {
     assert_eq!(rt; groups_of(Kind::I2c).len(), 0);
     assert_eq!(rt; asked_of(Kind::I2c).len(), 0);
     kinds_are_whole();
+    values_in_range_fit();
 }
 
 fn is_send<T: Send + Drop>(_: &T) {}
