@@ -2,3 +2,4 @@ pub mod ListLemmas
 pub mod WholeRows
 pub mod RangeLemmas
 pub mod OneDecoder
+pub mod Stopping

@@ -6,10 +6,10 @@ use Rattle.la_base.specs.declared.samples.Rate.{Rate}
 use Rattle.la_base.specs.declared.samples.TheConstants.{MOST_PINS}
 use Rattle.decoder_core.specs.Inputs.{Item}
 use Rattle.decoder_core.proofs.OneDriver.{one_state}
-use Rattle.dec_i2c.specs.I2cLaws.{i2c_one_stop}
-use Rattle.dec_i2c.specs.MachineLaws.{one_i2c, ends_too}
+use Rattle.dec_i2c.specs.laws.I2cLaws.{i2c_one_stop}
+use Rattle.dec_i2c.specs.laws.MachineLaws.{one_i2c, ends_too}
 use Rattle.dec_i2c.specs.Opening.{bus_of, StandsFor}
-use Rattle.dec_i2c.specs.Waits.{i2c_alts}
+use Rattle.dec_i2c.specs.laws.Machine.{i2c_alts}
 use Rattle.dec_i2c.specs.declared.held.Bus.{Bus}
 use Rattle.decoder_set.specs.declared.any.AnyDecoder.{AnyDecoder}
 use Rattle.decoder_set.specs.declared.any.AnyMachine.{AnyMachine}

@@ -1,12 +1,12 @@
 -- The laws of what decoders give, for each setup.
 use Rattle.std.specs.Prelude.{ℕ, List, Option}
-use Rattle.decoder_core.specs.CountedLaws.{nothing_counted, front_counted, few_counted}
+use Rattle.decoder_core.specs.laws.CountedLaws.{nothing_counted, front_counted, few_counted}
 use Rattle.decoder_core.specs.Inputs.{counted_samples}
-use Rattle.decoder_core.specs.Laws.{GivesNothing, KeepsFront, PacketsInOrder, AddsFew, GivesOn}
+use Rattle.decoder_core.specs.Promises.{GivesNothing, KeepsFront, PacketsInOrder, AddsFew, GivesOn}
 use Rattle.dec_i2c.specs.Bus.{i2c_outs}
-use Rattle.dec_i2c.specs.WireLaws.{i2c_on_wire}
+use Rattle.dec_i2c.specs.laws.WireLaws.{i2c_on_wire}
 use Rattle.decoder_set.specs.Kinds.{kind_row}
-use Rattle.dec_i2c.specs.I2cLaws.{i2c_nothing, i2c_prefix, i2c_order, i2c_few}
+use Rattle.dec_i2c.specs.laws.I2cLaws.{i2c_nothing, i2c_prefix, i2c_order, i2c_few}
 use Rattle.decoder_set.specs.declared.kinds.Kind.{Kind}
 use Rattle.decoder_set.specs.declared.kinds.Kind.TheVariants.{I2c}
 use Rattle.decoder_set.specs.declared.setup.Setup.{Setup}

@@ -7,7 +7,7 @@ use Rattle.decoder_core.specs.declared.faults.OptFault.{OptFault}
 use Rattle.decoder_core.specs.declared.faults.OptFault.TheVariants.{Range}
 use Rattle.decoder_core.specs.declared.faults.OptFault.TheVariants as fault
 use Rattle.dec_i2c.specs.Opening.{bus_of, StandsFor}
-use Rattle.dec_i2c.specs.Waits.{i2c_alts}
+use Rattle.dec_i2c.specs.laws.Machine.{i2c_alts}
 use Rattle.dec_i2c.specs.declared.held.Bus.{Bus}
 use Rattle.dec_i2c.specs.declared.held.I2c.{I2c}
 use Rattle.dec_i2c.specs.declared.held.I2cOpts.{I2cOpts}
