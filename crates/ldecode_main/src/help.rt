@@ -1,5 +1,5 @@
 // What `--help` and `--version` tell.
-ghost use Rattle.std.specs.Prelude.{◌≡◌, ◌++◌, IfOk, codes};
+ghost use Rattle.std.specs.Prelude.{◌≡◌, ◌++◌, IfOk, MatchOption, codes};
 ghost use Rattle.std.specs.String.{string_bytes};
 ghost use Rattle.decoder_set.specs.Kinds.{kind_row};
 ghost use Rattle.decoder_set.specs.declared.table.TheConstants.{KINDS};
@@ -75,19 +75,24 @@ fn option_lines(
     format!(in alloc; "  --{name}\n      {sets}\n      values: {values}; usual: {usual}\n")
 }
 
+// The usual value of an option, or that it has none.
+fn usual_text(usual: Option<&'static str>) -> &'static str
+    ensures { MatchOption usual.entry (result.now ≡ codes "none") (λ text. result.now ≡ text.now) }
+{
+    match usual {
+        Some(text) => text,
+        None => "none",
+    }
+}
+
 // One option of the program.
 fn option_text(alloc: Global, name: Name) -> Result<String, AllocError>
     ensures { IfOk result (λ text. TellsOption name (string_bytes text)) }
 {
     let row = name.row();
     let values = format!(in alloc; "{}", row.takes)?;
-    option_lines(
-        alloc,
-        row.name,
-        row.help,
-        values.as_str(),
-        row.usual.unwrap_or("none"),
-    )
+    let usual = usual_text(row.usual);
+    option_lines(alloc, row.name, row.help, values.as_str(), usual)
 }
 
 // The line of a decoder.
