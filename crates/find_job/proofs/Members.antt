@@ -1,10 +1,11 @@
 -- The members of a set, one place after another.
-use Rattle.std.proofs.Common.{◌≡◌, ℕ, ◌+◌, ◌*◌, ◌<◌, ◌≤◌, Bool, true, false, cond, List, [], ◌∷◌, ◌++◌, length, map, filter, refl, sym, ◌∙◌, ap, subst, arith, append_assoc, length-append}
+use Rattle.std.proofs.Common.{◌≡◌, ◌==◌, ℕ, zero, suc, ◌^◌, ◌+◌, ◌-◌, ◌*◌, ◌<◌, ◌≤◌, Bool, true, false, cond, List, [], ◌∷◌, ◌++◌, length, map, filter, refl, sym, ◌∙◌, ap, subst, arith, append_assoc, length-append}
 use Rattle.std.specs.Fmt.{decimal}
 use Rattle.std.specs.List.{join_with_byte, range_with_len}
 use Rattle.std.proofs.lemmas.List.{map-append, map-id, append-nil, length-map}
 use Rattle.std.proofs.lemmas.List.Elements.{filter-append}
 use Rattle.std.proofs.lemmas.List.FromFn.{map-range_with_len_more}
+use Rattle.std.proofs.lemmas.Nat.Bits.{bit_at_above}
 use Rattle.find_job.specs.Listing.{is_member, separator, joined, members_below}
 
 -- one more piece behind others, with the separator between
@@ -76,3 +77,17 @@ module _ (before line : List ℕ) (set n : ℕ) where
         some = λ e. subst (λ (l : List ℕ). 0 < length l) (sym now) (omega (arith, length-append (members_below n set) (n ∷ [])));
         short = omega (arith, so_far.short, len);
       }
+
+-- no place from n on is in a set that is less than 2^n
+pub listed_rest : (before line : List ℕ) (set n k : ℕ) (first : Bool) → set < 2 ^ n → Listed before line first set n → Listed before line first set (n + k)
+listed_rest before line set n zero first small so_far = let same : n ≡ n + 0 = omega arith in subst (λ (m : ℕ). Listed before line first set m) same so_far
+listed_rest before line set n (suc k) first small so_far =
+    let same : n + k + 1 ≡ n + suc k = omega arith in
+    let absent : is_member set (n + k) ≡ false = ap (λ (b : ℕ). b == 1) (bit_at_above set n (n + k) small (omega arith)) in
+    subst (λ (m : ℕ). Listed before line first set m) same (listed_pass before line set (n + k) first (listed_rest before line set n k first small so_far) absent)
+
+-- so these are all
+pub listed_all : (before line : List ℕ) (set n : ℕ) (first : Bool) → n ≤ 8 → set < 2 ^ n → Listed before line first set n → Listed before line first set 8
+listed_all before line set n first few small so_far =
+    let same : n + (8 - n) ≡ 8 = omega arith in
+    subst (λ (m : ℕ). Listed before line first set m) same (listed_rest before line set n (8 - n) first small so_far)

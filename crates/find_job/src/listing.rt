@@ -47,6 +47,9 @@ fn members(line: &mut LineBuf, set: u8)
 {
     let mut first = true;
     for place in 0..MOST_MEMBERS {
+        if set < 1 << place {
+            return;
+        }
         if is_member(set, place) {
             member(line, first, place);
             first = false;

@@ -1,6 +1,6 @@
-use Rattle.std.proofs.Common.{◌≡◌, ◌+◌, sym, subst, true, false, Bool, List, ℕ, rules}
+use Rattle.std.proofs.Common.{◌≡◌, ◌+◌, ◌<◌, ◌^◌, arith, sym, subst, true, false, Bool, List, ℕ, rules}
 use Rattle.find_job.specs.Listing.{is_member}
-use Rattle.find_job.proofs.Members.{Listed, listed_pass, listed_next}
+use Rattle.find_job.proofs.Members.{Listed, listed_all, listed_pass, listed_next}
 use Rattle.find_job.proofs.listing.members.Goals as goal
 use Rattle.find_job.proofs.listing.members.Goals.{then-is_member, else-is_member}
 
@@ -20,3 +20,7 @@ loop-place-preserved c =
           let same = listed_pass before line set n c.loop-place.first c.loop-place.invariant absent in
           subst (λ (b : Bool). Listed before c.if-is_member.line b set (n + 1)) (sym w.first-is) (subst (λ (l : List ℕ). Listed before l c.loop-place.first set (n + 1)) (sym w.line-is) same)
     ]
+
+pub returns-then-set-place-clause-line : goal.returns-then-set-place-clause-line
+returns-then-set-place-clause-line c =
+    (listed_all c.args.line.now c.loop-place.line c.args.set c.loop-place.place c.loop-place.first (omega (arith, c.loop-place-test.true)) (omega (arith, c.if-set-place.true)) c.loop-place.invariant).text
