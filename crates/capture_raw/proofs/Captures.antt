@@ -72,12 +72,12 @@ full_is : (count : ℕ) → nat_le (2 ^ 60) count ≡ true → 2 ^ 60 ≤ count
 full_is count full = grind (arith, nat_tests)
 
 -- 2^60 bytes
-pub ending_full : (unit count : ℕ) (stop : Told) → 2 ^ 60 ≤ count → raw_ending unit count stop ≡ Faulty Bytes
-ending_full unit count stop long = ap (λ (b : Bool). if b then Faulty Bytes else raw_rest unit count stop) (is_full count long)
+pub ending_full : (unit count : ℕ) (told : Told) → 2 ^ 60 ≤ count → raw_ending unit count told ≡ Faulty Bytes
+ending_full unit count told long = ap (λ (b : Bool). if b then Faulty Bytes else raw_rest unit count told) (is_full count long)
 
 -- less
-pub ending_rest : (unit count : ℕ) (stop : Told) → count < 2 ^ 60 → raw_ending unit count stop ≡ raw_rest unit count stop
-ending_rest unit count stop short = ap (λ (b : Bool). if b then Faulty Bytes else raw_rest unit count stop) (not_full count short)
+pub ending_rest : (unit count : ℕ) (told : Told) → count < 2 ^ 60 → raw_ending unit count told ≡ raw_rest unit count told
+ending_rest unit count told short = ap (λ (b : Bool). if b then Faulty Bytes else raw_rest unit count told) (not_full count short)
 
 -- bytes that are cut have a fault where there are 2^60 of them
 cut_fault : (unit count : ℕ) (fault : CaptureFault) → raw_ending unit count Cut ≡ Faulty fault → 2 ^ 60 ≤ count
@@ -89,33 +89,33 @@ cut_fault unit count fault is = by_test (nat_le (2 ^ 60) count) refl where
       cc
 
 module _ (channels : ℕ) (rate : Rate) (pins : List ℕ) where
-  pub settled_is : (bytes : List ℕ) (stop : Told) → (raw_capture channels rate pins bytes stop).settled ≡ raw_samples (unit_len channels) pins (take (2 ^ 60) bytes)
+  pub settled_is : (bytes : List ℕ) (told : Told) → (raw_capture channels rate pins bytes told).settled ≡ raw_samples (unit_len channels) pins (take (2 ^ 60) bytes)
   unfolding raw_capture
-  settled_is bytes stop = refl
+  settled_is bytes told = refl
 
-  pub ending_is : (bytes : List ℕ) (stop : Told) → (raw_capture channels rate pins bytes stop).ending ≡ raw_ending (unit_len channels) (length bytes) stop
+  pub ending_is : (bytes : List ℕ) (told : Told) → (raw_capture channels rate pins bytes told).ending ≡ raw_ending (unit_len channels) (length bytes) told
   unfolding raw_capture
-  ending_is bytes stop = refl
+  ending_is bytes told = refl
 
-  pub settled_longer : (front more : List ℕ) (stop : Told) → 0 < channels
-      → (rest : List ℕ) × ((raw_capture channels rate pins (front ++ more) stop).settled ≡ (raw_capture channels rate pins front Cut).settled ++ rest)
-  settled_longer front more stop some =
+  pub settled_longer : (front more : List ℕ) (told : Told) → 0 < channels
+      → (rest : List ℕ) × ((raw_capture channels rate pins (front ++ more) told).settled ≡ (raw_capture channels rate pins front Cut).settled ++ rest)
+  settled_longer front more told some =
       let longer = front_longer (2 ^ 60) front more in
       let samples = samples_longer (unit_len channels) (unit_some channels some) pins (take (2 ^ 60) front) longer.0 in
-      (samples.0, settled_is (front ++ more) stop ∙ ap (λ (l : List ℕ). raw_samples (unit_len channels) pins l) longer.1 ∙ samples.1 ∙ ap (λ (l : List ℕ). l ++ samples.0) (sym (settled_is front Cut)))
+      (samples.0, settled_is (front ++ more) told ∙ ap (λ (l : List ℕ). raw_samples (unit_len channels) pins l) longer.1 ∙ samples.1 ∙ ap (λ (l : List ℕ). l ++ samples.0) (sym (settled_is front Cut)))
 
-  same_when_full : (front more : List ℕ) (stop : Told) → 2 ^ 60 ≤ length front → raw_capture channels rate pins (front ++ more) stop ≡ raw_capture channels rate pins front Cut
+  same_when_full : (front more : List ℕ) (told : Told) → 2 ^ 60 ≤ length front → raw_capture channels rate pins (front ++ more) told ≡ raw_capture channels rate pins front Cut
   unfolding raw_capture
-  same_when_full front more stop full =
+  same_when_full front more told full =
       let unit = unit_len channels in
       let settled = ap (λ (l : List ℕ). raw_samples unit pins l) (take-append-le (2 ^ 60) front more full) in
-      let ending = ending_full unit (length (front ++ more)) stop (omega (arith, length-append front more)) ∙ sym (ending_full unit (length front) Cut full) in
+      let ending = ending_full unit (length (front ++ more)) told (omega (arith, length-append front more)) ∙ sym (ending_full unit (length front) Cut full) in
       λ i. record {
         head = Good (raw_names channels) rate.num rate.den;
         settled = settled i;
         ending = ending i;
       }
 
-  pub fault_stays : (front more : List ℕ) (stop : Told) (fault : CaptureFault) → (raw_capture channels rate pins front Cut).ending ≡ Faulty fault
-      → raw_capture channels rate pins (front ++ more) stop ≡ raw_capture channels rate pins front Cut
-  fault_stays front more stop fault is = same_when_full front more stop (cut_fault (unit_len channels) (length front) fault (sym (ending_is front Cut) ∙ is))
+  pub fault_stays : (front more : List ℕ) (told : Told) (fault : CaptureFault) → (raw_capture channels rate pins front Cut).ending ≡ Faulty fault
+      → raw_capture channels rate pins (front ++ more) told ≡ raw_capture channels rate pins front Cut
+  fault_stays front more told fault is = same_when_full front more told (cut_fault (unit_len channels) (length front) fault (sym (ending_is front Cut) ∙ is))

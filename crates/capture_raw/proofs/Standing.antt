@@ -102,17 +102,17 @@ unfolding samples
 samples_len run = length-replicate run.len run.value
 
 -- what was given is a front of what the bytes settle
-pub given_front : (channels : ℕ) → 0 < unit_len channels → (rate : Rate) (pins : List ℕ) (front : Front) (bytes given : List ℕ) (stop : Told)
+pub given_front : (channels : ℕ) → 0 < unit_len channels → (rate : Rate) (pins : List ℕ) (front : Front) (bytes given : List ℕ) (told : Told)
     → StandsAt (unit_len channels) pins front bytes given → front.taken - length front.bytes ≤ 2 ^ 60
-    → (rest : List ℕ) × ((raw_capture channels rate pins bytes stop).settled ≡ given ++ rest)
-given_front channels some rate pins front bytes given stop st few =
+    → (rest : List ℕ) × ((raw_capture channels rate pins bytes told).settled ≡ given ++ rest)
+given_front channels some rate pins front bytes given told st few =
     let unit = unit_len channels in
     let n = length given * unit in
     let most = take (2 ^ 60) bytes in
     let below : n ≤ 2 ^ 60 = omega (arith, few, st.taken, st.within, ap length st.held, length-drop n bytes) in
     let whole = length-take-le n bytes st.within in (
       raw_samples unit pins (drop n most),
-      settled_is channels rate pins bytes stop
+      settled_is channels rate pins bytes told
           ∙ ap (λ (l : List ℕ). raw_samples unit pins l) (sym (take-append-drop n most) ∙ ap (λ (l : List ℕ). l ++ drop n most) (take-take n (2 ^ 60) bytes below))
           ∙ samples_after unit some pins (take n bytes) (length given) whole (drop n most)
           ∙ ap (λ (l : List ℕ). l ++ raw_samples unit pins (drop n most)) (sym st.gave),
@@ -121,23 +121,23 @@ given_front channels some rate pins front bytes given stop st few =
 -- nothing is left to give: what an answer means then
 module _ (channels : ℕ) (some : 0 < unit_len channels) (rate : Rate) (pins : List ℕ) (front : Front) (bytes given : List ℕ)
     (short : length front.bytes < unit_len channels) (few : front.taken ≤ 2 ^ 60) (st : StandsAt (unit_len channels) pins front bytes given) where
-  all_settled : (stop : Told) → (raw_capture channels rate pins bytes stop).settled ≡ given
-  all_settled stop =
+  all_settled : (told : Told) → (raw_capture channels rate pins bytes told).settled ≡ given
+  all_settled told =
       let count : length bytes ≤ 2 ^ 60 = omega (arith, st.taken) in
-      settled_is channels rate pins bytes stop ∙ ap (λ (l : List ℕ). raw_samples (unit_len channels) pins l) (take_all (2 ^ 60) bytes count) ∙ all_given (unit_len channels) some pins front bytes given short st
+      settled_is channels rate pins bytes told ∙ ap (λ (l : List ℕ). raw_samples (unit_len channels) pins l) (take_all (2 ^ 60) bytes count) ∙ all_given (unit_len channels) some pins front bytes given short st
 
   -- 2^60 bytes were taken
-  pub ends_full : 2 ^ 60 ≤ front.taken → (stop : Told) → Ends (raw_capture channels rate pins bytes stop) given (Faulty BytesFault)
-  ends_full full stop = record {
-    settled = all_settled stop;
-    ending = ending_is channels rate pins bytes stop ∙ ending_full (unit_len channels) (length bytes) stop (omega (arith, st.taken));
+  pub ends_full : 2 ^ 60 ≤ front.taken → (told : Told) → Ends (raw_capture channels rate pins bytes told) given (Faulty BytesFault)
+  ends_full full told = record {
+    settled = all_settled told;
+    ending = ending_is channels rate pins bytes told ∙ ending_full (unit_len channels) (length bytes) told (omega (arith, st.taken));
   }
 
   module _ (below : front.taken < 2 ^ 60) where
-    ends_so : (stop : Told) (how : Ending) → raw_rest (unit_len channels) (length bytes) stop ≡ how → Ends (raw_capture channels rate pins bytes stop) given how
-    ends_so stop how is = record {
-      settled = all_settled stop;
-      ending = ending_is channels rate pins bytes stop ∙ ending_rest (unit_len channels) (length bytes) stop (omega (arith, st.taken)) ∙ is;
+    ends_so : (told : Told) (how : Ending) → raw_rest (unit_len channels) (length bytes) told ≡ how → Ends (raw_capture channels rate pins bytes told) given how
+    ends_so told how is = record {
+      settled = all_settled told;
+      ending = ending_is channels rate pins bytes told ∙ ending_rest (unit_len channels) (length bytes) told (omega (arith, st.taken)) ∙ is;
     }
 
     -- the source failed

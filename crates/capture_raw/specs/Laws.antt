@@ -10,14 +10,14 @@ use Rattle.capture_raw.specs.declared.reader.RawReader.{RawReader}
 
 -- the settled samples of a cut front are a prefix of those of every longer input
 abbrev pub LongerExtends : Type 0
-LongerExtends = (channels : ℕ) (rate : Rate) (pins front more : List ℕ) (stop : Told) → 0 < channels
-    → (rest : List ℕ) × ((raw_capture channels rate pins (front ++ more) stop).settled ≡ (raw_capture channels rate pins front Cut).settled ++ rest)
+LongerExtends = (channels : ℕ) (rate : Rate) (pins front more : List ℕ) (told : Told) → 0 < channels
+    → (rest : List ℕ) × ((raw_capture channels rate pins (front ++ more) told).settled ≡ (raw_capture channels rate pins front Cut).settled ++ rest)
 
 -- where a cut front holds a fault, every longer input gives the same: this fault and these samples
 abbrev pub FaultStays : Type 0
-FaultStays = (channels : ℕ) (rate : Rate) (pins front more : List ℕ) (stop : Told) (fault : CaptureFault)
+FaultStays = (channels : ℕ) (rate : Rate) (pins front more : List ℕ) (told : Told) (fault : CaptureFault)
     → (raw_capture channels rate pins front Cut).ending ≡ Faulty fault
-    → raw_capture channels rate pins (front ++ more) stop ≡ raw_capture channels rate pins front Cut
+    → raw_capture channels rate pins (front ++ more) told ≡ raw_capture channels rate pins front Cut
 
 -- two readers of as many channels that stand for the same hold the same bytes, and have taken as many
 abbrev pub StandsFixes : Type 0
@@ -26,8 +26,8 @@ StandsFixes = (one other : RawReader) (bytes given : List ℕ) → raw_channels 
 
 -- what a reader has given is a front of what the bytes that it took settle, also where it gives no more
 abbrev pub GivenIsFront : Type 0
-GivenIsFront = (reader : RawReader) (bytes given : List ℕ) (stop : Told) → Stands reader bytes given → raw_given reader ≤ 2 ^ 60
-    → (rest : List ℕ) × ((raw_cap reader bytes stop).settled ≡ given ++ rest)
+GivenIsFront = (reader : RawReader) (bytes given : List ℕ) (told : Told) → Stands reader bytes given → raw_given reader ≤ 2 ^ 60
+    → (rest : List ℕ) × ((raw_cap reader bytes told).settled ≡ given ++ rest)
 
 -- a sample for each whole unit; its bit j is channel pins[j], which is a bit of the unit's bytes, and above the pins it has none
 pub record Levels (unit : ℕ) (pins bytes : List ℕ) : Type 0 where

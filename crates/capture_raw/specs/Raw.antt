@@ -41,12 +41,12 @@ raw_rest unit count Cut = Open
 
 -- how bytes end: a reader stops behind 2^60 of them, and asks for no end there
 abbrev pub raw_ending : ℕ → ℕ → Told → Ending
-raw_ending unit count stop = if nat_le (2 ^ 60) count then Faulty Bytes else raw_rest unit count stop
+raw_ending unit count told = if nat_le (2 ^ 60) count then Faulty Bytes else raw_rest unit count told
 
 -- what the bytes of a raw capture give
 unfoldable pub raw_capture : ℕ → Rate → List ℕ → List ℕ → Told → Captured
-raw_capture channels rate pins bytes stop = record {
+raw_capture channels rate pins bytes told = record {
   head = Good (raw_names channels) rate.num rate.den;
   settled = raw_samples (unit_len channels) pins (take (2 ^ 60) bytes);
-  ending = raw_ending (unit_len channels) (length bytes) stop;
+  ending = raw_ending (unit_len channels) (length bytes) told;
 }

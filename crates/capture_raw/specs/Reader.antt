@@ -55,14 +55,14 @@ Stands r bytes given = StandsAt (raw_unit r) (raw_pins r) r.held bytes given
 
 -- what these bytes give, with its channels, rate and pins
 abbrev pub raw_cap : RawReader → List ℕ → Told → Captured
-raw_cap r bytes stop = raw_capture (raw_channels r) (raw_rate r) (raw_pins r) bytes stop
+raw_cap r bytes told = raw_capture (raw_channels r) (raw_rate r) (raw_pins r) bytes told
 
 -- what an answer means, where these bytes were taken and these samples were given before it
 abbrev pub MeansAt : ℕ → Rate → List ℕ → Front → List ℕ → List ℕ → Result RawStep Failed → Type 0
 MeansAt channels rate pins front bytes given (Ok (GaveRun run)) = StandsAt (unit_len channels) pins front bytes (given ++ samples run)
 MeansAt channels rate pins front bytes given (Ok End) = Ends (raw_capture channels rate pins bytes AtEnd) given Clean
 MeansAt channels rate pins front bytes given (Ok (ShortUnit at)) = Ends (raw_capture channels rate pins bytes AtEnd) given (Faulty (ShortUnitFault at))
-MeansAt channels rate pins front bytes given (Ok Bytes) = (stop : Told) → Ends (raw_capture channels rate pins bytes stop) given (Faulty BytesFault)
+MeansAt channels rate pins front bytes given (Ok Bytes) = (told : Told) → Ends (raw_capture channels rate pins bytes told) given (Faulty BytesFault)
 MeansAt channels rate pins front bytes given (Err failed) = Ends (raw_capture channels rate pins bytes Cut) given Open
 
 -- the same, with the parts of the reader behind the answer

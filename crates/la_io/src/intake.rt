@@ -9,8 +9,8 @@ use std::marker::Model;
 /// The most bytes that are taken from a source.
 pub const MOST_BYTES: u64 = 1 << 60;
 
-/// The bytes that were taken from a source and are still needed, at most `ROOM`, and how many were
-/// taken so far.
+/// A buffer between a source and its reader: the bytes that were taken and are still needed, at most
+/// `ROOM`, and how many were taken so far, at most `MOST_BYTES`.
 #[derive(Drop)]
 pub struct Intake<const ROOM: usize> {
     buf: [u8; ROOM],
@@ -68,7 +68,9 @@ impl<const ROOM: usize> Intake<ROOM> {
         self.start += count;
     }
 
-    /// Reads once, behind what is held, as much as there is room for. 0 is the end.
+    /// Reads once, behind what is held, as much as there is room for, and answers how many bytes
+    /// came: 0 is the end. No more than `MOST_BYTES` are taken in all. `Failed` comes where the source
+    /// failed, and takes nothing.
     pub fn more<S: Source>(&mut self, source: &mut S) -> Result<usize, Failed>
         requires room { length self.old.bytes < ROOM }
         requires few { self.old.taken < 2 ^ 60 }
