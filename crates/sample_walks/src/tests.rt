@@ -11,16 +11,29 @@ fn run(value: Word, len: u64) -> Feed
     Feed::Run(Run { value, len })
 }
 
-// Samples 1 1 1 0 0 1: edges at 3 and 5.
+fn packet() -> Feed {
+    Feed::Packet(Packet {
+        kind: PacketKind::I2cStart,
+        start: 7,
+        end: 9,
+        a: 0,
+        b: 0,
+    })
+}
+
+// Samples 1 1 1 0 0 1: edges at 3 and 5. Packets and the end give nothing.
 #[test]
 fn a_driver_gives_each_edge_once(rt: HostRuntime) {
     let mut driver = Driver::new(Edges::new());
     let mut outs = Outs::new();
+    assert_eq!(rt; driver.wants(), Wire::Logic);
     for (feed, left, floor, note) in [
         (run(1, 3), None, 3, None),
         (run(2, 2), Some(run(2, 1)), 4, Some(note_at(0, 3, 0))),
+        (packet(), None, 4, None),
         (run(2, 1), None, 5, None),
         (run(5, 1), None, 6, Some(note_at(0, 5, 1))),
+        (Feed::End, None, 6, None),
     ] {
         outs.clear();
         let answer = driver.step(feed, &mut outs);
@@ -31,55 +44,19 @@ fn a_driver_gives_each_edge_once(rt: HostRuntime) {
     }
 }
 
-#[test]
-fn packets_and_the_end_give_nothing(rt: HostRuntime) {
-    let mut driver = Driver::new(Edges::new());
-    let mut outs = Outs::new();
-    let packet = Packet {
-        kind: PacketKind::I2cStart,
-        start: 7,
-        end: 9,
-        a: 0,
-        b: 0,
-    };
-    assert_eq!(rt; driver.wants(), Wire::Logic);
-    for feed in [Feed::Packet(packet), Feed::End] {
-        outs.clear();
-        assert_eq!(rt; driver.step(feed, &mut outs), None);
-        assert!(rt; outs.list().is_empty());
-        assert_eq!(rt; driver.floor(), 0);
-    }
-}
-
-// An edge at the first sample of a run that has more samples than may count.
-#[test]
-fn what_is_left_of_a_long_run_is_answered_whole(rt: HostRuntime) {
-    let mut driver = Driver::new(Edges::new());
-    let mut outs = Outs::new();
-    assert_eq!(rt; driver.step(run(0, 1), &mut outs), None);
-    outs.clear();
-    let left = Some(run(1, (1 << 60) - 1));
-    assert_eq!(rt; driver.step(run(1, 1 << 60), &mut outs), left);
-    assert_eq!(rt; outs.list(), [note_at(0, 1, 1)].as_slice());
-}
-
-#[test]
-fn laws_hold(rt: HostRuntime) {
-    walk_laws::<u8>();
-    event_laws::<u8, u8>();
-    let one = Driver::new(Edges::new());
-    let other = Driver::new(Edges::new());
-    one_input_makes_one_driver(&one, &other);
-    assert_eq!(rt; one.floor(), other.floor());
-}
-
 fn is_send<T: Send>(_: &T) {}
 
 fn driver_is_send<L: LogicMachine + Send>(driver: &Driver<L>) {
     is_send(driver);
 }
 
+// A driver can move to another thread.
 #[test]
-fn a_driver_can_move_to_another_thread(_rt: HostRuntime) {
-    driver_is_send(&Driver::new(Edges::new()));
+fn laws_hold(_rt: HostRuntime) {
+    walk_laws::<u8>();
+    event_laws::<u8, u8>();
+    let one = Driver::new(Edges::new());
+    let other = Driver::new(Edges::new());
+    one_input_makes_one_driver(&one, &other);
+    driver_is_send(&other);
 }
