@@ -1,6 +1,10 @@
 -- What holds of each row of the table, and of two decoders of one setup.
 use Rattle.std.specs.Prelude.{ℕ, ◌≡◌, ◌≤◌, ◌<◌, Bool, true, nat_lt, nat_le, ◌&&◌, List, length}
-use Rattle.std.specs.List.{list_all}
+use Rattle.std.specs.List.{filter, list_all}
+use Rattle.la_base.specs.Kinds.{same_wire, wire_of}
+use Rattle.la_base.specs.declared.wires.Wire.{Wire}
+use Rattle.la_base.specs.declared.wires.Wire.TheVariants.{Logic}
+use Rattle.decoder_core.specs.Inputs.{Item, Sample, Pack}
 use Rattle.decoder_core.specs.Driving.{SameState}
 use Rattle.decoder_set.specs.declared.any.AnyMachine.{AnyMachine}
 use Rattle.decoder_set.specs.declared.any.AnyMachine.TheVariants as machine
@@ -25,6 +29,15 @@ pub record IsWhole (row : Row) : Type 0 where
   pub few : length row.options ≤ 8
   pub usual : list_all (λ option. usual_fits option.form) row.options ≡ true
   pub groups : list_all (λ group. list_all (λ place. nat_lt place (length row.options)) group) row.groups ≡ true
+
+-- a wire carries samples, or the packets of its own
+abbrev pub carries : Wire → Item → Bool
+carries wire (Sample value) = same_wire Logic wire
+carries wire (Pack packet) = same_wire (wire_of packet.kind) wire
+
+-- what a wire carries of an input
+abbrev pub carried : Wire → List Item → List Item
+carried wire input = filter (carries wire) input
 
 -- two machines hold the same
 abbrev pub SameMachine : AnyMachine → AnyMachine → Type 0

@@ -1,10 +1,12 @@
 // Laws of the table and of its decoders.
 ghost use Rattle.std.specs.Prelude.{ℕ, ◌≡◌, ◌<◌, Bool, true, IfSome, List, Option, Some, slice_get};
+ghost use Rattle.la_base.specs.declared.samples.Rate.{Rate};
 ghost use Rattle.decoder_core.specs.Inputs.{Item};
 ghost use Rattle.decoder_set.specs.Kinds.{OptionRow, Pin, Row, kind_of, kind_row};
 ghost use Rattle.decoder_set.specs.Opening.{HasConsumed, setup_of};
+ghost use Rattle.decoder_set.specs.Setups.{outs_by};
 ghost use Rattle.decoder_set.specs.Values.{channel_at, maybe_channel_at, number_at, row_in_range};
-ghost use Rattle.decoder_set.specs.Whole.{IsWhole, NumberFits, SameDecoder, usual_fits};
+ghost use Rattle.decoder_set.specs.Whole.{IsWhole, NumberFits, SameDecoder, carried, usual_fits};
 ghost use Rattle.decoder_set.specs.declared.kinds.Kind.{Kind};
 
 use crate::AnyDecoder;
@@ -14,6 +16,12 @@ use crate::AnyDecoder;
 pub fn kinds_are_whole()
     ensures found { (kind : Kind) → kind_of (kind_row kind).name ≡ Some kind }
     ensures whole { (kind : Kind) → IsWhole (kind_row kind) }
+{}
+
+/// Each kind reads the wire that its row says: what this doesn't carry changes nothing of what it gives.
+/// (A law; nothing is done.)
+pub fn kinds_read_their_wires()
+    ensures { (kind : Kind) (values : List (Option ℕ)) (rate : Rate) (input : List Item) → outs_by kind values rate (carried (kind_row kind).input input) ≡ outs_by kind values rate input }
 {}
 
 /// Of values in range, by any row: an option's number is one that it takes, and a channel's bit is one

@@ -12,7 +12,9 @@ mod values;
 
 pub use any::AnyDecoder;
 pub use kinds::{Asked, Kind, OptForm, OptRow};
-pub use laws::{kinds_are_whole, one_input_makes_one_decoder, values_in_range_fit};
+pub use laws::{
+    kinds_are_whole, kinds_read_their_wires, one_input_makes_one_decoder, values_in_range_fit,
+};
 pub use setup::{MOST_OPTIONS, OptValues, Setup};
 pub use table::{
     KINDS, asked_of, class_of, groups_of, input_of, kind_name, kind_of, options_of, output_of,

@@ -5,7 +5,7 @@ use crate::kinds::KindRow;
 use crate::values::row_in_range;
 use crate::{
     AnyDecoder, Kind, MOST_OPTIONS, OptForm, OptRow, OptValues, Setup, asked_of, class_of,
-    groups_of, input_of, kind_name, kind_of, kinds_are_whole, note_text,
+    groups_of, input_of, kind_name, kind_of, kinds_are_whole, kinds_read_their_wires, note_text,
     one_input_makes_one_decoder, options_of, output_of,
 };
 use decoder_core::{Machine, OptFault, Outs};
@@ -156,6 +156,7 @@ fn values_of_any_kind_go_by_its_row(rt: HostRuntime) {
     assert_eq!(rt; groups_of(Kind::I2c).len(), 0);
     assert_eq!(rt; asked_of(Kind::I2c).len(), 0);
     kinds_are_whole();
+    kinds_read_their_wires();
     values_in_range_fit();
 }
 
