@@ -1,5 +1,5 @@
 -- What a wire carries of an input is all that a decoder reads of it.
-use Rattle.std.proofs.Common.{◌≡◌, ℕ, ◌^◌, Bool, true, false, cond, List, [], ◌∷◌, take, filter, Option, refl, ap}
+use Rattle.std.proofs.Common.{◌≡◌, ℕ, ◌^◌, Bool, true, false, cond, List, [], ◌∷◌, take, Option, refl, ap}
 use Rattle.la_base.specs.declared.samples.Rate.{Rate}
 use Rattle.la_base.specs.declared.wires.Wire.TheVariants.{Logic}
 use Rattle.dec_i2c.specs.Bus.{i2c_outs}

@@ -1,5 +1,5 @@
 -- Two decoders of one setup that have consumed one input hold the same.
-use Rattle.std.proofs.Common.{◌≡◌, ℕ, ◌<◌, List, Option, sym, ◌∙◌, ap, subst}
+use Rattle.std.proofs.Common.{◌≡◌, ℕ, ◌<◌, List, Option, sym, ◌∙◌, subst}
 use Rattle.std.proofs.Math.Bridge.{le_prop}
 use Rattle.std.proofs.Math.Path.{to_path_p}
 use Rattle.la_base.specs.declared.samples.Rate.{Rate}

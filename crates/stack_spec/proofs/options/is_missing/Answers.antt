@@ -1,4 +1,4 @@
-use Rattle.std.proofs.Common.{◌∙◌, ◌&&◌, ◌||◌, Bool, ℕ, List, not, sym, ap, map, is_some}
+use Rattle.std.proofs.Common.{◌∙◌, ◌&&◌, ◌||◌, Bool, ℕ, not, sym, ap, map, is_some}
 use Rattle.std.specs.List.{list_any}
 use Rattle.std.proofs.lemmas.List.Folds.{list_all-map}
 use Rattle.decoder_set.specs.Kinds.{opt_row}
