@@ -6,7 +6,7 @@ use crate::values::row_in_range;
 use crate::{
     AnyDecoder, Kind, MOST_OPTIONS, OptForm, OptRow, OptValues, Setup, asked_of, class_of,
     groups_of, input_of, kind_name, kind_of, kinds_are_whole, kinds_read_their_wires, note_text,
-    one_input_makes_one_decoder, options_of, output_of,
+    one_input_makes_one_decoder, options_of, output_of, values_in_range_fit,
 };
 use decoder_core::{Machine, OptFault, Outs};
 use la_base::{Feed, Note, Out, Packet, PacketKind, Rate, Run, Wire};
