@@ -21,7 +21,8 @@ fn packet() -> Feed {
     })
 }
 
-// Samples 1 1 1 0 0 1: edges at 3 and 5. Packets and the end give nothing.
+// Samples 1 1 1 0 0 1 0: edges at 3, 5 and 6. Packets and the end give nothing, and what is left of a run
+// that has more samples than may count is answered whole.
 #[test]
 fn a_driver_gives_each_edge_once(rt: HostRuntime) {
     let mut driver = Driver::new(Edges::new());
@@ -33,7 +34,13 @@ fn a_driver_gives_each_edge_once(rt: HostRuntime) {
         (packet(), None, 4, None),
         (run(2, 1), None, 5, None),
         (run(5, 1), None, 6, Some(note_at(0, 5, 1))),
-        (Feed::End, None, 6, None),
+        (
+            run(0, 1 << 60),
+            Some(run(0, (1 << 60) - 1)),
+            7,
+            Some(note_at(0, 6, 0)),
+        ),
+        (Feed::End, None, 7, None),
     ] {
         outs.clear();
         let answer = driver.step(feed, &mut outs);
