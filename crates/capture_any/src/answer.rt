@@ -7,6 +7,7 @@ use la_base::Run;
 use la_io::{CaptureError, CaptureFault, Failed};
 
 /// The answer of a raw reader.
+#[inline(always)]
 pub fn answer_of(step: Result<RawStep, Failed>) -> Result<Option<Run>, CaptureError>
     ensures { result ≡ answer_of step }
 {

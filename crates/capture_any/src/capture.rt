@@ -97,6 +97,8 @@ impl Capture {
     /// The next run, or `None` at a clean end. After every answer but a run it is closed. `Fault`
     /// comes where the capture has one, and `Read` where the source failed, both after all samples
     /// that came before.
+    // Inlined, since its answer is as wide as the largest fault, and is looked at in one place alone.
+    #[inline(always)]
     pub fn next<S: Source>(&mut self, source: &mut S) -> Result<Option<Run>, CaptureError>
         requires { is_open_of self.old ≡ true }
         ensures next { Next self.old self.new (S.left source.old) (S.left source.new) result }

@@ -89,7 +89,9 @@ fn equal_front(a: &[u8], b: &[u8]) -> usize
     done
 }
 
-// How many units of one byte give the same sample.
+// How many units of one byte give the same sample. It isn't inlined, so that its loop has the registers
+// that it needs.
+#[inline(never)]
 fn alike_bytes(bytes: &[u8], mask: u8) -> usize
     requires { 1 ≤ length bytes.now }
     ensures some { 1 ≤ result }

@@ -143,7 +143,7 @@ impl RawReader {
     /// joins neighbouring units that give the same sample, as far as they are held: where units
     /// differ in channels alone that no pin selects, they are one run. After every answer but a run
     /// it is closed. `Failed` comes where the source failed, after all samples that came before.
-    #[inline]
+    #[inline(always)]
     pub fn next<S: Source>(&mut self, source: &mut S) -> Result<RawStep, Failed>
         requires { raw_open self.old ≡ true }
         ensures next { Next self.old self.new (S.left source.old) (S.left source.new) result }

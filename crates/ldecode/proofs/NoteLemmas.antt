@@ -23,6 +23,11 @@ pub none_shown : (shown : Bool) → where_shown shown [] ≡ []
 none_shown true = refl
 none_shown false = refl
 
+-- no outputs have no notes
+pub no_outs : (instance : ℕ) (shown : Bool) (outs : List Out) (old : List Entry) → length outs ≡ 0 → old ≡ old ++ map (entry_of instance) (where_shown shown (notes_of outs))
+no_outs instance shown [] old none = sym (ap (λ (l : List Note). old ++ map (entry_of instance) l) (none_shown shown) ∙ append-nil old)
+no_outs instance shown (out ∷ outs) old none = absurd (omega (arith, none))
+
 pub shown-append : (shown : Bool) (xs ys : List Note) → where_shown shown (xs ++ ys) ≡ where_shown shown xs ++ where_shown shown ys
 shown-append true xs ys = refl
 shown-append false xs ys = refl

@@ -26,7 +26,7 @@ pub fn feed_all<M: Machine>(
 {
     for (place, machine) in machines.iter_mut().enumerate() {
         let instance = place as u32;
-        feed(machine, instance, stack.shown(instance), run, outs, entries)?;
+        feed(machine, stack, instance, run, outs, entries)?;
     }
     Ok(())
 }

@@ -46,14 +46,15 @@ pub fn lines_hold(alt: &Alt, before: Option<Word>, now: Word) -> bool
 {
     let rises = rises(before, now);
     let falls = falls(before, now);
-    let edges = rises | falls;
-    if !none_in(alt.low, now) || !all_in(alt.high, now) {
-        return false;
-    }
+    // Edges are the rarest, so they are looked at first.
     if !all_in(alt.rise, rises) || !all_in(alt.fall, falls) {
         return false;
     }
+    let edges = rises | falls;
     if !all_in(alt.edge, edges) {
+        return false;
+    }
+    if !none_in(alt.low, now) || !all_in(alt.high, now) {
         return false;
     }
     none_in(alt.steady, edges)

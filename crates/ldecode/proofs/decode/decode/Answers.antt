@@ -15,12 +15,21 @@ use Rattle.ldecode.proofs.decode.decode.Goals as goal
 pub returns-in-NoMemory-clause-lists : goal.returns-in-NoMemory-clause-lists
 returns-in-NoMemory-clause-lists g c = λ before told at stands fresh.
     let machine = g.M.Machine in
-    let listing = samples_listing machine.outputs (map machine.setup c.args.machines.items) (instances_in c.args.stack.now) (is_shown (stack_meaning c.args.stack.now).shown) in
+    let setups = map machine.setup c.args.machines.items in
+    let shown = is_shown (stack_meaning c.args.stack.now).shown in
     let left = g.S.Source.left in
     let old = g.K.Sink.written c.args.sink.now in
-    lists_cut (form_of c.args.capture.now) (pins_of c.args.capture.now) _ (λ _. Unit {0}) before told (left c.args.source.now) (left c.collect.new.source)
-    (λ given. AppendsFront old old (listing given)) (λ given front. nothing_front old (listing given)) (λ given whole. nothing_front old (listing given)) NoMemory
-    (c.in-NoMemory.ensures.gathers before told at stands (subst (Consumed machine.setup machine.consumed machine.outputs []) (sym c.deref_mut.ensures.value) fresh))
+    let form = form_of c.args.capture.now in
+    let pins = pins_of c.args.capture.now in
+    let entries = c.collect.new.entries.items in
+    let end = NoMemory in
+    let listing = samples_listing machine.outputs setups (instances_in c.args.stack.now) shown in
+    let lists : Lists form pins (Gathered machine.outputs setups shown entries) (λ _. Unit {0}) before told (left c.args.source.now) (left c.collect.new.source) end =
+    subst (λ (l : List g.row.M.Denot). Consumed machine.setup machine.consumed machine.outputs [] l
+    → Lists form pins (Gathered machine.outputs (map machine.setup l) shown entries) (λ _. Unit {0}) before told (left c.args.source.now) (left c.collect.new.source) end)
+    c.deref_mut.ensures.value (c.in-NoMemory.ensures.gathers before told at stands) fresh in
+    lists_cut form pins (Gathered machine.outputs setups shown entries) (λ _. Unit {0}) before told (left c.args.source.now) (left c.collect.new.source)
+    (λ given. AppendsFront old old (listing given)) (λ given front. nothing_front old (listing given)) (λ given whole. nothing_front old (listing given)) end lists
     (λ given. Appends old old (listing given)) NoMemory tt
 
 pub returns-in-Ok-clause-lists : goal.returns-in-Ok-clause-lists

@@ -6,6 +6,8 @@ use Rattle.la_base.specs.declared.wires.Feed.TheVariants.{Run as RunFeed}
 use Rattle.decoder_core.specs.Driving.{Steps}
 use Rattle.decoder_core.specs.Inputs.{Item, Sample}
 use Rattle.decoder_core.proofs.Counting.{run_has_items}
+use Rattle.stack_spec.specs.Accepting.{is_shown}
+use Rattle.stack_spec.specs.Stacks.{stack_meaning}
 use Rattle.ldecode.proofs.NoteLemmas.{Feeding, feeding_starts, feeding_on}
 use Rattle.ldecode.proofs.feed.feed.Goals as goal
 
@@ -13,7 +15,7 @@ pub loop-rest-init : goal.loop-rest-init
 loop-rest-init g c =
     let machine = g.M.Machine in
     record {
-      feeding = feeding_starts (machine.consumed c.args.machine.now) (machine.outputs (machine.setup c.args.machine.now)) c.args.instance c.args.shown (map Sample (samples c.args.run)) c.args.entries.now.items (RunFeed c.args.run) refl (run_has_items c.args.run);
+      feeding = feeding_starts (machine.consumed c.args.machine.now) (machine.outputs (machine.setup c.args.machine.now)) c.args.instance (is_shown (stack_meaning c.args.stack.now).shown c.args.instance) (map Sample (samples c.args.run)) c.args.entries.now.items (RunFeed c.args.run) refl (run_has_items c.args.run);
       setup = refl;
     }
 
@@ -24,9 +26,9 @@ loop-rest-preserved g c =
     let same : machine.outputs (machine.setup c.loop-rest.machine) ≡ outputs = ap machine.outputs c.loop-rest.invariant.setup in
     let so_far = c.loop-rest.invariant.feeding in
     record {
-      feeding = feeding_on (machine.consumed c.args.machine.now) (machine.outputs (machine.setup c.args.machine.now)) c.args.instance c.args.shown (map Sample (samples c.args.run)) c.args.entries.now.items
+      feeding = feeding_on (machine.consumed c.args.machine.now) (machine.outputs (machine.setup c.args.machine.now)) c.args.instance (is_shown (stack_meaning c.args.stack.now).shown c.args.instance) (map Sample (samples c.args.run)) c.args.entries.now.items
           (machine.consumed c.loop-rest.machine) (machine.consumed c.step-rest.new.self) c.in-Some.feed c.step-rest.result c.list.result.now c.loop-rest.entries.items c.gather.new.entries.items
-          (subst (λ (rest : Option Feed). Feeding (machine.consumed c.args.machine.now) (machine.consumed c.loop-rest.machine) outputs c.args.instance c.args.shown (map Sample (samples c.args.run)) rest c.args.entries.now.items c.loop-rest.entries.items) c.in-Some.is so_far)
+          (subst (λ (rest : Option Feed). Feeding (machine.consumed c.args.machine.now) (machine.consumed c.loop-rest.machine) outputs c.args.instance (is_shown (stack_meaning c.args.stack.now).shown c.args.instance) (map Sample (samples c.args.run)) rest c.args.entries.now.items c.loop-rest.entries.items) c.in-Some.is so_far)
           (subst (λ (out : List Out). Steps (machine.consumed c.loop-rest.machine) (machine.consumed c.step-rest.new.self) outputs c.in-Some.feed c.step-rest.result out) (sym c.list.ensures.list)
           (subst (λ (f : List Item → List Out). Steps (machine.consumed c.loop-rest.machine) (machine.consumed c.step-rest.new.self) f c.in-Some.feed c.step-rest.result c.step-rest.new.into) same c.step-rest.ensures.step))
           c.in_ok-gather.ensures;

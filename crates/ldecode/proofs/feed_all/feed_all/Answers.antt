@@ -17,7 +17,6 @@ loop-place-preserved g c =
     record {
       fed = fed_on machine.setup machine.consumed machine.outputs items shown c.args.machines.now c.loop-place.machines c.loop-place.place within i.rest c.loop-place.auto.machines
           c.index-machines-place.result c.feed.new.machine c.args.entries.now.items c.loop-place.entries.items c.feed.new.entries.items i.fed c.in_ok-feed.ensures.setup
-          (subst (λ (shows : Bool). Fed (machine.consumed (get_or c.loop-place.machines c.loop-place.place c.index-machines-place.result)) (machine.consumed c.feed.new.machine)
-          (machine.outputs (machine.setup (get_or c.loop-place.machines c.loop-place.place c.index-machines-place.result))) c.loop-place.place shows items c.loop-place.entries.items c.feed.new.entries.items) c.shown.ensures c.in_ok-feed.ensures.fed);
+          c.in_ok-feed.ensures.fed;
       rest = rest_on machine.setup machine.consumed machine.outputs items shown c.args.machines.now c.loop-place.machines c.loop-place.place within i.rest c.loop-place.auto.machines c.index-machines-place.result c.feed.new.machine;
     }
