@@ -20,15 +20,16 @@ fn put_note(line: &mut LineBuf, kind: Kind, kind_number: u32, note: Note)
     ensures { line.new ≡ line_as kind kind_number note }
 {
     line.push_number(note.start);
-    text(line, "-");
+    line.push_byte(b'-');
     line.push_number(note.end);
-    text(line, " ");
+    line.push_byte(b' ');
     text(line, kind_name(kind));
-    text(line, "-");
+    line.push_byte(b'-');
     line.push_number(u64::from(kind_number));
-    text(line, ": ");
+    line.push_byte(b':');
+    line.push_byte(b' ');
     note_text(kind, note, line);
-    text(line, "\n");
+    line.push_byte(b'\n');
 }
 
 // Puts into an empty line the one of a note; nothing where the stack has no such instance.

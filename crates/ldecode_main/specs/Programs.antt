@@ -17,7 +17,7 @@ TextWritten text sink code =
 
 -- the same of a text that takes memory to make
 abbrev pub MadeWritten : (List ℕ → Type 0) → Stream → ℕ → Type 0
-MadeWritten Is sink code = ((text : List ℕ) × Is text × TextWritten text sink code) ⊎ (Appends sink.old sink.new [] × (code ≡ code_of status.NoMemory))
+MadeWritten Is sink code = ((text : List ℕ) × Is text × TextWritten text sink code) ⊎ (Appends sink.old sink.new [] × (sink.failed_new ≡ sink.failed_old) × (code ≡ code_of status.NoMemory))
 
 -- a run of the words keeps its promise, and its status makes the exit status
 pub record RunEnds (words : List (List ℕ)) (source sink notices : Stream) (same : Type 0) (code : ℕ) : Type 0 where
