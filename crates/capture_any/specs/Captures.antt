@@ -32,6 +32,6 @@ HasNoHead (Raw channels rate) = Unit {0}
 abbrev pub TakesNoMemory : Form → Type 0
 TakesNoMemory (Raw channels rate) = Unit {0}
 
--- a reader of this form may want memory with the samples given that the first `count` of the bytes settle which it took
+-- a reader of this form that took these bytes may want memory where it has given what the first `count` of them settle
 abbrev pub WantsMemoryAt : Form → List ℕ → ℕ → Type 0
 WantsMemoryAt (Raw channels rate) bytes count = ⊥

@@ -26,8 +26,9 @@ impl Capture {
     ghost use Rattle.capture_any.specs.Captures.{IsForm, HasNoHead, TakesNoMemory};
     ghost use Rattle.capture_any.specs.Reading.{Stands, Next, Opens, CaptureCause, stays_open, form_of, pins_of, names_of, rate_of, is_open_of, given_by};
 
-    /// Opens a capture of this form: reads its head, and no further than it must. `Fault` comes
-    /// exactly where the head has one, and `Read` where the source failed before the head was whole.
+    /// Opens a capture of this form: reads its head; nothing is read where the form's head takes no
+    /// bytes. `Fault` comes exactly where the head has one, and `Read` where the source failed before
+    /// the head was whole.
     pub fn open<S: Source>(
         alloc: Global,
         form: Form,

@@ -1,16 +1,11 @@
 -- Samples, and the runs that stand for them.
 use Rattle.std.specs.Prelude.{ℕ, zero, suc, Bool, List, replicate, ◌==◌, slice_index, Option, Some, None}
 use Rattle.std.specs.Int.{bit_at}
-use Rattle.std.specs.List.{flat_map}
 use Rattle.la_base.specs.declared.samples.Run.{Run}
 
 -- the samples that a run stands for; not opened by itself, since a run may be very long
 unfoldable pub samples : Run → List ℕ
 samples run = replicate run.len run.value
-
--- the samples that runs stand for, one run after another
-abbrev pub flat : List Run → List ℕ
-flat runs = flat_map samples runs
 
 -- whether a line is high in a sample
 abbrev pub is_high : ℕ → ℕ → Bool

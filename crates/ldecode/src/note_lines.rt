@@ -20,16 +20,15 @@ fn put_note(line: &mut LineBuf, kind: Kind, kind_number: u32, note: Note)
     ensures { line.new ≡ line_as kind kind_number note }
 {
     line.push_number(note.start);
-    line.push_byte(b'-');
+    text(line, "-");
     line.push_number(note.end);
-    line.push_byte(b' ');
+    text(line, " ");
     text(line, kind_name(kind));
-    line.push_byte(b'-');
+    text(line, "-");
     line.push_number(u64::from(kind_number));
-    line.push_byte(b':');
-    line.push_byte(b' ');
+    text(line, ": ");
     note_text(kind, note, line);
-    line.push_byte(b'\n');
+    text(line, "\n");
 }
 
 // Puts into an empty line the one of a note; nothing where the stack has no such instance.

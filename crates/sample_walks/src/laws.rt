@@ -6,8 +6,10 @@ ghost use Rattle.sample_walks.specs.Walks.{given, walked};
 ghost use Rattle.sample_walks.specs.Events.{EventWalk, by_events, PushedEvents};
 ghost use Rattle.sample_walks.specs.Promises.{KeepsPromises};
 
-/// Outputs that are those of a sound walk are quiet, never fall, keep their front, are few at each sample, and have a
-/// floor; and the samples fix the place of the last stop.
+/// What follows for outputs that are those of a sound walk. Samples that meet nothing add nothing, and
+/// the samples fix the place of the last stop. No samples give nothing, what was given stays, the
+/// starts of packets never fall, one more sample adds at most 16 outputs, and nothing that more samples
+/// add starts before the near place.
 pub fn walk_laws<H>()
     ensures { KeepsPromises H }
 {}

@@ -47,7 +47,7 @@ right_from before (instance ∷ rest) = is_right before instance && right_from (
 abbrev pub is_sound : List Instance → Bool
 is_sound instances = nat_le (length instances) most_instances && right_from [] instances
 
--- an instance at a place stands on none and reads samples, or on an earlier one that gives what it wants
+-- an instance at a place stands on none and reads samples, or on an earlier one that gives what it reads
 abbrev pub HasParent : List Instance → ℕ → Instance → Option ℕ → Type 0
 HasParent instances place instance None = (kind_row instance.kind).input ≡ Logic
 HasParent instances place instance (Some parent) = (parent < place) × (output_at instances parent ≡ (kind_row instance.kind).input)

@@ -85,7 +85,7 @@ pub record SameNumbers (one other : Waiter) : Type 0 where
   pub from : one.from ≡ other.from
   pub last : one.last ≡ other.last
 
--- a list of samples, its last stop and its condition make one waiter
+-- waiters with equal alternatives and last stops that stand for one list hold equal numbers
 abbrev pub OneWaiter : Type 0
 OneWaiter = (one other : Waiter) (list : List ℕ) → alts_of one ≡ alts_of other → wait_from one ≡ wait_from other → Waits one list → Waits other list → SameNumbers one other
 
