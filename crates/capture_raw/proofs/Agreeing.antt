@@ -1,9 +1,9 @@
 -- Bits that agree, and units that give the same sample.
-use Rattle.std.proofs.Common.{◌≡◌, ℕ, zero, suc, ◌+◌, ◌-◌, ◌*◌, ◌/◌, ◌%◌, ◌^◌, ◌≤◌, ◌<◌, ◌⊎◌, inl, inr, List, [], ◌∷◌, ◌++◌, length, take, drop, get_or, set, replicate, map, sym, ◌∙◌, ap, arith, min, max, bit_and, bit_or, bit_xor, length-take-le, length-drop, slice_range, subst}
+use Rattle.std.proofs.Common.{◌≡◌, ℕ, zero, suc, ◌+◌, ◌-◌, ◌*◌, ◌/◌, ◌%◌, ◌^◌, ◌≤◌, ◌<◌, ◌⊎◌, inl, inr, List, [], ◌∷◌, ◌++◌, length, take, drop, get_or, set, replicate, map, sym, ◌∙◌, ap, arith, min, max, bit_and, bit_or, bit_xor, length-take-le, length-drop, slice_range}
 use Rattle.std.specs.Int.{bit_at}
 use Rattle.std.proofs.lemmas.Nat.{one_shl}
 use Rattle.std.proofs.lemmas.Nat.Bits.{bit_at_and, bit_at_or, bit_at_xor, bit_at-lt, bit_at-zero, bit_at-pow_same, bit_at_above, bit_at_cat_low}
-use Rattle.std.proofs.lemmas.List.{replicate_more, append-nil, drop_more, take_rest, get_or-take, get_or-drop, get_or-set_same, get_or-set_other}
+use Rattle.std.proofs.lemmas.List.{replicate_more, append-nil, drop_more, get_or-take, get_or-drop, get_or-set_same, get_or-set_other}
 use Rattle.std.proofs.Math.Seq.{take-add}
 use Rattle.list_cuts.specs.Groups.{groups}
 use Rattle.list_cuts.proofs.GroupLaws.{groups_first, groups_short}

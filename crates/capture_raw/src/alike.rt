@@ -99,6 +99,15 @@ fn alike_bytes(bytes: &[u8], mask: u8) -> usize
     ensures alike { AllAgree mask (slice_index bytes.now 0) bytes.now result }
 {
     let first = bytes[0];
+    // Most runs are the shortest that there are.
+    if bytes.len() > 2 {
+        if (bytes[1] ^ first) & mask != 0 {
+            return 1;
+        }
+        if (bytes[2] ^ first) & mask != 0 {
+            return 2;
+        }
+    }
     let near = bytes.len().min(NEAR);
     let count = agreeing_bytes(bytes, first, mask, 1, near);
     if count < near {

@@ -2,7 +2,7 @@
 use Rattle.std.proofs.Common.{◌≡◌, ◌≢◌, inl, inr, ℕ, ◌+◌, ◌<◌, ◌≤◌, List, [], ◌∷◌, ◌++◌, length, sym, subst, arith}
 use Rattle.std.proofs.lemmas.Bool.{cases_eq}
 use Rattle.wait_cond.specs.declared.alt.Alt.{Alt}
-use Rattle.wait_cond.specs.Stops.{MetIn, NoneMet, IsStop, Stop, Chain}
+use Rattle.wait_cond.specs.Stops.{MetIn, NoneMet, Stop, Chain}
 use Rattle.wait_cond.proofs.ChainLemmas.{chain_more}
 
 -- these are the stops before place `at`, and the wait behind them begins at `from`

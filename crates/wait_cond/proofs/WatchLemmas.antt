@@ -1,12 +1,13 @@
--- Conditions that an edge alone can meet, where no line changes that they watch.
-use Rattle.std.proofs.Common.{◌≡◌, ◌≢◌, inl, inr, ℕ, ◌+◌, ◌<◌, ◌≤◌, ◌%◌, min, max, List, [], ◌∷◌, ◌++◌, length, slice_get, Option, Some, sym, ◌∙◌, ap, subst, arith, bit_and, bit_or, bit_xor}
+-- Conditions that an edge alone can meet, where no line changes that they watch; and conditions of lines that are high, where one is low.
+use Rattle.std.proofs.Common.{◌≡◌, ◌≢◌, inl, inr, ℕ, ◌+◌, ◌≤◌, ◌%◌, min, max, List, [], ◌∷◌, ◌++◌, Option, Some, sym, ◌∙◌, ap, subst, arith, bit_and, bit_or, bit_xor, None}
 use Rattle.std.specs.Int.{bit_at}
 use Rattle.std.proofs.lemmas.Nat.Bits.{bit_at_and, bit_at_or, bit_at_xor, bit_at-lt, bit_at-zero, same_from_bits}
 use Rattle.std.proofs.lemmas.Bool.{cases_eq}
-use Rattle.wait_cond.specs.Meets.{LinesHold, AllIn}
+use Rattle.wait_cond.specs.Meets.{Rises, LinesHold, AllIn}
 use Rattle.wait_cond.specs.Standing.{FirstStanding}
-use Rattle.wait_cond.specs.Watching.{edge_lines, Watches, NeverMet}
+use Rattle.wait_cond.specs.Watching.{edge_lines, high_lines, Watches, AskHigh, NeverMet}
 use Rattle.wait_cond.specs.declared.alt.Alt.{Alt}
+use Rattle.wait_cond.proofs.Masks.{all_in_no}
 use Rattle.wait_cond.proofs.Sets.{get_push}
 
 -- one alternative
@@ -27,6 +28,43 @@ watch_more alts alt watched lines all is watches how i other got = elim (get_pus
   where
     inside : (line : ℕ) → 1 ≤ max (bit_at watched line) (bit_at lines line) → bit_at all line ≡ 1
     inside line some = omega (arith, ap (λ (n : ℕ). bit_at n line) how.2, bit_at_or watched lines line, bit_at-lt watched line, bit_at-lt lines line, some)
+
+-- the same of lines that are asked to be high
+pub ask_one : (alt : Alt) (lines : ℕ) → lines ≡ high_lines alt → AskHigh lines (alt ∷ [])
+ask_one alt lines is i other got = elim (get_push [] alt i other got) [
+  | inl none ↦ absurd cc
+  | inr last ↦ subst (λ (a : Alt). AllIn lines (high_lines a)) last.1 (subst (λ (n : ℕ). AllIn lines n) is (λ line one. one))
+]
+
+pub ask_more : (alts : List Alt) (alt : Alt) (high lines : ℕ) → lines ≡ high_lines alt → AskHigh high alts → AskHigh (bit_and high lines) (alts ++ alt ∷ [])
+ask_more alts alt high lines is asks i other got = elim (get_push alts alt i other got) [
+  | inl front ↦ λ line one. asks i other front line (both line one).0
+  | inr last ↦ subst (λ (a : Alt). AllIn (bit_and high lines) (high_lines a)) last.1
+      (subst (λ (n : ℕ). AllIn (bit_and high lines) n) is (λ line one. (both line one).1))
+]
+  where
+    both : (line : ℕ) → bit_at (bit_and high lines) line ≡ 1 → (bit_at high line ≡ 1) × (bit_at lines line ≡ 1)
+    both line one =
+        let bit = bit_at_and high lines line in
+        (omega (arith, bit, one, bit_at-lt high line, bit_at-lt lines line), omega (arith, bit, one, bit_at-lt high line, bit_at-lt lines line))
+
+-- a line that rises is high
+risen : (before : Option ℕ) (now line : ℕ) → Rises before now line → bit_at now line ≡ 1
+risen None now line r = absurd r
+risen (Some before) now line r = r.1
+
+-- where one of them is low, none is met
+pub never_low : (high now : ℕ) (before : Option ℕ) (alts : List Alt) → bit_and high now ≢ high → AskHigh high alts → NeverMet alts before now
+never_low high now before alts not asks from q = record {
+  each = λ i one. absurd (omega (arith, one, bit_at-zero i));
+  all = λ i alt got meets. absurd (not (all_in_no high now (λ line one. is_high alt meets.lines line (asks i alt got line one))));
+}
+  where
+    is_high : (alt : Alt) → LinesHold alt before now → (line : ℕ) → bit_at (high_lines alt) line ≡ 1 → bit_at now line ≡ 1
+    is_high alt holds line one = elim (cases_eq (bit_at alt.high line) 1) [
+      | inl is ↦ holds.high line is
+      | inr not_high ↦ risen before now line (holds.rise line (omega (arith, one, not_high, bit_at_or alt.high alt.rise line, bit_at-lt alt.high line, bit_at-lt alt.rise line)))
+    ]
 
 module _ (watched before now : ℕ) (same : bit_and (bit_xor before now) watched ≡ 0) where
   -- a line that is watched doesn't change

@@ -1,4 +1,4 @@
--- Conditions that an edge alone can meet.
+-- Conditions that an edge alone can meet, or only while lines are high.
 use Rattle.std.specs.Prelude.{ℕ, ◌≡◌, ◌≢◌, List, slice_get, Option, Some, bit_or}
 use Rattle.wait_cond.specs.Meets.{AllIn}
 use Rattle.wait_cond.specs.Stops.{MetSet}
@@ -11,6 +11,14 @@ edge_lines alt = bit_or (bit_or alt.rise alt.fall) alt.edge
 -- each alternative asks an edge of a line, and these are such lines of all of them
 abbrev pub Watches : ℕ → List Alt → Type 0
 Watches lines alts = (i : ℕ) (alt : Alt) → slice_get alts i ≡ Some alt → (edge_lines alt ≢ 0) × AllIn (edge_lines alt) lines
+
+-- the lines that an alternative asks to be high, also those that rise
+abbrev pub high_lines : Alt → ℕ
+high_lines alt = bit_or alt.high alt.rise
+
+-- each alternative asks these lines to be high
+abbrev pub AskHigh : ℕ → List Alt → Type 0
+AskHigh lines alts = (i : ℕ) (alt : Alt) → slice_get alts i ≡ Some alt → AllIn lines (high_lines alt)
 
 -- no alternative is met at a sample, however far it lies behind the last stop
 abbrev pub NeverMet : List Alt → Option ℕ → ℕ → Type 0

@@ -1,6 +1,6 @@
 // Conditions.
 ghost use Rattle.std.specs.Prelude.{◌≡◌, ◌≢◌, ◌<◌, ◌≤◌, ◌∷◌, ◌++◌, [], length, Option, bit_or, true};
-ghost use Rattle.wait_cond.specs.Watching.{edge_lines, Watches, NeverMet};
+ghost use Rattle.wait_cond.specs.Watching.{edge_lines, high_lines, Watches, AskHigh, NeverMet};
 
 use crate::Alt;
 use arrayvec::ArrayVec;
@@ -12,8 +12,11 @@ pub struct Cond {
     alts: ArrayVec<Alt, 8>,
     // the lines of which the alternatives ask an edge, where each of them does; else 0
     watched: Word,
+    // the lines that each alternative asks to be high
+    high: Word,
     ghost some: { 1 ≤ length alts.items },
     ghost watches: { watched ≢ 0 → Watches watched alts.items },
+    ghost asks: { AskHigh high alts.items },
 }
 
 impl Cond {
@@ -24,9 +27,14 @@ impl Cond {
         ensures { cond_alts result ≡ alt ∷ [] }
     {
         let watched = edge_lines(&alt);
+        let high = high_lines(&alt);
         let mut alts = ArrayVec::new();
         alts.push(alt);
-        Cond { alts, watched }
+        Cond {
+            alts,
+            watched,
+            high,
+        }
     }
 
     /// Adds an alternative behind the others.
@@ -35,8 +43,10 @@ impl Cond {
         ensures { cond_alts self.new ≡ cond_alts self.old ++ alt ∷ [] }
     {
         let watched = watched_with(self.watched, edge_lines(&alt));
+        let high = self.high & high_lines(&alt);
         self.alts.push(alt);
         self.watched = watched;
+        self.high = high;
     }
 
     /// How many alternatives there are.
@@ -56,12 +66,15 @@ impl Cond {
         &self.alts
     }
 
-    /// Whether it is plain that no alternative is met: each asks an edge, and none of those lines
-    /// changes.
+    /// Whether it is plain that no alternative is met: each asks one line to be high, and it is low;
+    /// or each asks an edge, and none of those lines changes.
     #[inline]
     pub fn is_still(&self, before: Option<Word>, now: Word) -> bool
         ensures { result ≡ true → NeverMet (cond_alts self.now) before now }
     {
+        if self.high & now != self.high {
+            return true;
+        }
         match before {
             Some(before) => self.watched != 0 && (before ^ now) & self.watched == 0,
             None => false,
@@ -74,6 +87,13 @@ fn edge_lines(alt: &Alt) -> Word
     ensures { result ≡ edge_lines alt.now }
 {
     alt.rise | alt.fall | alt.edge
+}
+
+// The lines that an alternative asks to be high.
+fn high_lines(alt: &Alt) -> Word
+    ensures { result ≡ high_lines alt.now }
+{
+    alt.high | alt.rise
 }
 
 // The lines that are watched with those of one more alternative.

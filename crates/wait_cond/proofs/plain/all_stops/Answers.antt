@@ -1,4 +1,4 @@
-use Rattle.std.proofs.Common.{◌+◌, ◌∷◌, ◌++◌, [], List, ℕ, Option, Vec, Global, sym, subst, ap, ◌∙◌, slice_index}
+use Rattle.std.proofs.Common.{◌+◌, List, ℕ, Option, Vec, Global, sym, subst, ap, ◌∙◌, slice_index}
 use Rattle.wait_cond.specs.Stops.{MetSet, MetIn, Stop}
 use Rattle.wait_cond.proofs.AllStops.{Gathered, gathered_none, gathered_stop}
 use Rattle.wait_cond.proofs.plain.all_stops.Goals as goal

@@ -1,4 +1,4 @@
-use Rattle.std.proofs.Common.{refl, ◌≡◌, ◌+◌, ◌++◌, ◌==◌, ◌∙◌, if◌then◌else◌, sym, subst, List, ℕ, Option, Some, None, arith, length}
+use Rattle.std.proofs.Common.{refl, ◌≡◌, ◌+◌, ◌++◌, ◌==◌, if◌then◌else◌, sym, subst, List, ℕ, Option, Some, None, arith, length}
 use Rattle.la_base.specs.declared.samples.Run.{Run}
 use Rattle.la_base.specs.Samples.{samples}
 use Rattle.wait_cond.specs.Stops.{MetSet, NoneMet}
