@@ -1,13 +1,13 @@
 -- What an end of a listing says, from what the reader answered.
 use Rattle.std.proofs.Common.{◌≡◌, ℕ, List, [], ◌++◌, take, length, Option, Some, None, Ok, Err, refl, sym, ◌∙◌, ap, subst, append_assoc, arith}
-use Rattle.std.proofs.lemmas.List.{append-nil, take_all}
+use Rattle.std.proofs.lemmas.List.{append-nil}
 use Rattle.std.proofs.KnownBytes.{Consumes-nil, Consumes-trans}
 use Rattle.std.specs.Io.KnownBytes.{Consumes}
 use Rattle.la_base.specs.Samples.{samples}
 use Rattle.la_base.specs.declared.samples.Run.{Run}
 use Rattle.la_io.specs.declared.fault.CaptureError.TheVariants.{Fault as FaultError, Read as ReadError, NoMemory as NoMemoryError}
 use Rattle.la_io.specs.declared.fault.CaptureFault.{CaptureFault}
-use Rattle.la_io.specs.Capture.{Told, AtEnd, Cut, Ending, Captured, Ends}
+use Rattle.la_io.specs.Capture.{Told, Cut, Ending, Captured, Ends}
 use Rattle.capture_any.specs.Captures.{capture_of, Later, ToldAt, WantsMemoryAt}
 use Rattle.capture_any.proofs.Telling.{later_on, later_still}
 use Rattle.capture_any.specs.Listings.{SettledFront, OfAll, OfFewer, Says, Lists}

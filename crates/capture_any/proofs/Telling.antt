@@ -1,6 +1,6 @@
 -- Whether the end is told, from one moment to the next.
-use Rattle.std.proofs.Common.{◌≡◌, ℕ, List, [], ◌++◌, refl}
-use Rattle.la_io.specs.Capture.{Told, AtEnd, Cut}
+use Rattle.std.proofs.Common.{ℕ, List, [], ◌++◌, refl}
+use Rattle.la_io.specs.Capture.{Told, Cut}
 use Rattle.capture_any.specs.Captures.{Later}
 
 pub later_cut : (bytes : List ℕ) (now : Told) → Later Cut bytes now

@@ -1,5 +1,5 @@
 -- What sources and sinks in memory do by their plan.
-use Rattle.std.specs.Prelude.{ℕ, ◌≡◌, ◌+◌, ◌-◌, ◌^◌, ◌==◌, min, Bool, true, false, List, [], ◌∷◌, length, drop, if◌then◌else◌, nat_lt, Vec, Result, IsOk, IsErr}
+use Rattle.std.specs.Prelude.{ℕ, ◌+◌, ◌-◌, ◌^◌, ◌==◌, min, Bool, true, false, List, [], ◌∷◌, length, drop, if◌then◌else◌, nat_lt, Vec, Result, IsOk, IsErr}
 use Rattle.std.specs.declared.alloc.Global.{Global}
 use Rattle.std.specs.List.{list_any}
 use Rattle.la_io.specs.Kept.{Place}

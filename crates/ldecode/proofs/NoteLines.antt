@@ -1,15 +1,12 @@
 -- Lines of notes that are written one after another.
-use Rattle.std.proofs.Common.{◌≡◌, ℕ, zero, suc, ◌+◌, ◌<◌, ◌≤◌, List, [], ◌∷◌, ◌++◌, length, take, drop, get_or, Option, Some, None, refl, sym, ◌∙◌, ap, subst, arith, take_all}
+use Rattle.std.proofs.Common.{◌≡◌, ℕ, ◌+◌, ◌<◌, ◌≤◌, List, [], ◌∷◌, ◌++◌, length, take, drop, get_or, Option, sym, ◌∙◌, ap, subst, take_all}
 use Rattle.std.specs.Io.KnownBytes.{Appends}
 use Rattle.std.proofs.lemmas.Grind.{flat_map-append}
 use Rattle.std.proofs.lemmas.List.{append-nil, take_more, take-append-drop}
-use Rattle.std.specs.Prelude.{option_map, slice_get}
-use Rattle.la_base.specs.declared.wires.Note.{Note}
-use Rattle.decoder_set.specs.declared.kinds.Kind.{Kind}
 use Rattle.la_io.specs.Causes.{AppendsFront}
 use Rattle.note_order.specs.declared.entry.Entry.{Entry}
 use Rattle.stack_spec.specs.Instances.{Instance}
-use Rattle.ldecode.specs.Decoding.{line_as, line_by, note_line, note_lines}
+use Rattle.ldecode.specs.Decoding.{note_line, note_lines}
 use Rattle.la_io.proofs.Fronts.{front_longer, front_on, front_whole}
 
 module _ (instances : List Instance) where

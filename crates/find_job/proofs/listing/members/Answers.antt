@@ -1,4 +1,4 @@
-use Rattle.std.proofs.Common.{◌≡◌, ◌+◌, ◌<◌, ◌^◌, arith, sym, subst, true, false, Bool, List, ℕ, rules}
+use Rattle.std.proofs.Common.{◌≡◌, ◌+◌, arith, sym, subst, true, false, Bool, List, ℕ, rules}
 use Rattle.find_job.specs.Listing.{is_member}
 use Rattle.find_job.proofs.Members.{Listed, listed_all, listed_pass, listed_next}
 use Rattle.find_job.proofs.listing.members.Goals as goal

@@ -1,9 +1,8 @@
-use Rattle.std.proofs.Common.{◌<◌, Bool, length, get_or, map, arith, subst}
+use Rattle.std.proofs.Common.{◌<◌, length, map, arith}
 use Rattle.la_base.specs.Samples.{samples}
 use Rattle.decoder_core.specs.Inputs.{Sample}
 use Rattle.stack_spec.specs.Accepting.{is_shown}
 use Rattle.stack_spec.specs.Stacks.{stack_meaning}
-use Rattle.ldecode.specs.Feeding.{Fed}
 use Rattle.ldecode.proofs.FeedingAll.{fed_on, rest_on}
 use Rattle.ldecode.proofs.feed_all.feed_all.Goals as goal
 
