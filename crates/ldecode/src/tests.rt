@@ -182,7 +182,7 @@ fn bytes_of(alloc: Global, digits: &str) -> Result<Vec<u8>, Fail> {
             high = match high {
                 None => Some(digit(*byte)),
                 Some(first) => {
-                    bytes.push(first * 16 + digit(*byte))?;
+                    bytes.push((first << 4) | digit(*byte))?;
                     None
                 }
             };
