@@ -154,10 +154,10 @@ fn the_exit_status_is_that_of_the_run(rt: HostRuntime) -> Result<(), Fail> {
 fn the_examples_of_the_help_run(rt: HostRuntime) -> Result<(), Fail> {
     let alloc = rt.alloc();
     let text = help_text(alloc)?;
-    let mut count = 0;
+    let mut any = false;
     for line in text.as_str().lines() {
         if let Some(example) = line.strip_prefix(EXAMPLE) {
-            count += 1;
+            any = true;
             assert_eq!(rt;
                 ends(alloc, example, &[], &[], &[], &[])?,
                 Some(0),
@@ -165,6 +165,6 @@ fn the_examples_of_the_help_run(rt: HostRuntime) -> Result<(), Fail> {
             );
         }
     }
-    assert_eq!(rt; count, 2);
+    assert!(rt; any);
     Ok(())
 }
