@@ -1,14 +1,21 @@
 #!/usr/bin/env python3
 """Writes a raw capture of an I2C bus on which these bytes are sent: SCL is D0, SDA is D1.
 
-usage: bench/i2c_capture.py BYTES.. > capture.raw
+usage: bench/i2c_capture.py TRANSACTION.. > capture.raw
 
-Each word is one transaction, from a START to a STOP: hexadecimal bytes with commas between them, the
-first one the address with its direction. A `/` between two bytes is a repeated START. The receiver
-acknowledges each byte, but for the last one that is read. A bit is eight samples long; SDA changes
-one sample behind the fall of SCL.
+Each word is one transaction, from a START to a STOP: segments with `/` between them, where a repeated
+START stands. A segment is an address and hexadecimal bytes, with commas between them. The address is
+
+    A0, A1      a byte, of seven bits and the direction: 0 is write, 1 is read
+    w150        a ten-bit address that is written to: its prefix and its lower eight bits
+    r150        the prefix of a ten-bit address that is read from, behind a segment that writes to it
+    call        the general call
+
+The receiver acknowledges each byte, but for the last one that is read. A bit is eight samples long; SDA
+changes one sample behind the fall of SCL.
 
     bench/i2c_capture.py A0,00,10,48,69 A0,00,10/A1,48,69 > capture.raw
+    bench/i2c_capture.py w150,10/r150,48,69 call,06 > capture.raw
 """
 import sys
 
@@ -46,9 +53,21 @@ class Bus:
         self.hold(1, 12)
 
 
+def address(text):
+    """The bytes that an address is sent as."""
+    if text == "call":
+        return [0]
+    if text[:1] in ("w", "r"):
+        bits = int(text[1:], 16)
+        prefix = 0xF0 | bits >> 8 << 1
+        return [prefix, bits & 255] if text[0] == "w" else [prefix | 1]
+    return [int(text, 16)]
+
+
 def send(bus, transaction):
     for segment in transaction.split("/"):
-        values = [int(byte, 16) for byte in segment.split(",")]
+        head, *data = segment.split(",")
+        values = address(head) + [int(byte, 16) for byte in data]
         bus.start()
         for place, value in enumerate(values):
             last_read = values[0] & 1 and place > 0 and place == len(values) - 1

@@ -97,6 +97,13 @@ stands_same channels same_channels pins same_pins front bytes given is_channels 
     let by_pins : List ℕ → Type 0 = λ l. StandsAt (unit_len same_channels) l front bytes given in
     subst by_pins (sym is_pins) (subst by_channels (sym is_channels) st)
 
+-- units that are let go are given, and there are as many bytes in them as units or more
+pub more_given : (unit count : ℕ) (old held new : Front) (left_old left_new : Option (List ℕ)) (bytes : List ℕ) → 0 < unit → Takes old held left_old left_new bytes → length held.bytes ≤ held.taken
+    → count * unit ≤ length held.bytes → new.bytes ≡ drop (count * unit) held.bytes → new.taken ≡ held.taken → old.taken - length old.bytes + count ≤ new.taken - length new.bytes
+more_given unit count old held new left_old left_new bytes some takes few within let_go same =
+    let enough : count ≤ count * unit = grind arith in
+    omega (arith, enough, ap length let_go, length-drop (count * unit) held.bytes, takes.taken, ap length takes.held, length-append old.bytes bytes)
+
 pub samples_len : (run : Run) → length (samples run) ≡ run.len
 unfolding samples
 samples_len run = length-replicate run.len run.value

@@ -1,4 +1,5 @@
 pub mod Raw
 pub mod Masks
+pub mod Filling
 pub mod Reader
 pub mod Laws

@@ -3,6 +3,8 @@
 #![tactic(auto)]
 
 mod alike;
+mod fill;
+mod filled;
 mod laws;
 mod reader;
 mod step;

@@ -6,12 +6,11 @@ ghost use Rattle.capture_raw.specs.Raw.{unit_len};
 
 use crate::RawStep;
 use crate::alike::alike_units;
+use crate::fill::{ROOM, fill};
+use crate::filled::Filled;
 use crate::units::{BYTES, MOST_UNIT, mask_of, number, picked, samples_of_bytes};
 use la_base::{MOST_PINS, Pins, Rate, Run, Word};
-use la_io::{Failed, Intake, MOST_BYTES, Source};
-
-// How many bytes there is room for.
-const ROOM: usize = 32_768;
+use la_io::{Failed, Intake, Source};
 
 /// Reads units of bytes, `channels` bits rounded up to whole bytes each, and gives runs of their
 /// samples. It takes at most 2^60 bytes.
@@ -155,43 +154,21 @@ impl RawReader {
         ensures cause { HasCause (S.faults source.old) (S.faults source.new) result }
     {
         let unit = self.unit();
-        if self.held.bytes().len() < unit {
-            return self.read_on(source);
-        }
-        Ok(RawStep::Run(self.run(unit)))
-    }
-
-    // The same where less than a unit is held. It isn't inlined, since mostly more is.
-    #[inline(never)]
-    fn read_on<S: Source>(&mut self, source: &mut S) -> Result<RawStep, Failed>
-        requires { raw_open self.old ≡ true }
-        ensures next { Next self.old self.new (S.left source.old) (S.left source.new) result }
-        ensures is_open { raw_open self.new ≡ stays_open result }
-        ensures form { SameForm self.old self.new }
-        ensures progress { IfRun result (λ run. raw_given self.old + run.len ≤ raw_given self.new) }
-        ensures few { raw_given self.new ≤ 2 ^ 60 }
-        ensures prompt { raw_unit self.old ≤ length (raw_held self.old) → source.new ≡ source.old }
-        ensures cause { HasCause (S.faults source.old) (S.faults source.new) result }
-    {
-        let unit = self.unit();
-        while self.held.bytes().len() < unit {
-            if self.held.taken() >= MOST_BYTES {
+        match fill(&mut self.held, unit, source) {
+            Filled::Unit => Ok(RawStep::Run(self.run(unit))),
+            Filled::End => {
                 self.open = false;
-                return Ok(RawStep::Bytes);
+                Ok(self.at_end())
             }
-            match self.held.more(source) {
-                Ok(0) => {
-                    self.open = false;
-                    return Ok(self.at_end());
-                }
-                Ok(_) => {}
-                Err(_) => {
-                    self.open = false;
-                    return Err(Failed);
-                }
+            Filled::Full => {
+                self.open = false;
+                Ok(RawStep::Bytes)
+            }
+            Filled::Failed => {
+                self.open = false;
+                Err(Failed)
             }
         }
-        Ok(RawStep::Run(self.run(unit)))
     }
 
     // How the bytes end, where less than a unit is held.

@@ -21,9 +21,13 @@ separator first = if first then [] else codes ","
 abbrev pub joined : List ℕ → List ℕ
 joined numbers = join_with_byte 44 (map decimal numbers)
 
+-- what stands behind the sample in a line: the alternatives that are met there
+abbrev pub behind_sample : ℕ → List ℕ
+behind_sample set = codes ": " ++ joined (members_below 8 set) ++ codes "\n"
+
 -- the line of a stop: its sample, and the alternatives that are met there
 abbrev pub line_of : Stop → List ℕ
-line_of stop = decimal stop.0 ++ codes ": " ++ joined (members_below 8 stop.1) ++ codes "\n"
+line_of stop = decimal stop.0 ++ behind_sample stop.1
 
 -- the lines of stops
 abbrev pub lines_of : List Stop → List ℕ

@@ -1,9 +1,10 @@
 // The line of a stop.
-ghost use Rattle.std.specs.Prelude.{◌≡◌, ◌+◌, ◌<◌, ◌≤◌, [], ◌++◌, length};
+ghost use Rattle.std.specs.Prelude.{◌≡◌, ◌+◌, ◌<◌, ◌≤◌, List, ℕ, ◌++◌, length};
 ghost use Rattle.std.specs.Fmt.{decimal};
-ghost use Rattle.find_job.specs.Listing.{is_member, separator, joined, members_below, line_of};
+ghost use Rattle.find_job.specs.Listing.{behind_sample, is_member, separator, joined, members_below, line_of};
 
-use line_text::LineBuf;
+use line_text::{Decimal, LineBuf, ShortText};
+use std::marker::Model;
 
 /// How many alternatives a set can have.
 const MOST_MEMBERS: u32 = 8;
@@ -17,9 +18,9 @@ fn is_member(set: u8, place: u32) -> bool
 }
 
 // Appends the number of an alternative, which is one digit.
-fn digit(line: &mut LineBuf, place: u32)
+fn digit(line: &mut ShortText, place: u32)
     requires few { place < 8 }
-    requires room { length line.old ≤ 200 }
+    requires room { length line.old < 20 }
     ensures line { line.new ≡ line.old ++ decimal place }
     ensures grows { length line.new ≡ length line.old + 1 }
 {
@@ -27,9 +28,9 @@ fn digit(line: &mut LineBuf, place: u32)
 }
 
 // Appends the number of an alternative, behind a comma where it isn't the first.
-fn member(line: &mut LineBuf, first: bool, place: u32)
+fn member(line: &mut ShortText, first: bool, place: u32)
     requires few { place < 8 }
-    requires room { length line.old ≤ 199 }
+    requires room { length line.old ≤ 18 }
     ensures line { line.new ≡ line.old ++ separator first ++ decimal place }
     ensures grows { length line.new ≤ length line.old + 2 }
 {
@@ -40,8 +41,8 @@ fn member(line: &mut LineBuf, first: bool, place: u32)
 }
 
 // Appends the numbers of the alternatives in a set.
-fn members(line: &mut LineBuf, set: u8)
-    requires { length line.old ≤ 30 }
+fn members(line: &mut ShortText, set: u8)
+    requires { length line.old ≤ 2 }
     ensures line { line.new ≡ line.old ++ joined (members_below 8 set) }
     ensures grows { length line.new ≤ length line.old + 16 }
 {
@@ -57,15 +58,68 @@ fn members(line: &mut LineBuf, set: u8)
     }
 }
 
-/// Puts into an empty line the one of a stop, `AT: I,J`: its sample, and the alternatives I and J that
-/// are met there.
-pub fn put_stop(line: &mut LineBuf, at: u64, met: u8)
-    requires { line.old ≡ [] }
-    ensures { line.new ≡ line_of (at, met) }
+// What stands behind the sample in the line of a stop, where these alternatives are met. It isn't inlined,
+// since from one stop to the next these are mostly the same.
+#[inline(never)]
+fn behind_sample(met: u8) -> ShortText
+    ensures { result ≡ behind_sample met }
 {
-    line.push_number(at);
-    line.push_byte(b':');
-    line.push_byte(b' ');
-    members(line, met);
-    line.push_byte(b'\n');
+    let mut text = ShortText::new();
+    text.push_byte(b':');
+    text.push_byte(b' ');
+    members(&mut text, met);
+    text.push_byte(b'\n');
+    text
+}
+
+/// The line of a stop, `AT: I,J`: its sample, and the alternatives I and J that are met there. Contracts
+/// see its bytes. One serves for all stops: to make it fills it with zeros, and it keeps the digits and the
+/// alternatives of the stop before, which are mostly those of the next one too.
+#[derive(Drop)]
+pub struct StopLine {
+    line: LineBuf,
+    at: Decimal,
+    met: u8,
+    behind: ShortText,
+}
+
+impl Model for StopLine {
+    ghost Value = { List ℕ };
+
+    ghost view = { λ s. s.line };
+
+    ghost invariant = { λ s. s.behind ≡ behind_sample s.met };
+}
+
+impl StopLine {
+    /// An empty line.
+    pub fn new() -> StopLine {
+        StopLine {
+            line: LineBuf::new(),
+            at: Decimal::new(),
+            met: 0,
+            behind: behind_sample(0),
+        }
+    }
+
+    /// Makes it the line of this stop.
+    pub fn put(&mut self, at: u64, met: u8)
+        ensures { self.new ≡ line_of (at, met) }
+    {
+        if met != self.met {
+            self.met = met;
+            self.behind = behind_sample(met);
+        }
+        self.at.set(at);
+        self.line.clear();
+        self.line.push_short(self.at.text());
+        self.line.push_short(&self.behind);
+    }
+
+    /// Its bytes.
+    pub fn bytes(&self) -> &[u8]
+        ensures { result.now ≡ self.now }
+    {
+        self.line.bytes()
+    }
 }

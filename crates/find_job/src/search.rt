@@ -8,10 +8,10 @@ ghost use Rattle.capture_any.specs.Reading.{Stands, form_of, is_open_of, pins_of
 ghost use Rattle.find_job.specs.Finding.{WholeListing, ListingFront};
 
 use crate::FindEnd;
+use crate::listing::StopLine;
 use crate::stops::write_stops;
 use capture_any::Capture;
 use la_io::{Buffered, CaptureError, Failed, Sink, Source};
-use line_text::LineBuf;
 use wait_cond::{Cond, Waiter};
 
 /// Waits again and again for the condition, and writes for each stop the line `AT: I,J`: the number
@@ -37,8 +37,7 @@ pub fn find<S: Source, K: Sink>(
     ensures pins { pins_of capture.new ≡ pins_of capture.old }
 {
     let mut waiter = Waiter::new(cond);
-    // One for all stops, since to make it fills it with zeros.
-    let mut line = LineBuf::new();
+    let mut line = StopLine::new();
     loop {
         match capture.next(source) {
             Ok(Some(run)) => match write_stops(&mut waiter, run, &mut line, sink) {

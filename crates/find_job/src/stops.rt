@@ -5,17 +5,16 @@ ghost use Rattle.wait_cond.specs.Stops.{Stop, Chain};
 ghost use Rattle.wait_cond.specs.Waiting.{Waits, alts_of, wait_from, consumed_by};
 ghost use Rattle.find_job.specs.Stopping.{Written};
 
-use crate::listing::put_stop;
+use crate::listing::StopLine;
 use la_base::Run;
 use la_io::{Failed, Sink, write_whole};
-use line_text::LineBuf;
 use wait_cond::{Scan, Waiter};
 
 /// Writes the line of each stop in a run. `Failed` comes where the sink failed.
 pub fn write_stops<K: Sink>(
     waiter: &mut Waiter,
     run: Run,
-    line: &mut LineBuf,
+    line: &mut StopLine,
     sink: &mut K,
 ) -> Result<(), Failed>
     requires { consumed_by waiter.old + run.len ≤ 2 ^ 60 }
@@ -35,8 +34,7 @@ pub fn write_stops<K: Sink>(
                 rest: behind,
                 ..
             } => {
-                line.clear();
-                put_stop(line, at, met);
+                line.put(at, met);
                 match write_whole(sink, line.bytes()) {
                     Ok(()) => rest = behind,
                     Err(Failed) => return Err(Failed),

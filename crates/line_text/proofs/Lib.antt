@@ -1,2 +1,3 @@
 mod Hexadecimal
+mod Decimals
 pub mod Widths

@@ -1,9 +1,13 @@
 //! A line of text that is put together without memory.
 #![tactic(auto)]
 
+mod decimal;
 mod hex;
 mod line;
+mod short;
 #[cfg(test)]
 mod tests;
 
+pub use decimal::Decimal;
 pub use line::{LineBuf, ROOM};
+pub use short::{MOST_SHORT, ShortText};

@@ -4,6 +4,7 @@ ghost use Rattle.std.specs.Fmt.{decimal};
 ghost use Rattle.line_text.specs.Texts.{padded, hex, fixed};
 
 use crate::hex::{PLACES, write_hex};
+use crate::short::{MOST_SHORT, ShortText};
 use itoa::Buffer;
 use std::marker::Model;
 
@@ -93,6 +94,19 @@ impl LineBuf {
     {
         let mut buffer = Buffer::new();
         self.push_bytes(buffer.format(n).as_bytes());
+    }
+
+    /// Appends a short text, where there is room for any.
+    #[inline]
+    pub fn push_short(&mut self, text: &ShortText)
+        requires { length self.old ≤ 236 }
+        ensures text { self.new ≡ self.old ++ text.now }
+        ensures grows { length self.new ≤ length self.old + 20 }
+    {
+        // All of its room, since a copy of a fixed length takes less time.
+        let end = self.len + MOST_SHORT;
+        self.buffer[self.len..end].copy_from_slice(text.room());
+        self.len += text.len();
     }
 
     /// Appends a number in upper case hexadecimal, with leading zeros up to `digits` digits.

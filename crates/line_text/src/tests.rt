@@ -76,6 +76,42 @@ fn pushes_in_a_row(rt: HostRuntime) {
     assert_eq!(rt; line.bytes(), b"at 12".as_slice());
     line.clear();
     assert_eq!(rt; line.bytes(), b"".as_slice());
+    let mut text = ShortText::new();
+    text.push_byte(b'7');
+    line.push_short(&text);
+    text.clear();
+    text.push_byte(b'?');
+    line.push_short(&text);
+    assert_eq!(rt; line.bytes(), b"7?".as_slice());
+    line.clear();
     line.push_bytes(&[b'x'; ROOM]);
     assert_eq!(rt; line.bytes().len(), 256);
+}
+
+// The text of a number, whatever number was there before.
+#[test]
+fn numbers_one_after_another(rt: HostRuntime) {
+    let mut number = Decimal::new();
+    let mut line = LineBuf::new();
+    for (next, text) in [
+        (0, "0"),
+        (7, "7"),
+        (99, "99"),
+        (100, "100"),
+        (107, "107"),
+        (199, "199"),
+        (200, "200"),
+        (10, "10"),
+        (12_399, "12399"),
+        (12_300, "12300"),
+        (12_299, "12299"),
+        (u64::MAX, "18446744073709551615"),
+        (u64::MAX - 15, "18446744073709551600"),
+        (5, "5"),
+    ] {
+        number.set(next);
+        line.clear();
+        line.push_short(number.text());
+        assert_eq!(rt; line.bytes(), text.as_bytes());
+    }
 }

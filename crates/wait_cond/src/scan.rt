@@ -32,10 +32,11 @@ pub enum Scan {
 }
 
 impl Waiter {
-    ghost use Rattle.std.specs.Prelude.{◌≡◌, ◌≢◌, ◌+◌, ◌≤◌, ◌<◌, ◌^◌, ◌++◌, ◌==◌, if◌then◌else◌, [], List, ℕ, length, IfSome};
+    ghost use Rattle.std.specs.Prelude.{◌≡◌, ◌≢◌, ◌+◌, ◌≤◌, ◌<◌, ◌^◌, ◌++◌, ◌==◌, if◌then◌else◌, [], List, ℕ, length, Some, IfSome};
     ghost use Rattle.la_base.specs.Samples.{samples};
     ghost use Rattle.wait_cond.specs.Conds.{cond_alts};
-    ghost use Rattle.wait_cond.specs.Stops.{MetSet, NoneMet};
+    ghost use Rattle.wait_cond.specs.Standing.{FirstStanding};
+    ghost use Rattle.wait_cond.specs.Stops.{MetSet};
     ghost use Rattle.wait_cond.specs.Waiting.{Waits, Scanned, Counts, Found, alts_of, wait_from, consumed_by, last_of};
 
     /// A waiter that has consumed no sample yet.
@@ -98,24 +99,30 @@ impl Waiter {
         met_set(self.cond.alts(), before, value, self.from, self.consumed)
     }
 
-    // The first sample of a run behind its first one that meets the condition, and the alternatives
-    // that it meets: as the value stands, only a skip can begin to hold. It isn't inlined, so that
-    // runs of one sample are passed quickly.
+    // The first sample of a run behind its first one that meets the condition, by its place among all
+    // samples, or that behind the run: as the value stands, only a skip can begin to hold. It isn't
+    // inlined, so that runs of one sample are passed quickly.
     #[inline(never)]
-    fn find_standing(&self, run: Run) -> Option<(u64, u8)>
+    fn standing_stop(&self, run: Run) -> u64
         requires { self.now.consumed + run.len ≤ 2 ^ 60 }
-        ensures found { (list : List ℕ) → Waits self.now list → NoneMet (list ++ samples run) self.now.cond.alts.items self.now.from (length list + 1)
-            → Found self.now.cond.alts.items self.now.from (list ++ samples run) (length list) run.len result }
-        ensures within { IfSome result (λ x. (x.0 < run.len) × (x.1 ≢ 0)) }
+        ensures { FirstStanding self.now.cond.alts.items run.value self.now.from (self.now.consumed + 1) (self.now.consumed + run.len) result }
     {
-        let alts = self.cond.alts();
-        let end = self.consumed + run.len;
-        let at = first_standing(alts, run.value, self.from, self.consumed + 1, end);
-        if at == end {
-            return None;
-        }
-        let met = met_set(alts, Some(run.value), run.value, self.from, at);
-        Some((at - self.consumed, met))
+        first_standing(
+            self.cond.alts(),
+            run.value,
+            self.from,
+            self.consumed + 1,
+            self.consumed + run.len,
+        )
+    }
+
+    // The alternatives that a sample meets which has the value of the one before it.
+    #[inline(never)]
+    fn met_standing(&self, value: Word, at: u64) -> u8
+        requires { at < 2 ^ 60 }
+        ensures { MetSet self.now.cond.alts.items (Some value) value self.now.from at result }
+    {
+        met_set(self.cond.alts(), Some(value), value, self.from, at)
     }
 
     // The first sample of a run that meets the condition, and the alternatives that it meets.
@@ -135,7 +142,11 @@ impl Waiter {
         if self.cond.is_still(Some(run.value), run.value) {
             return None;
         }
-        self.find_standing(run)
+        let at = self.standing_stop(run);
+        if at == self.consumed + run.len {
+            return None;
+        }
+        Some((at - self.consumed, self.met_standing(run.value, at)))
     }
 
     /// Consumes samples up to the first one of the run that meets an alternative and lies behind the

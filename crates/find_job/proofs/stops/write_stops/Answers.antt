@@ -23,7 +23,7 @@ returns-in-Err-clause-written g c = λ list stops w chain.
     let all = list ++ samples c.args.run in
     let old = k.written c.args.sink.now in
     let going = subst (λ (o : Option Run). Going alts all stops c.loop-rest.waiter o old (k.written c.loop-rest.sink)) c.in-Some.is (c.loop-rest.invariant.going list stops w chain) in
-    let line = subst (λ (l : List ℕ). AppendsFront (k.written c.loop-rest.sink) (k.written c.write_whole.new.sink) l) (c.bytes.ensures.bytes ∙ c.put_stop.ensures) c.in-Err.ensures.front in
+    let line = subst (λ (l : List ℕ). AppendsFront (k.written c.loop-rest.sink) (k.written c.write_whole.new.sink) l) (c.bytes.ensures ∙ c.put.ensures) c.in-Err.ensures.front in
     going_cut alts all stops c.loop-rest.waiter c.in-Some.run' old (k.written c.loop-rest.sink) going c.loop-rest.invariant.alts c.scan.new.self c.in-Met.at c.in-Met.value c.in-Met.met c.in-Met.behind c.in-Met.ensures.scanned (k.written c.write_whole.new.sink) line
 
 pub loop-rest-preserved-in-Ok : goal.loop-rest-preserved-in-Ok
@@ -38,7 +38,7 @@ loop-rest-preserved-in-Ok g c =
       going = λ list stops w chain.
           let all = list ++ samples c.args.run in
           let going = subst (λ (o : Option Run). Going alts all stops c.loop-rest.waiter o old (k.written c.loop-rest.sink)) c.in-Some.is (c.loop-rest.invariant.going list stops w chain) in
-          let line = subst (λ (l : List ℕ). Appends (k.written c.loop-rest.sink) (k.written c.write_whole.new.sink) l) (c.bytes.ensures.bytes ∙ c.put_stop.ensures) c.in-Ok.ensures.whole in
+          let line = subst (λ (l : List ℕ). Appends (k.written c.loop-rest.sink) (k.written c.write_whole.new.sink) l) (c.bytes.ensures ∙ c.put.ensures) c.in-Ok.ensures.whole in
           going_met alts all stops c.loop-rest.waiter c.in-Some.run' old (k.written c.loop-rest.sink) going c.loop-rest.invariant.alts c.scan.new.self c.in-Met.at c.in-Met.value c.in-Met.met c.in-Met.behind c.in-Met.ensures.scanned (k.written c.write_whole.new.sink) line;
       faults = c.in-Ok.ensures.cause.kept ∙ c.loop-rest.invariant.faults;
       goes_on = g.met.K.Sink.goes_on_further _ _ _ c.loop-rest.invariant.goes_on c.in-Ok.ensures.goes_on;

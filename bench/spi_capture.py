@@ -1,0 +1,39 @@
+#!/usr/bin/env python3
+"""Writes samples of an SPI bus, one byte a sample: SCK on D0, MOSI on D1, MISO on D2, and the select line
+on D3, active low.
+
+usage: bench/spi_capture.py MOSI:MISO .. [TIMES]
+
+Each word is one transaction: the bytes of both lines in hexadecimal, as many on MISO as on MOSI. Four
+samples are a bit: the clock is low for two of them, and then high for two, and the most significant bit
+comes first. The bus rests for eight samples before each transaction and behind the last. They are sent
+as often as TIMES says (1).
+"""
+import sys
+
+SELECT = 8
+
+
+def transaction(word):
+    mosi, miso = (bytes.fromhex(part) for part in word.split(":"))
+    line = [0, 0]
+    for out, back in zip(mosi, miso, strict=True):
+        for place in range(7, -1, -1):
+            data = (out >> place & 1) << 1 | (back >> place & 1) << 2
+            line += [data, data, data | 1, data | 1]
+    return line + [0, 0]
+
+
+def main():
+    words = sys.argv[1:]
+    times = int(words.pop()) if len(words) > 1 and ":" not in words[-1] else 1
+    if not words:
+        sys.exit(__doc__)
+    once = []
+    for word in words:
+        once += [SELECT] * 8 + transaction(word)
+    sys.stdout.buffer.write(bytes(once) * times + bytes([SELECT] * 8))
+
+
+if __name__ == "__main__":
+    main()
