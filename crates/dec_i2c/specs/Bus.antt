@@ -1,18 +1,19 @@
 -- I2C on a whole list of samples, by UM10204: START and STOP conditions (3.1.4), bytes with the most significant bit
--- first (3.1.5), acknowledge (3.1.6), address and R/W (3.1.10).
-use Rattle.std.specs.Prelude.{ℕ, ◌+◌, ◌/◌, ◌%◌, nat_lt, ◌&&◌, Bool, true, false, ◌==◌, if◌then◌else◌, List, [], ◌∷◌, ◌++◌, length, map, take, drop, Option, Some, None, is_some}
+-- first (3.1.5), acknowledge (3.1.6), address and R/W (3.1.10), ten-bit addresses (3.1.11), general call (3.1.13).
+use Rattle.std.specs.Prelude.{ℕ, nat_lt, ◌&&◌, Bool, true, false, not, ◌==◌, if◌then◌else◌, List, [], ◌∷◌, ◌++◌, length, map, take, drop, Option, Some, None, is_some}
 use Rattle.std.specs.List.{flat_map}
 use Rattle.la_base.specs.Samples.{is_high}
 use Rattle.la_base.specs.declared.wires.Out.{Out}
-use Rattle.la_base.specs.declared.wires.PacketKind.TheVariants.{I2cStart, I2cStop, I2cAddress, I2cData, I2cAck}
+use Rattle.la_base.specs.declared.wires.PacketKind.TheVariants.{I2cStart, I2cStop, I2cAck}
+use Rattle.list_cuts.specs.Along.{along}
 use Rattle.list_cuts.specs.Bits.{high_first}
 use Rattle.list_cuts.specs.Groups.{groups, after_groups}
-use Rattle.list_cuts.specs.Neighbours.{at_neighbours}
+use Rattle.list_cuts.specs.LastWhere.{last_that}
+use Rattle.list_cuts.specs.Neighbours.{at_neighbours, last_of}
 use Rattle.list_cuts.specs.Parts.{parts}
 use Rattle.list_cuts.specs.Places.{first_place, last_place}
-use Rattle.decoder_core.specs.Outputs.{note_at, packet_at, span_note, span_piece, span_packet}
-use Rattle.dec_i2c.specs.declared.held.Role.{Role}
-use Rattle.dec_i2c.specs.declared.held.Role.TheVariants.{Address, Write, Read}
+use Rattle.decoder_core.specs.Outputs.{note_at, packet_at}
+use Rattle.dec_i2c.specs.Bytes.{byte_outs, role_behind, read_by, written}
 
 -- what happens on the bus, and at which sample; a clock comes with the level of SDA
 pub data Event : Type 0 where
@@ -49,10 +50,6 @@ level_of (Start k) = false
 level_of (Stop k) = false
 level_of (Clock k level) = level
 
--- the number that clocks make up: the first bit is the highest
-abbrev pub value_of : List Event → ℕ
-value_of clocks = high_first (map level_of clocks)
-
 -- a START, repeated or not
 abbrev pub start_outs : Bool → ℕ → List Out
 start_outs false k = note_at 0 k 0 ∷ packet_at I2cStart k 0 ∷ []
@@ -66,42 +63,37 @@ abbrev pub ack_outs : ℕ → Bool → List Out
 ack_outs k false = note_at 7 k 0 ∷ packet_at I2cAck k 0 ∷ []
 ack_outs k true = note_at 8 k 0 ∷ packet_at I2cAck k 1 ∷ []
 
--- a byte: the address in the upper seven bits and R/W in the lowest, or data
-abbrev pub byte_outs : Role → ℕ → ℕ → ℕ → List Out
-byte_outs Address first last byte = span_note (3 + byte % 2) first last (byte / 2) 0 ∷ span_packet I2cAddress first last (byte / 2) (byte % 2) ∷ []
-byte_outs Write first last byte = span_note 5 first last byte 0 ∷ span_piece 0 first last byte ∷ span_packet I2cData first last byte 0 ∷ []
-byte_outs Read first last byte = span_note 6 first last byte 0 ∷ span_piece 1 first last byte ∷ span_packet I2cData first last byte 1 ∷ []
+-- the clocks of a segment, byte by byte: eight clocks are a byte and the ninth acknowledges it; behind the whole groups of
+-- nine a byte may stand without its ninth, and fewer than eight clocks are nothing
+abbrev pub last_byte : List Event → List (List Event)
+last_byte rest = if length rest == 8 then rest ∷ [] else []
 
--- eight clocks are a byte
-abbrev pub eight_outs : Role → List Event → List Out
-eight_outs role clocks = byte_outs role (first_place place_of clocks) (last_place place_of clocks) (value_of clocks)
+unfoldable pub bytes_of : List Event → List (List Event)
+bytes_of clocks = groups 9 clocks ++ last_byte (after_groups 9 clocks)
 
--- nine clocks are a byte and its acknowledge bit
-abbrev pub group_outs : Role → List Event → List Out
-group_outs role group = eight_outs role (take 8 group) ++ flat_map (λ clock. ack_outs (place_of clock) (level_of clock)) (drop 8 group)
+-- the number that clocks make up: the first bit is the highest
+abbrev pub value_of : List Event → ℕ
+value_of clocks = high_first (map level_of clocks)
 
--- the clocks behind the whole groups give a byte where they are eight
-abbrev pub rest_outs : Role → List Event → List Out
-rest_outs role rest = if length rest == 8 then eight_outs role rest else []
+-- the value of a byte, and the values of bytes
+abbrev pub byte_value : List Event → ℕ
+byte_value byte = value_of (take 8 byte)
 
--- the direction of a segment: the lowest bit of its first byte, 1 is read
-abbrev pub direction : ℕ → Role
-direction byte = if byte % 2 == 1 then Read else Write
+abbrev pub values_of : List (List Event) → List ℕ
+values_of bytes = map byte_value bytes
 
--- what the bytes behind some groups are
-abbrev pub role_behind : List (List Event) → Role
-role_behind [] = Address
-role_behind (group ∷ others) = direction (value_of (take 8 group))
+-- eight clocks, by the bytes of their segment before them
+abbrev pub eight_outs : (ℕ → Option ℕ) → List ℕ → List Event → List Out
+eight_outs known before clocks = byte_outs known (role_behind before) (first_place place_of clocks) (last_place place_of clocks) (value_of clocks)
 
--- the groups of a segment and the clocks behind them: the first byte is the address, the others are data
-abbrev pub groups_outs : List (List Event) → List Event → List Out
-groups_outs [] rest = rest_outs Address rest
-groups_outs (group ∷ others) rest =
-    group_outs Address group ++ flat_map (group_outs (role_behind (group ∷ others))) others ++ rest_outs (role_behind (group ∷ others)) rest
+-- a byte with its acknowledge bit, by the bytes of its segment before it
+abbrev pub group_outs : (ℕ → Option ℕ) → List (List Event) → List Event → List Out
+group_outs known before byte =
+    eight_outs known (values_of before) (take 8 byte) ++ flat_map (λ clock. ack_outs (place_of clock) (level_of clock)) (drop 8 byte)
 
--- the clocks of a segment, nine by nine
-unfoldable pub clocks_outs : List Event → List Out
-clocks_outs clocks = groups_outs (groups 9 clocks) (after_groups 9 clocks)
+-- the clocks of a segment; `known` says from which ten-bit address it would read with this first byte
+unfoldable pub clocks_outs : (ℕ → Option ℕ) → List Event → List Out
+clocks_outs known clocks = along (group_outs known) (bytes_of clocks)
 
 -- START and STOP cut the events into parts; a part that begins with a START is a segment
 abbrev pub is_mark : Event → Bool
@@ -116,33 +108,45 @@ segment_in (Start k ∷ clocks) = Some clocks
 segment_in (Stop k ∷ clocks) = None
 segment_in (Clock k level ∷ clocks) = None
 
--- a part, by whether the part before it is a segment: its START is then a repeated one. Clocks behind a STOP give nothing
-abbrev pub part_outs : Bool → List Event → List Out
-part_outs again [] = []
-part_outs again (Start k ∷ clocks) = start_outs again k ++ clocks_outs clocks
-part_outs again (Stop k ∷ clocks) = stop_outs k
-part_outs again (Clock k level ∷ clocks) = []
+-- the segment that is open behind some parts: the last of them, where that isn't a STOP
+abbrev pub segment_of : Option (List Event) → Option (List Event)
+segment_of None = None
+segment_of (Some part) = segment_in part
 
-abbrev pub parts_outs : Bool → List (List Event) → List Out
-parts_outs again [] = []
-parts_outs again (part ∷ others) = part_outs again part ++ parts_outs (is_some (segment_in part)) others
+abbrev pub open_segment : List (List Event) → Option (List Event)
+open_segment earlier = segment_of (last_of earlier)
+
+-- the values of the bytes of a part; a STOP has none
+abbrev pub bytes_in : Option (List Event) → List ℕ
+bytes_in None = []
+bytes_in (Some clocks) = values_of (bytes_of clocks)
+
+-- whether a part is no segment that begins with this byte: a STOP, a segment without a byte, or one with another first byte
+abbrev pub begins_with : ℕ → List ℕ → Bool
+begins_with byte [] = false
+begins_with byte (first ∷ others) = first == byte
+
+abbrev pub is_other : ℕ → List Event → Bool
+is_other byte part = not (begins_with byte (bytes_in (segment_in part)))
+
+-- the ten-bit address that a segment with this first byte reads from, by the parts before it: the last of them that doesn't
+-- begin with that byte too is a segment that writes to this address, and so no STOP stands between that one and this
+abbrev pub read_from : List (List Event) → ℕ → Option ℕ
+read_from earlier byte = read_by byte (written (bytes_in (segment_of (last_that (is_other byte) earlier))))
+
+-- a part, by the parts before it: a START is repeated where a segment is open. Clocks behind a STOP give nothing
+abbrev pub part_outs : List (List Event) → List Event → List Out
+part_outs earlier [] = []
+part_outs earlier (Start k ∷ clocks) = start_outs (is_some (open_segment earlier)) k ++ clocks_outs (read_from earlier) clocks
+part_outs earlier (Stop k ∷ clocks) = stop_outs k
+part_outs earlier (Clock k level ∷ clocks) = []
 
 abbrev pub events_outs : List Event → List Out
-events_outs list = parts_outs false (parts is_mark list)
+events_outs list = along part_outs (parts is_mark list)
 
 -- *outputs*: all that samples give
 unfoldable pub i2c_outs : ℕ → ℕ → List ℕ → List Out
 i2c_outs scl sda samples = events_outs (events scl sda samples)
-
--- the clocks of the last part, where it is a segment
-abbrev pub last_segment : List (List Event) → Option (List Event)
-last_segment [] = None
-last_segment (part ∷ []) = segment_in part
-last_segment (part ∷ next ∷ others) = last_segment (next ∷ others)
-
--- the clocks of the segment that is open behind these samples
-abbrev pub open_segment : ℕ → ℕ → List ℕ → Option (List Event)
-open_segment scl sda samples = last_segment (parts is_mark (events scl sda samples))
 
 -- where the clocks behind the whole groups begin, if they are one to seven: a byte that isn't given yet
 abbrev pub begun_at : List Event → ℕ → ℕ
@@ -154,4 +158,4 @@ near_in (Some clocks) next = begun_at (after_groups 9 clocks) next
 
 -- *near*: where the byte that has begun and isn't given yet starts, else the number of samples
 unfoldable pub i2c_near : ℕ → ℕ → List ℕ → ℕ
-i2c_near scl sda samples = near_in (open_segment scl sda samples) (length samples)
+i2c_near scl sda samples = near_in (open_segment (parts is_mark (events scl sda samples))) (length samples)

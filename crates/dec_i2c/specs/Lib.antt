@@ -1,3 +1,4 @@
+pub mod Bytes
 pub mod Bus
 pub mod Texts
 pub mod Opening

@@ -1,10 +1,10 @@
 -- The machine's view, and lemmas that laws of machines cite.
 pub mod Machine
+pub mod TenLaws
 pub mod ClockLaws
-pub mod EventLaws
-pub mod GivenLaws
+pub mod PushLaws
 pub mod MetLaws
-pub mod Standing
+pub mod SoundLaws
 pub mod I2cLaws
 pub mod MachineLaws
 pub mod WireLaws

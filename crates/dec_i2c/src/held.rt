@@ -18,30 +18,39 @@ pub struct Bus {
     ghost sda_below: { sda < MOST_PINS },
 }
 
-/// What the bytes of a segment are, by those that stand before them: first the address with R/W, then
-/// data in its direction.
+/// What a byte of a segment is, by the bytes that stand before it there.
 #[derive(Clone, Copy, Debug, PartialEq, Eq)]
 pub enum Role {
-    Address,
+    /// The first one: an address with R/W, a prefix of ten-bit addresses with R/W, or a general call.
+    First,
+    /// Behind a prefix with R/W 0: the lower eight bits of a ten-bit address with these upper two.
+    Lower(u8),
+    /// Behind a general call: its command.
+    Command,
+    /// Data that is written.
     Write,
+    /// Data that is read.
     Read,
 }
 
-/// Whether the bus is inside a segment and what its next byte is; then how many bits of the present
-/// group of nine were read, the number that they make up, and the place of the first of them. Where
-/// there are none, the last two are 0.
+/// What is kept of an open segment between two events.
 #[derive(Clone, Copy, Debug, PartialEq, Eq)]
-pub struct Held {
-    pub inside: bool,
+pub struct Segment {
+    /// What its next byte is.
     pub role: Role,
+    /// The ten-bit address that can be read from: before the first byte in this segment, then in the next.
+    pub ten: Option<u16>,
+    /// How many bits of the present group of nine were read.
     pub bits: u8,
+    /// The number that they make up, without the ninth; 0 where there are none.
     pub byte: u8,
+    /// The place of the first of them; 0 where there are none.
     pub first: u64,
 }
 
-/// A decoder of I2C between two events.
+/// A decoder of I2C between two events, with the segment that is open, if one is.
 #[derive(Drop)]
 pub struct I2c {
     pub(crate) bus: Bus,
-    pub(crate) held: Held,
+    pub(crate) held: Option<Segment>,
 }

@@ -1,4 +1,4 @@
-//! I2C, by the bus specification UM10204.
+//! I2C, by the bus specification UM10204: addresses of seven and of ten bits, data, acknowledges, general calls.
 #![tactic(auto)]
 
 mod held;
@@ -11,6 +11,6 @@ mod steps;
 mod tests;
 mod texts;
 
-use held::{Held, Role};
+use held::{Role, Segment};
 pub use held::{Bus, I2c, I2cOpts};
 pub use texts::text;

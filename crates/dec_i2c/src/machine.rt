@@ -1,17 +1,16 @@
 // I2C as a decoder of samples: it sleeps between two events.
 ghost use Rattle.std.specs.Prelude.{◌≡◌, ◌<◌, ◌^◌, ◌∷◌, [], ℕ, List, true};
-ghost use Rattle.dec_i2c.specs.Bus.{i2c_outs, i2c_near};
-ghost use Rattle.dec_i2c.specs.laws.Machine.{near_by};
-ghost use Rattle.dec_i2c.specs.laws.Machine.{mark_alt, clock_alt, i2c_alts};
-ghost use Rattle.dec_i2c.specs.Opening.{StandsFor, Opens};
-ghost use Rattle.dec_i2c.specs.laws.I2cLaws.{i2c_quiet, i2c_nothing, i2c_prefix, i2c_order, i2c_few, i2c_one_stop};
 ghost use Rattle.la_base.specs.declared.wires.Wire.TheVariants.{I2c as I2cWire};
+ghost use Rattle.dec_i2c.specs.Bus.{i2c_outs, i2c_near};
+ghost use Rattle.dec_i2c.specs.Opening.{StandsFor, Opens};
+ghost use Rattle.dec_i2c.specs.laws.Machine.{mark_alt, clock_alt, i2c_alts, near_by};
+ghost use Rattle.dec_i2c.specs.laws.I2cLaws.{i2c_nothing, i2c_prefix, i2c_order, i2c_few};
 ghost use Rattle.dec_i2c.specs.laws.WireLaws.{i2c_on_wire};
-ghost use Rattle.dec_i2c.specs.laws.MachineLaws.{one_i2c, ends_too, same_alts};
+ghost use Rattle.dec_i2c.specs.laws.MachineLaws.{machine_quiet, one_i2c, i2c_one_stop, same_alts};
 
 use crate::outputs::give;
-use crate::steps::{closed, step};
-use crate::{Bus, Held, I2c, I2cOpts};
+use crate::steps::step;
+use crate::{Bus, I2c, I2cOpts, Segment};
 use decoder_core::{LogicMachine, OptFault, Outs};
 use la_base::{MOST_PINS, Rate, Word, pin};
 use wait_cond::{Alt, Cond};
@@ -56,13 +55,18 @@ fn clock_alt(bus: Bus) -> Alt
 }
 
 // Where the byte that has begun and isn't given yet starts, else the number of samples.
-fn near(held: Held, next: u64) -> u64
-    ensures { result ≡ near_by held next }
+fn near(held: &Option<Segment>, next: u64) -> u64
+    ensures { result ≡ near_by held.now next }
 {
-    if 0 < held.bits && held.bits < 8 {
-        held.first
-    } else {
-        next
+    match held {
+        Some(segment) => {
+            if 0 < segment.bits && segment.bits < 8 {
+                segment.first
+            } else {
+                next
+            }
+        }
+        None => next,
     }
 }
 
@@ -77,10 +81,7 @@ impl I2c {
                 scl: opts.scl,
                 sda: opts.sda,
             };
-            Ok(I2c {
-                bus,
-                held: closed(),
-            })
+            Ok(I2c { bus, held: None })
         } else {
             Err(OptFault::Range)
         }
@@ -116,15 +117,15 @@ impl LogicMachine for I2c {
 
     fn resume(&mut self, at: u64, value: Word, met: u8, into: &mut Outs) {
         let level = pin(value, self.bus.sda);
-        give(self.held, met, at, level, into);
-        self.held = step(self.held, met, at, level);
+        give(&self.held, met, at, level, into);
+        step(&mut self.held, met, at, level);
     }
 
     fn floor(&self, next: u64) -> u64 {
-        near(self.held, next)
+        near(&self.held, next)
     }
 
-    ghost quiet = { λ machine seen more _ rests. i2c_quiet machine.bus.scl machine.bus.sda seen more rests };
+    ghost quiet = { λ machine seen more stands rests. machine_quiet machine seen more stands rests };
 
     ghost nothing = { λ machine. i2c_nothing machine.bus.scl machine.bus.sda };
 
@@ -140,5 +141,5 @@ impl LogicMachine for I2c {
 
     ghost one_machine = { λ one other list same stands also. one_i2c one other list same stands also };
 
-    ghost one_stop = { λ one other seen more same stands also rests. i2c_one_stop one.bus.scl one.bus.sda seen more (ends_too one other seen more same also) rests };
+    ghost one_stop = { λ one other seen more same stands also rests. i2c_one_stop one other seen more same stands also rests };
 }

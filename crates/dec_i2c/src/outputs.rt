@@ -1,13 +1,15 @@
 // What an event puts out.
 ghost use Rattle.std.specs.Prelude.{◌≡◌, []};
-ghost use Rattle.dec_i2c.specs.Bus.{start_outs, stop_outs, ack_outs, byte_outs};
-ghost use Rattle.dec_i2c.specs.laws.Machine.{grown, clock_gives, gives};
-ghost use Rattle.dec_i2c.specs.laws.Machine.{event_met};
+ghost use Rattle.dec_i2c.specs.Bytes.{address_outs, data_outs, first_class, first_outs, read_by, byte_outs};
+ghost use Rattle.dec_i2c.specs.Bus.{start_outs, stop_outs, ack_outs};
+ghost use Rattle.dec_i2c.specs.laws.Machine.{event_met, clock_gives, gives};
 
-use crate::{Held, Role};
+use crate::steps::{grown, is_prefix, is_read, read_by, ten_bits};
+use crate::{Role, Segment};
 use decoder_core::{Outs, note_at, packet_at, span_note, span_packet, span_piece};
 use la_base::PacketKind;
 
+#[inline(never)]
 fn give_start(again: bool, at: u64, into: &mut Outs)
     requires { into.old ≡ [] }
     ensures { into.new ≡ start_outs again at }
@@ -21,6 +23,7 @@ fn give_start(again: bool, at: u64, into: &mut Outs)
     }
 }
 
+#[inline(never)]
 fn give_stop(at: u64, into: &mut Outs)
     requires { into.old ≡ [] }
     ensures { into.new ≡ stop_outs at }
@@ -29,6 +32,7 @@ fn give_stop(at: u64, into: &mut Outs)
     into.push(packet_at(PacketKind::I2cStop, at, 0));
 }
 
+#[inline(never)]
 fn give_ack(at: u64, level: bool, into: &mut Outs)
     requires { into.old ≡ [] }
     ensures { into.new ≡ ack_outs at level }
@@ -42,60 +46,93 @@ fn give_ack(at: u64, level: bool, into: &mut Outs)
     }
 }
 
-fn give_byte(role: Role, first: u64, last: u64, byte: u8, into: &mut Outs)
+fn give_address(class: u16, first: u64, last: u64, a: u64, b: u64, into: &mut Outs)
     requires { into.old ≡ [] }
-    ensures { into.new ≡ byte_outs role first last byte }
+    ensures { into.new ≡ address_outs class first last a b }
+{
+    into.push(span_note(class, first, last, a, 0));
+    into.push(span_packet(PacketKind::I2cAddress, first, last, a, b));
+}
+
+// A data byte; `read` is 0 where it is written and 1 where it is read.
+fn give_data(class: u16, read: u16, first: u64, last: u64, byte: u8, into: &mut Outs)
+    requires { into.old ≡ [] }
+    ensures { into.new ≡ data_outs class read first last byte }
 {
     let value = byte as u64;
-    match role {
-        Role::Address => {
-            let class = 3 + (byte % 2) as u16;
-            into.push(span_note(class, first, last, value / 2, 0));
-            into.push(span_packet(PacketKind::I2cAddress, first, last, value / 2, value % 2));
-        }
-        Role::Write => {
-            into.push(span_note(5, first, last, value, 0));
-            into.push(span_piece(0, first, last, byte));
-            into.push(span_packet(PacketKind::I2cData, first, last, value, 0));
-        }
-        Role::Read => {
-            into.push(span_note(6, first, last, value, 0));
-            into.push(span_piece(1, first, last, byte));
-            into.push(span_packet(PacketKind::I2cData, first, last, value, 1));
-        }
+    into.push(span_note(class, first, last, value, 0));
+    into.push(span_piece(read, first, last, byte));
+    into.push(span_packet(PacketKind::I2cData, first, last, value, read as u64));
+}
+
+// A general call, a prefix, or an address.
+fn first_class(byte: u8) -> u16
+    ensures { result ≡ first_class byte }
+{
+    if byte == 0 {
+        9
+    } else if is_prefix(byte) {
+        if is_read(byte) { 13 } else { 10 }
+    } else {
+        if is_read(byte) { 4 } else { 3 }
     }
 }
 
-/// A byte with one more bit behind it.
-pub fn grown(byte: u8, level: bool) -> u8
-    ensures { result ≡ grown byte level }
+fn give_first(own: Option<u16>, first: u64, last: u64, byte: u8, into: &mut Outs)
+    requires { into.old ≡ [] }
+    ensures { into.new ≡ first_outs own first last byte }
 {
-    byte % 128 * 2 + level as u8
+    match own {
+        Some(address) => give_address(12, first, last, address as u64, 3, into),
+        None => give_address(
+            first_class(byte),
+            first,
+            last,
+            (byte / 2) as u64,
+            (byte % 2) as u64,
+            into,
+        ),
+    }
 }
 
-fn give_clock(held: Held, at: u64, level: bool, into: &mut Outs)
+#[inline(never)]
+fn give_byte(role: Role, ten: Option<u16>, first: u64, last: u64, byte: u8, into: &mut Outs)
     requires { into.old ≡ [] }
-    ensures { into.new ≡ clock_gives held.role held.bits held.byte held.first at level }
+    ensures { into.new ≡ byte_outs (λ own. read_by own ten) role first last byte }
 {
-    if held.bits == 7 {
-        give_byte(held.role, held.first, at, grown(held.byte, level), into);
-    } else if held.bits == 8 {
+    match role {
+        Role::First => give_first(read_by(byte, ten), first, last, byte, into),
+        Role::Lower(two) => give_address(11, first, last, ten_bits(two, byte) as u64, 2, into),
+        Role::Command => give_data(14, 0, first, last, byte, into),
+        Role::Write => give_data(5, 0, first, last, byte, into),
+        Role::Read => give_data(6, 1, first, last, byte, into),
+    }
+}
+
+fn give_clock(segment: &Segment, at: u64, level: bool, into: &mut Outs)
+    requires { into.old ≡ [] }
+    ensures { into.new ≡ clock_gives segment.now at level }
+{
+    if segment.bits == 7 {
+        let byte = grown(segment.byte, level);
+        give_byte(segment.role, segment.ten, segment.first, at, byte, into);
+    } else if segment.bits == 8 {
         give_ack(at, level, into);
     }
 }
 
 /// Puts out what the event gives that meets this set of alternatives.
-pub fn give(held: Held, met: u8, at: u64, level: bool, into: &mut Outs)
+pub fn give(held: &Option<Segment>, met: u8, at: u64, level: bool, into: &mut Outs)
     requires { into.old ≡ [] }
-    ensures { into.new ≡ gives held (event_met met at level) }
+    ensures { into.new ≡ gives held.now (event_met met at level) }
 {
     if met == 1 {
         if level {
             give_stop(at, into);
         } else {
-            give_start(held.inside, at, into);
+            give_start(held.is_some(), at, into);
         }
-    } else if held.inside {
-        give_clock(held, at, level, into);
+    } else if let Some(segment) = held {
+        give_clock(segment, at, level, into);
     }
 }

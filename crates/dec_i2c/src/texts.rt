@@ -1,25 +1,57 @@
 // Notes as text.
-ghost use Rattle.std.specs.Prelude.{◌≡◌, ◌+◌, ◌≤◌, ◌++◌, length};
+ghost use Rattle.std.specs.Prelude.{◌≡◌, ◌+◌, ◌≤◌, ◌++◌, length, codes};
 ghost use Rattle.line_text.specs.Texts.{hex};
-ghost use Rattle.dec_i2c.specs.Texts.{note_text};
+ghost use Rattle.dec_i2c.specs.Texts.{command_name, note_text};
 
 use la_base::Note;
 use line_text::LineBuf;
 
-// A label, and a value in upper case hexadecimal with at least two digits.
+// A label, and a value in upper case hexadecimal with at least so many digits.
 #[tactic(auto, using(line_text::proofs::Widths::hex_room))]
-fn labelled(label: &[u8], value: u64, buf: &mut LineBuf)
-    requires { length buf.old + length label.now + 16 ≤ 256 }
-    ensures text { buf.new ≡ buf.old ++ (label.now ++ hex 2 value) }
+#[inline(never)]
+fn labelled(label: &[u8], value: u64, digits: u32, buf: &mut LineBuf)
+    requires digits { (1 ≤ digits) × (digits ≤ 16) }
+    requires room { length buf.old + length label.now + 16 ≤ 256 }
+    ensures text { buf.new ≡ buf.old ++ (label.now ++ hex digits value) }
     ensures short { length buf.new ≤ length buf.old + length label.now + 16 }
 {
     buf.push_bytes(label);
-    buf.push_hex(value, 2);
+    buf.push_hex(value, digits);
+}
+
+// The name of the command of a general call; of a hardware master it has the address.
+fn command(byte: u64, buf: &mut LineBuf)
+    requires { length buf.old + 32 ≤ 256 }
+    ensures text { buf.new ≡ buf.old ++ command_name byte }
+    ensures short { length buf.new ≤ length buf.old + 32 }
+{
+    if byte == 6 {
+        buf.push_bytes(b"reset and write address");
+    } else if byte == 4 {
+        buf.push_bytes(b"write address");
+    } else if byte % 2 == 0 {
+        labelled(b"", byte, 2, buf);
+    } else {
+        labelled(b"hardware master ", byte / 2, 2, buf);
+    }
+}
+
+#[inline(never)]
+fn general_command(byte: u64, buf: &mut LineBuf)
+    requires { length buf.old + 64 ≤ 256 }
+    ensures text { buf.new ≡ buf.old ++ (codes "General call command: " ++ command_name byte) }
+    ensures short { length buf.new ≤ length buf.old + 64 }
+{
+    buf.push_bytes(b"General call command: ");
+    command(byte, buf);
 }
 
 /// Appends the text of a note, and nothing for a class that I2C doesn't have: `Start`, `Start repeat`,
-/// `Stop`, `Address write: ` and `Address read: ` with the address, `Data write: ` and `Data read: `
-/// with the byte, `ACK`, `NACK`. Addresses and bytes are two digits of upper case hexadecimal.
+/// `Stop`; `Address write: ` and `Address read: `, `Prefix write: ` and `Prefix read: ` with the upper
+/// seven bits of the byte; `Address 10-bit write: ` and `Address 10-bit read: ` with the address in four
+/// digits; `Data write: ` and `Data read: ` with the byte; `ACK`, `NACK`; `General call`; and `General
+/// call command: ` with its name. Numbers are upper case hexadecimal, of two digits where no other number
+/// is named.
 pub fn text(note: Note, buf: &mut LineBuf)
     requires { length buf.old + 64 ≤ 256 }
     ensures text { buf.new ≡ buf.old ++ note_text note.class note.a }
@@ -29,12 +61,18 @@ pub fn text(note: Note, buf: &mut LineBuf)
         0 => buf.push_bytes(b"Start"),
         1 => buf.push_bytes(b"Start repeat"),
         2 => buf.push_bytes(b"Stop"),
-        3 => labelled(b"Address write: ", note.a, buf),
-        4 => labelled(b"Address read: ", note.a, buf),
-        5 => labelled(b"Data write: ", note.a, buf),
-        6 => labelled(b"Data read: ", note.a, buf),
+        3 => labelled(b"Address write: ", note.a, 2, buf),
+        4 => labelled(b"Address read: ", note.a, 2, buf),
+        5 => labelled(b"Data write: ", note.a, 2, buf),
+        6 => labelled(b"Data read: ", note.a, 2, buf),
         7 => buf.push_bytes(b"ACK"),
         8 => buf.push_bytes(b"NACK"),
+        9 => buf.push_bytes(b"General call"),
+        10 => labelled(b"Prefix write: ", note.a, 2, buf),
+        11 => labelled(b"Address 10-bit write: ", note.a, 4, buf),
+        12 => labelled(b"Address 10-bit read: ", note.a, 4, buf),
+        13 => labelled(b"Prefix read: ", note.a, 2, buf),
+        14 => general_command(note.a, buf),
         _ => {}
     }
 }

@@ -1,16 +1,17 @@
--- What an I2C decoder waits for, what it keeps of a bus between two events, and how one event changes that.
-use Rattle.std.specs.Prelude.{ℕ, zero, suc, ◌≡◌, ◌+◌, ◌*◌, ◌%◌, ◌^◌, nat_lt, Bool, true, false, ◌==◌, ◌&&◌, if◌then◌else◌, List, [], ◌∷◌, length, slice_index, Option, Some, None}
-use Rattle.la_base.specs.Samples.{before_of}
+-- What an I2C decoder waits for, what it keeps of a bus between two events, and what one event gives and changes.
+use Rattle.std.specs.Prelude.{ℕ, ◌+◌, ◌*◌, ◌%◌, ◌^◌, nat_lt, Bool, ◌==◌, ◌&&◌, if◌then◌else◌, List, [], ◌∷◌, length, Option, Some, None, is_some}
 use Rattle.la_base.specs.declared.wires.Out.{Out}
 use Rattle.wait_cond.specs.declared.alt.Alt.{Alt}
 use Rattle.list_cuts.specs.Bits.{bit_of}
-use Rattle.list_cuts.specs.Groups.{groups, after_groups}
+use Rattle.list_cuts.specs.Groups.{after_groups}
 use Rattle.list_cuts.specs.Parts.{parts}
 use Rattle.list_cuts.specs.Places.{first_place}
-use Rattle.dec_i2c.specs.declared.held.Held.{Held}
+use Rattle.sample_walks.specs.Events.{EventWalk}
 use Rattle.dec_i2c.specs.declared.held.Role.{Role}
-use Rattle.dec_i2c.specs.declared.held.Role.TheVariants.{Address, Write, Read}
-use Rattle.dec_i2c.specs.Bus.{Event, Start, Stop, Clock, place_of, value_of, event_at, start_outs, stop_outs, ack_outs, byte_outs, direction, role_behind, is_mark, last_segment, open_segment}
+use Rattle.dec_i2c.specs.declared.held.Role.TheVariants.{First, Lower, Command, Write, Read}
+use Rattle.dec_i2c.specs.declared.held.Segment.{Segment}
+use Rattle.dec_i2c.specs.Bytes.{is_write_prefix, two_bits, ten_bits, read_by, role_second, role_behind, byte_outs}
+use Rattle.dec_i2c.specs.Bus.{Event, Start, Stop, Clock, place_of, value_of, values_of, bytes_of, bytes_in, event_at, start_outs, stop_outs, ack_outs, is_mark, segment_in}
 
 -- SCL stays high and SDA rises or falls; or SCL rises. More alternatives would cost each sample more
 abbrev pub mark_alt : ℕ → ℕ → Alt
@@ -26,74 +27,136 @@ i2c_alts scl sda = mark_alt scl sda ∷ clock_alt scl ∷ []
 abbrev pub event_met : ℕ → ℕ → Bool → Event
 event_met met k level = if met == 1 then (if level then Stop k else Start k) else Clock k level
 
--- there is no sample before place n, or there is an event at the last one
-abbrev pub EventBefore : ℕ → ℕ → List ℕ → ℕ → Type 0
-EventBefore scl sda list zero = Unit {0}
-EventBefore scl sda list (suc q) = (e : Event) × (event_at scl sda q (before_of list q) (slice_index list q) ≡ e ∷ [])
+-- the ten-bit address that can be read from behind a segment with these bytes, where that one could before it: the one it
+-- writes to, or again the one it reads from
+abbrev pub left_by : Option ℕ → List ℕ → Option ℕ
+left_by ten [] = None
+left_by ten (first ∷ []) = read_by first ten
+left_by ten (first ∷ lower ∷ others) = if is_write_prefix first then Some (ten_bits (two_bits first) lower) else read_by first ten
 
--- there is an event at the last sample, or there are no samples
-abbrev pub EndsAtEvent : ℕ → ℕ → List ℕ → Type 0
-EndsAtEvent scl sda list = EventBefore scl sda list (length list)
+-- behind some parts
+abbrev pub left_behind : Option ℕ → List (List Event) → Option ℕ
+left_behind ten [] = ten
+left_behind ten (part ∷ others) = left_behind (left_by ten (bytes_in (segment_in part))) others
 
--- no segment is open, and a segment that has just begun
-abbrev pub closed : Held
-closed = record { inside = false; role = Address; bits = 0; byte = 0; first = 0 }
+-- and what is kept of it in a segment with these bytes so far: before the first of them it stays
+abbrev pub ten_in : Option ℕ → List ℕ → Option ℕ
+ten_in ten [] = ten
+ten_in ten (first ∷ others) = left_by ten (first ∷ others)
 
-abbrev pub begun : Held
-begun = record { inside = true; role = Address; bits = 0; byte = 0; first = 0 }
+-- what is kept of an open segment: its bytes so far, and the clocks behind the whole groups of nine
+abbrev pub segment_with : Option ℕ → List ℕ → List Event → Segment
+segment_with ten bytes rest = record {
+  role = role_behind bytes;
+  ten = ten_in ten bytes;
+  bits = length rest;
+  byte = value_of rest;
+  first = first_place place_of rest;
+}
 
--- what is kept of the groups of an open segment and the clocks behind them
-abbrev pub held_by : List (List Event) → List Event → Held
-held_by whole rest = record { inside = true; role = role_behind whole; bits = length rest; byte = value_of rest; first = first_place place_of rest }
+abbrev pub segment_by : Option ℕ → List Event → Segment
+segment_by ten clocks = segment_with ten (values_of (bytes_of clocks)) (after_groups 9 clocks)
 
-abbrev pub held_of : Option (List Event) → Held
-held_of None = closed
-held_of (Some clocks) = held_by (groups 9 clocks) (after_groups 9 clocks)
+abbrev pub held_of : Option ℕ → Option (List Event) → Option Segment
+held_of ten None = None
+held_of ten (Some clocks) = Some (segment_by ten clocks)
 
--- what is kept of events, and of samples
-abbrev pub held_after : List Event → Held
-held_after list = held_of (last_segment (parts is_mark list))
+-- what is kept of parts, and of events
+abbrev pub held_last : Option ℕ → List (List Event) → Option Segment
+held_last ten [] = None
+held_last ten (part ∷ []) = held_of ten (segment_in part)
+held_last ten (part ∷ next ∷ others) = held_last (left_by ten (bytes_in (segment_in part))) (next ∷ others)
 
-unfoldable pub held_at : ℕ → ℕ → List ℕ → Held
-held_at scl sda samples = held_of (open_segment scl sda samples)
+abbrev pub held_after : List Event → Option Segment
+held_after list = held_last None (parts is_mark list)
 
--- whether a byte has begun that isn't given yet
-abbrev pub has_begun : Held → Bool
-has_begun held = nat_lt 0 held.bits && nat_lt held.bits 8
+-- where the byte starts that has begun and isn't given yet, else the number of samples
+abbrev pub near_by : Option Segment → ℕ → ℕ
+near_by None next = next
+near_by (Some segment) next = if nat_lt 0 segment.bits && nat_lt segment.bits 8 then segment.first else next
 
--- where it starts, else the number of samples
-abbrev pub near_by : Held → ℕ → ℕ
-near_by held next = if has_begun held then held.first else next
+-- the ten-bit address that an open segment leaves to the next: none without a first byte
+abbrev pub handed_by : Role → Option ℕ → Option ℕ
+handed_by First ten = None
+handed_by (Lower two) ten = ten
+handed_by Command ten = ten
+handed_by Write ten = ten
+handed_by Read ten = ten
+
+abbrev pub handed : Option Segment → Option ℕ
+handed None = None
+handed (Some segment) = handed_by segment.role segment.ten
 
 -- a byte with one more bit behind it
 abbrev pub grown : ℕ → Bool → ℕ
 grown byte level = byte % 128 * 2 + bit_of level
 
--- what follows a byte of a segment
+-- what follows a byte of a segment, and the ten-bit address behind it
 abbrev pub role_next : Role → ℕ → Role
-role_next Address byte = direction byte
+role_next First byte = role_second byte
+role_next (Lower two) byte = Write
+role_next Command byte = Write
 role_next Write byte = Write
 role_next Read byte = Read
 
--- what a clock at place k gives in an open segment
-abbrev pub clock_gives : Role → ℕ → ℕ → ℕ → ℕ → Bool → List Out
-clock_gives role bits byte first k level =
-    if bits == 7 then byte_outs role first k (grown byte level) else (if bits == 8 then ack_outs k level else [])
+abbrev pub ten_next : Role → ℕ → Option ℕ → Option ℕ
+ten_next First byte ten = read_by byte ten
+ten_next (Lower two) byte ten = Some (ten_bits two byte)
+ten_next Command byte ten = ten
+ten_next Write byte ten = ten
+ten_next Read byte ten = ten
+
+-- where the byte starts that clock k belongs to
+abbrev pub start_of : ℕ → ℕ → ℕ → ℕ
+start_of bits first k = if bits == 0 then k else first
+
+-- what a clock at place k gives in an open segment of this role, with so many bits of a byte that began at `first`
+abbrev pub clock_outs : (ℕ → Option ℕ) → Role → ℕ → ℕ → ℕ → ℕ → Bool → List Out
+clock_outs known role bits byte first k level =
+    if bits == 7 then byte_outs known role first k (grown byte level) else (if bits == 8 then ack_outs k level else [])
+
+abbrev pub clock_gives : Segment → ℕ → Bool → List Out
+clock_gives s k level = clock_outs (λ own. read_by own s.ten) s.role s.bits s.byte s.first k level
 
 -- and what is then kept
-abbrev pub clock_next : Role → ℕ → ℕ → ℕ → ℕ → Bool → Held
-clock_next role bits byte first k level =
-    if nat_lt bits 8 then
-    (record { inside = true; role = role; bits = bits + 1; byte = grown byte level; first = if bits == 0 then k else first })
-    else (record { inside = true; role = role_next role byte; bits = 0; byte = 0; first = 0 })
+abbrev pub byte_next : Segment → ℕ → Segment
+byte_next s byte = record { role = role_next s.role byte; ten = ten_next s.role byte s.ten; bits = 8; byte = byte; first = s.first }
+
+abbrev pub bit_next : Segment → ℕ → ℕ → Segment
+bit_next s byte k = record { role = s.role; ten = s.ten; bits = s.bits + 1; byte = byte; first = start_of s.bits s.first k }
+
+abbrev pub group_next : Segment → Segment
+group_next s = record { role = s.role; ten = s.ten; bits = 0; byte = 0; first = 0 }
+
+abbrev pub clock_next : Segment → ℕ → Bool → Segment
+clock_next s k level =
+    if s.bits == 7 then byte_next s (grown s.byte level)
+    else if nat_lt s.bits 7 then bit_next s (grown s.byte level) k
+    else group_next s
+
+-- a segment that has just begun
+abbrev pub begun : Option ℕ → Segment
+begun ten = record { role = First; ten = ten; bits = 0; byte = 0; first = 0 }
 
 -- what an event gives, and what is then kept
-abbrev pub gives : Held → Event → List Out
-gives held (Start k) = start_outs held.inside k
+abbrev pub gives : Option Segment → Event → List Out
+gives held (Start k) = start_outs (is_some held) k
 gives held (Stop k) = stop_outs k
-gives held (Clock k level) = if held.inside then clock_gives held.role held.bits held.byte held.first k level else []
+gives None (Clock k level) = []
+gives (Some segment) (Clock k level) = clock_gives segment k level
 
-abbrev pub next : Held → Event → Held
-next held (Start k) = begun
-next held (Stop k) = closed
-next held (Clock k level) = if held.inside then clock_next held.role held.bits held.byte held.first k level else held
+abbrev pub next : Option Segment → Event → Option Segment
+next held (Start k) = Some (begun (handed held))
+next held (Stop k) = None
+next None (Clock k level) = None
+next (Some segment) (Clock k level) = Some (clock_next segment k level)
+
+abbrev pub i2c_walk : ℕ → ℕ → EventWalk (Option Segment) Event
+i2c_walk scl sda = record {
+  event_at = event_at scl sda;
+  begin = None;
+  next = next;
+  gives = gives;
+  alts = λ held. i2c_alts scl sda;
+  near = near_by;
+}

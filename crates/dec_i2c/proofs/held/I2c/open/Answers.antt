@@ -1,11 +1,12 @@
-use Rattle.std.proofs.Common.{◌∙◌, sym, refl, arith}
-use Rattle.dec_i2c.specs.laws.I2cLaws.{held_nothing}
+use Rattle.std.proofs.Common.{refl, inl, arith}
+use Rattle.sample_walks.specs.Walks.{walked}
 use Rattle.dec_i2c.proofs.held.I2c.open.Goals as goal
 
 pub returns-then-opts-lt-MOST_PINS-2 : goal.returns-then-opts-lt-MOST_PINS-2
+unfolding walked
 returns-then-opts-lt-MOST_PINS-2 c = (
   (omega (arith, c.if-opts-lt-MOST_PINS.true), omega (arith, c.if-opts-lt-MOST_PINS-2.true)),
   refl,
   refl,
-  (tt, c.closed.ensures ∙ sym (held_nothing c.args.opts.scl c.args.opts.sda)),
+  (inl refl, refl),
 )

@@ -2,7 +2,7 @@ use Rattle.dec_i2c.specs.laws.MachineLaws.{floor_is, near_below}
 use Rattle.dec_i2c.proofs.machine.I2cLogicMachine.floor.Goals as goal
 
 pub returns-clause-floor : goal.returns-clause-floor
-returns-clause-floor c = λ seen more stands none next. floor_is _ _ _ seen more stands.1 none _ _ next c.near.ensures
+returns-clause-floor c = λ seen more stands none next. floor_is c.args.self.now seen more stands none _ _ next c.near.ensures
 
 pub returns-clause-near : goal.returns-clause-near
-returns-clause-near c = λ seen more stands none next. near_below _ _ _ seen more stands.1 none _ _ next c.near.ensures
+returns-clause-near c = λ seen more stands none next. near_below c.args.self.now seen more stands none _ _ next c.near.ensures

@@ -1,0 +1,23 @@
+//! SPI, by Motorola's SPI Block Guide: words of MOSI and MISO at the sampling edges of a clock, while a
+//! device is selected.
+#![tactic(auto)]
+
+mod alternatives;
+mod held;
+mod levels;
+mod machine;
+mod opening;
+mod options;
+mod outputs;
+#[cfg(test)]
+mod plain;
+mod stops;
+#[cfg(test)]
+mod tests;
+mod texts;
+mod words;
+
+pub use held::Spi;
+use held::{Bus, Held};
+pub use options::SpiOpts;
+pub use texts::text;

@@ -1,0 +1,74 @@
+// SPI as a decoder of samples: it sleeps between two events.
+ghost use Rattle.std.specs.Prelude.{◌≡◌, ◌∷◌, [], ℕ, List, false};
+ghost use Rattle.std.proofs.Common.{sym};
+ghost use Rattle.std.proofs.lemmas.Bool.{true≢false};
+ghost use Rattle.la_base.specs.declared.wires.Wire.TheVariants.{Spi as SpiWire};
+ghost use Rattle.dec_spi.specs.Bus.{spi_outs, spi_near};
+ghost use Rattle.dec_spi.specs.Opening.{opts_of, alts_of, StandsFor};
+ghost use Rattle.dec_spi.specs.laws.SpiLaws.{spi_nothing, spi_prefix, spi_order, spi_few, spi_on_wire};
+ghost use Rattle.dec_spi.specs.laws.MachineLaws.{machine_quiet, one_spi, spi_one_stop};
+
+use crate::alternatives::{first_select, next_event};
+use crate::stops::stop;
+use crate::words::near;
+use crate::{Held, Spi, SpiOpts};
+use decoder_core::{LogicMachine, Outs};
+use la_base::Word;
+use wait_cond::Cond;
+
+impl LogicMachine for Spi {
+    type Setup = SpiOpts;
+
+    ghost setup = { λ machine. opts_of machine };
+
+    ghost outs = { λ opts list. spi_outs opts list };
+
+    ghost near = { λ opts list. spi_near opts list };
+
+    ghost gives = { λ _. SpiWire };
+
+    ghost stands = { λ machine list. StandsFor machine list };
+
+    ghost alts = { λ machine. alts_of machine };
+
+    ghost fixes_alts = { λ _. false };
+
+    // No edge is met at the first sample, so what is waited for first is a level; later it is always the same.
+    fn cond(&self) -> Cond {
+        match self.held {
+            Held::Fresh => first_select(&self.bus),
+            Held::Outside => next_event(&self.bus),
+            Held::Inside { .. } => next_event(&self.bus),
+        }
+    }
+
+    fn has_fixed_cond(&self) -> bool {
+        false
+    }
+
+    fn resume(&mut self, at: u64, value: Word, _met: u8, into: &mut Outs) {
+        self.held = stop(&self.bus, self.held, at, value, into);
+    }
+
+    fn floor(&self, next: u64) -> u64 {
+        near(self.held, next)
+    }
+
+    ghost quiet = { λ machine seen more stands rests. machine_quiet machine seen more stands rests };
+
+    ghost nothing = { λ machine. spi_nothing machine.bus.opts machine.bus.bits_some machine.bus.bits_few };
+
+    ghost prefix = { λ machine. spi_prefix machine.bus.opts machine.bus.bits_some machine.bus.bits_few };
+
+    ghost order = { λ machine. spi_order machine.bus.opts machine.bus.bits_some machine.bus.bits_few };
+
+    ghost few = { λ machine. spi_few machine.bus.opts machine.bus.bits_some machine.bus.bits_few };
+
+    ghost on_wire = { λ machine. spi_on_wire machine.bus.opts machine.bus.bits_some machine.bus.bits_few };
+
+    ghost fixed = { λ one other same fixes. absurd (true≢false (sym fixes)) };
+
+    ghost one_machine = { λ one other list same stands also. one_spi one other list same stands also };
+
+    ghost one_stop = { λ one other seen more same stands also rests. spi_one_stop one other seen more same stands also rests };
+}

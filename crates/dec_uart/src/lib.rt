@@ -1,0 +1,22 @@
+//! Asynchronous serial: frames with a start bit, data with the least significant bit first, parity and stop bits.
+#![tactic(auto)]
+
+mod frames;
+mod held;
+mod machine;
+mod opening;
+mod options;
+mod outputs;
+#[cfg(test)]
+mod plain;
+mod points;
+mod steps;
+#[cfg(test)]
+mod tests;
+mod texts;
+
+use held::Held;
+pub use held::{Line, Uart};
+use options::Parity;
+pub use options::UartOpts;
+pub use texts::text;

@@ -1,0 +1,123 @@
+// A serial line as a decoder of samples: it sleeps from point to point.
+ghost use Rattle.std.specs.Prelude.{◌≡◌, ◌≢◌, ◌<◌, ◌^◌, ◌∷◌, [], ℕ, List, false};
+ghost use Rattle.std.proofs.lemmas.Bool.{false≢true};
+ghost use Rattle.la_base.specs.declared.wires.Wire.TheVariants.{Uart as UartWire};
+ghost use Rattle.dec_uart.specs.Frames.{uart_outs, uart_near};
+ghost use Rattle.dec_uart.specs.Opening.{StandsFor, alts_of};
+ghost use Rattle.dec_uart.specs.laws.LineLaws.{uart_on_wire};
+ghost use Rattle.dec_uart.specs.laws.Machine.{held_alt, held_near};
+ghost use Rattle.dec_uart.specs.laws.MachineLaws.{uart_quiet, uart_nothing, uart_prefix, uart_order, uart_few, one_uart, uart_one_stop};
+
+use crate::outputs::give;
+use crate::points::{bit_point, last_bit};
+use crate::steps::step;
+use crate::{Held, Line, Uart};
+use decoder_core::{LogicMachine, Outs};
+use la_base::{MOST_PINS, Word, pin};
+use wait_cond::{Alt, Cond};
+
+// The mask of one line.
+fn mask(line: u32) -> Word
+    requires { line < MOST_PINS }
+    ensures { result ≡ 2 ^ line }
+{
+    1 << line
+}
+
+// A line that is high, one that falls, or so many samples behind the last stop.
+fn alt(high: Word, fall: Word, skip: u64) -> Alt
+    ensures { result ≡ record { low = 0; high = high; rise = 0; fall = fall; edge = 0; steady = 0; skip = skip } }
+{
+    Alt {
+        low: 0,
+        high,
+        rise: 0,
+        fall,
+        edge: 0,
+        steady: 0,
+        skip,
+    }
+}
+
+// What is waited for: a frame, its next point, or the end of a line that stays low.
+fn held_alt(line: Line, held: Held) -> Alt
+    ensures { result ≡ held_alt line.opts line.rate held }
+{
+    match held {
+        Held::Idle => alt(0, mask(line.opts.rx), 0),
+        Held::Inside {
+            points,
+            reached,
+            ..
+        } => {
+            let i = (points as u64).min(last_bit(line));
+            alt(0, 0, bit_point(line, i).saturating_sub(reached))
+        }
+        Held::Low { .. } => alt(mask(line.opts.rx), 0, 0),
+    }
+}
+
+// Where the frame starts that is open, else the number of samples.
+fn near(held: Held, next: u64) -> u64
+    ensures { result ≡ held_near held next }
+{
+    match held {
+        Held::Idle => next,
+        Held::Inside { start, .. } => start,
+        Held::Low { start } => start,
+    }
+}
+
+impl LogicMachine for Uart {
+    type Setup = Line;
+
+    ghost setup = { λ machine. machine.line };
+
+    ghost outs = { λ line list. uart_outs line.opts line.rate list };
+
+    ghost near = { λ line list. uart_near line.opts line.rate list };
+
+    ghost gives = { λ _. UartWire };
+
+    ghost stands = { λ machine list. StandsFor machine list };
+
+    ghost alts = { λ machine. alts_of machine };
+
+    ghost fixes_alts = { λ _. false };
+
+    fn cond(&self) -> Cond {
+        Cond::one(held_alt(self.line, self.held))
+    }
+
+    fn has_fixed_cond(&self) -> bool {
+        false
+    }
+
+    fn resume(&mut self, at: u64, value: Word, _met: u8, into: &mut Outs) {
+        let level = pin(value, self.line.opts.rx);
+        give(self.line, self.held, at, level, into);
+        self.held = step(self.line, self.held, at, level);
+    }
+
+    fn floor(&self, next: u64) -> u64 {
+        near(self.held, next)
+    }
+
+    ghost quiet = { λ machine seen more stands rests. uart_quiet machine seen more stands rests };
+
+    ghost nothing = { λ machine. uart_nothing machine.line.opts machine.line.rate machine.line.in_range machine.line.fast };
+
+    ghost prefix = { λ machine. uart_prefix machine.line.opts machine.line.rate machine.line.in_range machine.line.fast };
+
+    ghost order = { λ machine. uart_order machine.line.opts machine.line.rate machine.line.in_range machine.line.fast };
+
+    ghost few = { λ machine. uart_few machine.line.opts machine.line.rate machine.line.in_range machine.line.fast };
+
+    ghost on_wire = { λ machine. uart_on_wire machine.line.opts machine.line.rate };
+
+    ghost fixed = { λ _ _ _ fixes. absurd (false≢true fixes) };
+
+    ghost one_machine = { λ one other list same stands also. one_uart one other list same stands also };
+
+    ghost one_stop = { λ one other seen more same stands also rests. uart_one_stop one other seen more same stands also rests };
+}
