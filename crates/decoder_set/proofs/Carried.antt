@@ -3,13 +3,15 @@ use Rattle.std.proofs.Common.{◌≡◌, ℕ, ◌^◌, Bool, true, false, cond, 
 use Rattle.la_base.specs.declared.samples.Rate.{Rate}
 use Rattle.la_base.specs.declared.wires.Wire.TheVariants.{Logic}
 use Rattle.dec_i2c.specs.Bus.{i2c_outs}
+use Rattle.dec_spi.specs.Bus.{spi_outs}
+use Rattle.dec_uart.specs.Frames.{uart_outs}
 use Rattle.decoder_core.specs.Inputs.{Item, Sample, Pack, counted_samples, samples_in}
 use Rattle.decoder_set.specs.Kinds.{kind_row}
-use Rattle.decoder_set.specs.Options.{i2c_options}
+use Rattle.decoder_set.specs.Options.{i2c_options, spi_options, uart_options}
 use Rattle.decoder_set.specs.Setups.{outs_by}
 use Rattle.decoder_set.specs.Whole.{carried, carries}
 use Rattle.decoder_set.specs.declared.kinds.Kind.{Kind}
-use Rattle.decoder_set.specs.declared.kinds.Kind.TheVariants.{I2c}
+use Rattle.decoder_set.specs.declared.kinds.Kind.TheVariants.{I2c, Spi, Uart}
 
 samples_carried : (input : List Item) → samples_in (carried Logic input) ≡ samples_in input
 samples_carried [] = refl
@@ -26,3 +28,5 @@ counted_carried input = ap (take (2 ^ 60)) (samples_carried input)
 
 pub reads_its_wire : (kind : Kind) (values : List (Option ℕ)) (rate : Rate) (input : List Item) → outs_by kind values rate (carried (kind_row kind).input input) ≡ outs_by kind values rate input
 reads_its_wire I2c values rate input = ap (i2c_outs (i2c_options values).scl (i2c_options values).sda) (counted_carried input)
+reads_its_wire Spi values rate input = ap (spi_outs (spi_options values)) (counted_carried input)
+reads_its_wire Uart values rate input = ap (uart_outs (uart_options values) rate) (counted_carried input)

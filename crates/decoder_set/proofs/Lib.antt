@@ -1,6 +1,6 @@
 pub mod ListLemmas
 pub mod WholeRows
-pub mod RangeLemmas
 pub mod Carried
 pub mod OneDecoder
-pub mod Stopping
+pub mod Handing
+pub mod KindLemmas

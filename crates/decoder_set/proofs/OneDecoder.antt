@@ -1,23 +1,26 @@
 -- Two decoders of one setup that have consumed one input hold the same.
-use Rattle.std.proofs.Common.{◌≡◌, ℕ, ◌<◌, List, Option, sym, ◌∙◌, subst}
+use Rattle.std.proofs.Common.{◌≡◌, ℕ, ◌<◌, ◌≤◌, ◌^◌, List, Option, sym, ◌∙◌, subst}
 use Rattle.std.proofs.Math.Bridge.{le_prop}
 use Rattle.std.proofs.Math.Path.{to_path_p}
 use Rattle.la_base.specs.declared.samples.Rate.{Rate}
 use Rattle.la_base.specs.declared.samples.TheConstants.{MOST_PINS}
 use Rattle.decoder_core.specs.Inputs.{Item}
 use Rattle.decoder_core.proofs.OneDriver.{one_state}
-use Rattle.dec_i2c.specs.laws.I2cLaws.{i2c_one_stop}
-use Rattle.dec_i2c.specs.laws.MachineLaws.{one_i2c, ends_too}
-use Rattle.dec_i2c.specs.Opening.{bus_of, StandsFor}
-use Rattle.dec_i2c.specs.laws.Machine.{i2c_alts}
+use Rattle.dec_i2c.specs.laws.MachineLaws.{one_i2c, i2c_one_stop}
+use Rattle.dec_i2c.specs.Opening as i2c
 use Rattle.dec_i2c.specs.declared.held.Bus.{Bus}
+use Rattle.dec_spi.specs.Opening as spi
+use Rattle.dec_spi.specs.laws.MachineLaws.{one_spi, spi_one_stop}
+use Rattle.dec_uart.specs.Opening as uart
+use Rattle.dec_uart.specs.laws.MachineLaws.{one_uart, uart_one_stop}
+use Rattle.dec_uart.specs.Ranges.{InRange, FastEnough}
+use Rattle.dec_uart.specs.declared.held.Line.{Line}
+use Rattle.dec_uart.specs.declared.options.UartOpts.{UartOpts}
 use Rattle.decoder_set.specs.declared.any.AnyDecoder.{AnyDecoder}
 use Rattle.decoder_set.specs.declared.any.AnyMachine.{AnyMachine}
 use Rattle.decoder_set.specs.declared.any.AnyMachine.TheVariants as machine
-use Rattle.decoder_set.specs.declared.kinds.Kind.{Kind}
-use Rattle.decoder_set.specs.declared.kinds.Kind.TheVariants as kind
 use Rattle.decoder_set.specs.declared.setup.Setup.{Setup}
-use Rattle.decoder_set.specs.Opening.{Consumed, HasConsumed, setup_of}
+use Rattle.decoder_set.specs.Opening.{Consumed, ConsumedAs, HasConsumed, i2c_alts_of, kind_in, setup_of}
 use Rattle.decoder_set.specs.Whole.{SameDecoder, SameMachine}
 
 -- two buses with the same lines are equal
@@ -29,17 +32,54 @@ same_bus one other scl sda = λ i. record {
   sda_below = to_path_p (λ j. sda j < MOST_PINS) {a = one.sda_below} (le_prop _ other.sda_below) i;
 }
 
-same_machine : (kind : Kind) (values : List (Option ℕ)) (rate : Rate) (one other : AnyMachine) (input : List Item) → Consumed kind values rate one input → Consumed kind values rate other input → SameMachine one other
-same_machine kind.I2c values rate (machine.I2c one) (machine.I2c other) input d e =
-    one_state bus_of StandsFor (λ m. i2c_alts (bus_of m).scl (bus_of m).sda) (λ one other list same stands also. one_i2c one other list same stands also)
-    (λ one other seen more same stands also rests. i2c_one_stop (bus_of one).scl (bus_of one).sda seen more (ends_too one other seen more same also) rests)
+-- that options are in range is one fact
+range_prop : (opts : UartOpts) (f g : InRange MOST_PINS opts) → f ≡ g
+range_prop opts f g = λ i. record {
+  rx = le_prop f.rx g.rx i;
+  baud = (le_prop f.baud.0 g.baud.0 i, le_prop f.baud.1 g.baud.1 i);
+  bits = (le_prop f.bits.0 g.bits.0 i, le_prop f.bits.1 g.bits.1 i);
+  parity = le_prop f.parity g.parity i;
+  stop = (le_prop f.stop.0 g.stop.0 i, le_prop f.stop.1 g.stop.1 i);
+  sp = (le_prop f.sp.0 g.sp.0 i, le_prop f.sp.1 g.sp.1 i);
+}
+
+-- two lines with the same options at the same rate are equal
+same_line : (one other : Line) → one.opts ≡ other.opts → one.rate ≡ other.rate → one ≡ other
+same_line one other opts rate = λ i. record {
+  opts = opts i;
+  rate = rate i;
+  in_range = to_path_p (λ j. InRange MOST_PINS (opts j)) {a = one.in_range} (range_prop other.opts _ other.in_range) i;
+  rate_in = to_path_p (λ j. (rate j).num ≤ 10 ^ 15) {a = one.rate_in} (le_prop _ other.rate_in) i;
+  fast = to_path_p (λ j. FastEnough (opts j) (rate j)) {a = one.fast} (le_prop _ other.fast) i;
+}
+
+same_machine : (values : List (Option ℕ)) (rate : Rate) (one other : AnyMachine) (input : List Item) → kind_in one ≡ kind_in other → ConsumedAs values rate one input → ConsumedAs values rate other input → SameMachine one other
+same_machine values rate (machine.I2c one) (machine.I2c other) input same d e =
+    one_state i2c.bus_of i2c.StandsFor i2c_alts_of (λ one other list same stands also. one_i2c one other list same stands also)
+    (λ one other seen more same stands also rests. i2c_one_stop one other seen more same stands also rests)
     one.machine other.machine one.waiter other.waiter input
-    (same_bus (bus_of one.machine) (bus_of other.machine) (d.scl ∙ sym e.scl) (d.sda ∙ sym e.sda)) d.drives e.drives
+    (same_bus (i2c.bus_of one.machine) (i2c.bus_of other.machine) (d.own.0 ∙ sym e.own.0) (d.own.1 ∙ sym e.own.1)) d.drives e.drives
+same_machine values rate (machine.I2c one) (machine.Spi other) input same d e = cc
+same_machine values rate (machine.I2c one) (machine.Uart other) input same d e = cc
+same_machine values rate (machine.Spi one) (machine.I2c other) input same d e = cc
+same_machine values rate (machine.Spi one) (machine.Spi other) input same d e =
+    one_state spi.opts_of spi.StandsFor spi.alts_of (λ one other list same stands also. one_spi one other list same stands also)
+    (λ one other seen more same stands also rests. spi_one_stop one other seen more same stands also rests)
+    one.machine other.machine one.waiter other.waiter input (d.own ∙ sym e.own) d.drives e.drives
+same_machine values rate (machine.Spi one) (machine.Uart other) input same d e = cc
+same_machine values rate (machine.Uart one) (machine.I2c other) input same d e = cc
+same_machine values rate (machine.Uart one) (machine.Spi other) input same d e = cc
+same_machine values rate (machine.Uart one) (machine.Uart other) input same d e =
+    one_state uart.line_of uart.StandsFor uart.alts_of (λ one other list same stands also. one_uart one other list same stands also)
+    (λ one other seen more same stands also rests. uart_one_stop one other seen more same stands also rests)
+    one.machine other.machine one.waiter other.waiter input
+    (same_line (uart.line_of one.machine) (uart.line_of other.machine) (d.own.0 ∙ sym e.own.0) (d.own.1 ∙ sym e.own.1)) d.drives e.drives
 
 pub same_decoder : (one other : AnyDecoder) (input : List Item) → setup_of one ≡ setup_of other → HasConsumed one input → HasConsumed other input → SameDecoder one other
-same_decoder one other input same d e = record {
-  setup = same;
-  machine =
-      same_machine one.setup.kind one.setup.values.given one.setup.rate one.machine other.machine input d
-      (subst (λ (s : Setup). Consumed s.kind s.values.given s.rate other.machine input) (sym same) e);
-}
+same_decoder one other input same d e =
+    let f : Consumed one.setup.kind one.setup.values.given one.setup.rate other.machine input =
+    subst (λ (s : Setup). Consumed s.kind s.values.given s.rate other.machine input) (sym same) e in
+    record {
+      setup = same;
+      machine = same_machine one.setup.values.given one.setup.rate one.machine other.machine input (sym d.0 ∙ f.0) d.1 f.1;
+    }

@@ -1,12 +1,12 @@
 -- The table of kinds: one row a kind, and in it one row an option.
-use Rattle.std.specs.Prelude.{ℕ, Bool, true, List, [], ◌∷◌, map, Option, codes}
+use Rattle.std.specs.Prelude.{ℕ, Bool, true, false, List, [], ◌∷◌, map, Option, codes}
 use Rattle.std.specs.List.{find, position}
 use Rattle.std.specs.Str.{bytes_eq}
 use Rattle.la_base.specs.declared.wires.Wire.{Wire}
 use Rattle.la_base.specs.declared.wires.Wire.TheVariants as wire
 use Rattle.decoder_set.specs.declared.kinds.Asked.{Asked}
 use Rattle.decoder_set.specs.declared.kinds.Kind.{Kind}
-use Rattle.decoder_set.specs.declared.kinds.Kind.TheVariants.{I2c}
+use Rattle.decoder_set.specs.declared.kinds.Kind.TheVariants.{I2c, Spi, Uart}
 use Rattle.decoder_set.specs.declared.kinds.OptForm.{OptForm}
 use Rattle.decoder_set.specs.declared.kinds.OptForm.TheVariants as form
 use Rattle.decoder_set.specs.declared.kinds.OptRow.{OptRow}
@@ -48,10 +48,35 @@ kind_row I2c = record {
   parent = [];
   classes = codes "write" ∷ codes "read" ∷ [];
 }
+kind_row Spi = record {
+  name = codes "spi";
+  input = wire.Logic;
+  output = wire.Spi;
+  options =
+      record { name = codes "sck"; form = Pin true } ∷ record { name = codes "mosi"; form = Pin false } ∷ record { name = codes "miso"; form = Pin false }
+      ∷ record { name = codes "cs"; form = Pin false } ∷ record { name = codes "cpol"; form = Number 0 1 0 } ∷ record { name = codes "cpha"; form = Number 0 1 0 }
+      ∷ record { name = codes "bits"; form = Number 1 32 8 }
+      ∷ record { name = codes "mode"; form = Choice (codes "msb_low" ∷ codes "msb_high" ∷ codes "lsb_low" ∷ codes "lsb_high" ∷ []) } ∷ [];
+  groups = (1 ∷ 2 ∷ []) ∷ [];
+  parent = [];
+  classes = codes "mosi" ∷ codes "miso" ∷ [];
+}
+kind_row Uart = record {
+  name = codes "uart";
+  input = wire.Logic;
+  output = wire.Uart;
+  options =
+      record { name = codes "rx"; form = Pin true } ∷ record { name = codes "baud"; form = Number 1 10000000 9600 } ∷ record { name = codes "bits"; form = Number 5 9 8 }
+      ∷ record { name = codes "parity"; form = Choice (codes "none" ∷ codes "odd" ∷ codes "even" ∷ codes "zero" ∷ codes "one" ∷ []) }
+      ∷ record { name = codes "stop"; form = Number 1 2 1 } ∷ record { name = codes "sp"; form = Number 1 99 50 } ∷ [];
+  groups = [];
+  parent = [];
+  classes = codes "data" ∷ [];
+}
 
 -- the kinds that have a row
 abbrev pub kinds : List Kind
-kinds = I2c ∷ []
+kinds = I2c ∷ Spi ∷ Uart ∷ []
 
 -- the kind of a name
 abbrev pub kind_of : Text → Option Kind

@@ -1,17 +1,24 @@
 -- How a decoder is opened, and what it has consumed.
-use Rattle.std.specs.Prelude.{ℕ, ◌≡◌, Bool, false, not, List, [], Option, Some, None, Result, Ok, Err, if◌then◌else◌}
+use Rattle.std.specs.Prelude.{ℕ, ◌≡◌, List, [], Option, Some, None, Result, Ok, Err}
 use Rattle.decoder_core.specs.Inputs.{Item}
 use Rattle.decoder_core.specs.Driving.{Drives, Sleeps}
 use Rattle.decoder_core.specs.declared.driver.Driver.{Driver}
 use Rattle.decoder_core.specs.declared.faults.OptFault.{OptFault}
-use Rattle.decoder_core.specs.declared.faults.OptFault.TheVariants.{Range}
-use Rattle.decoder_core.specs.declared.faults.OptFault.TheVariants as fault
-use Rattle.dec_i2c.specs.Opening.{bus_of, StandsFor}
+use Rattle.dec_i2c.specs.Opening as i2c
 use Rattle.dec_i2c.specs.laws.Machine.{i2c_alts}
 use Rattle.dec_i2c.specs.declared.held.Bus.{Bus}
 use Rattle.dec_i2c.specs.declared.held.I2c.{I2c}
 use Rattle.dec_i2c.specs.declared.held.I2cOpts.{I2cOpts}
+use Rattle.dec_spi.specs.Opening as spi
+use Rattle.dec_spi.specs.declared.held.Spi.{Spi}
+use Rattle.dec_spi.specs.declared.options.SpiOpts.{SpiOpts}
+use Rattle.dec_uart.specs.Opening as uart
+use Rattle.dec_uart.specs.declared.held.Line.{Line}
+use Rattle.dec_uart.specs.declared.held.Uart.{Uart}
+use Rattle.dec_uart.specs.declared.options.UartOpts.{UartOpts}
 use Rattle.la_base.specs.declared.samples.Rate.{Rate}
+use Rattle.la_base.specs.declared.samples.TheConstants.{MOST_PINS}
+use Rattle.wait_cond.specs.declared.alt.Alt.{Alt}
 use Rattle.decoder_set.specs.declared.kinds.Kind.{Kind}
 use Rattle.decoder_set.specs.declared.kinds.Kind.TheVariants as kind
 use Rattle.decoder_set.specs.declared.setup.OptValues.{OptValues}
@@ -19,22 +26,58 @@ use Rattle.decoder_set.specs.declared.setup.Setup.{Setup}
 use Rattle.decoder_set.specs.declared.any.AnyDecoder.{AnyDecoder}
 use Rattle.decoder_set.specs.declared.any.AnyMachine.{AnyMachine}
 use Rattle.decoder_set.specs.declared.any.AnyMachine.TheVariants as machine
-use Rattle.decoder_set.specs.Options.{i2c_options}
-use Rattle.decoder_set.specs.Values.{in_range}
+use Rattle.decoder_set.specs.Options.{i2c_options, spi_options, uart_options}
+use Rattle.decoder_set.specs.Faults.{open_fault}
 
--- an I2C decoder with these options has consumed this input
-pub record I2cConsumed (options : I2cOpts) (driver : Driver I2c Bus) (input : List Item) : Type 0 where
-  pub scl : (bus_of driver.machine).scl ≡ options.scl
-  pub sda : (bus_of driver.machine).sda ≡ options.sda
-  pub drives : Drives StandsFor (λ machine. i2c_alts (bus_of machine).scl (bus_of machine).sda) driver.machine driver.waiter input
+-- a machine of each kind has these options
+abbrev pub IsI2c : I2cOpts → I2c → Type 0
+IsI2c options machine = ((i2c.bus_of machine).scl ≡ options.scl) × ((i2c.bus_of machine).sda ≡ options.sda)
+
+abbrev pub IsSpi : SpiOpts → Spi → Type 0
+IsSpi options machine = spi.opts_of machine ≡ options
+
+abbrev pub IsUart : UartOpts → Rate → Uart → Type 0
+IsUart options rate machine = ((uart.line_of machine).opts ≡ options) × ((uart.line_of machine).rate ≡ rate)
+
+-- what an I2C machine waits for
+abbrev pub i2c_alts_of : I2c → List Alt
+i2c_alts_of machine = i2c_alts (i2c.bus_of machine).scl (i2c.bus_of machine).sda
+
+-- a driver of a machine with these options has consumed this input
+pub record ConsumedBy {L S : Type 0} (stands : L → List ℕ → Type 0) (alts : L → List Alt) (IsOwn : L → Type 0) (driver : Driver L S) (input : List Item) : Type 0 where
+  pub own : IsOwn driver.machine
+  pub drives : Drives stands alts driver.machine driver.waiter input
+
+abbrev pub I2cConsumed : I2cOpts → Driver I2c Bus → List Item → Type 0
+I2cConsumed options driver input = ConsumedBy i2c.StandsFor i2c_alts_of (IsI2c options) driver input
+
+abbrev pub SpiConsumed : SpiOpts → Driver Spi SpiOpts → List Item → Type 0
+SpiConsumed options driver input = ConsumedBy spi.StandsFor spi.alts_of (IsSpi options) driver input
+
+abbrev pub UartConsumed : UartOpts → Rate → Driver Uart Line → List Item → Type 0
+UartConsumed options rate driver input = ConsumedBy uart.StandsFor uart.alts_of (IsUart options rate) driver input
+
+-- the kind of a machine
+abbrev pub kind_in : AnyMachine → Kind
+kind_in (machine.I2c driver) = kind.I2c
+kind_in (machine.Spi driver) = kind.Spi
+kind_in (machine.Uart driver) = kind.Uart
+
+-- a machine with these values at this rate has consumed this input
+abbrev pub ConsumedAs : List (Option ℕ) → Rate → AnyMachine → List Item → Type 0
+ConsumedAs values rate (machine.I2c driver) input = I2cConsumed (i2c_options values) driver input
+ConsumedAs values rate (machine.Spi driver) input = SpiConsumed (spi_options values) driver input
+ConsumedAs values rate (machine.Uart driver) input = UartConsumed (uart_options values) rate driver input
 
 -- a decoder of this kind, with these values at this rate, has consumed this input
 abbrev pub Consumed : Kind → List (Option ℕ) → Rate → AnyMachine → List Item → Type 0
-Consumed kind.I2c values rate (machine.I2c driver) input = I2cConsumed (i2c_options values) driver input
+Consumed kind values rate machine input = (kind ≡ kind_in machine) × ConsumedAs values rate machine input
 
 -- behind an input that it has consumed, no item of `more` is a stop of its wait
 abbrev pub SleepsBy : AnyMachine → List Item → List Item → Type 0
-SleepsBy (machine.I2c driver) input more = Sleeps (λ machine. i2c_alts (bus_of machine).scl (bus_of machine).sda) driver.machine driver.waiter input more
+SleepsBy (machine.I2c driver) input more = Sleeps i2c_alts_of driver.machine driver.waiter input more
+SleepsBy (machine.Spi driver) input more = Sleeps spi.alts_of driver.machine driver.waiter input more
+SleepsBy (machine.Uart driver) input more = Sleeps uart.alts_of driver.machine driver.waiter input more
 
 abbrev pub IsAsleep : AnyDecoder → List Item → List Item → Type 0
 IsAsleep decoder input more = SleepsBy decoder.machine input more
@@ -43,19 +86,13 @@ IsAsleep decoder input more = SleepsBy decoder.machine input more
 abbrev pub setup_of : AnyDecoder → Setup
 setup_of decoder = decoder.setup
 
+-- it is a setup that a decoder can be opened with
+pub opened_by : (decoder : AnyDecoder) → open_fault MOST_PINS (setup_of decoder).kind (setup_of decoder).values.given (setup_of decoder).rate ≡ None
+opened_by decoder = decoder.opened
+
 -- a decoder has consumed this input
 abbrev pub HasConsumed : AnyDecoder → List Item → Type 0
 HasConsumed decoder input = Consumed decoder.setup.kind decoder.setup.values.given decoder.setup.rate decoder.machine input
-
--- whether a rate is too low for the options of a kind
-abbrev pub too_slow : Kind → List (Option ℕ) → Rate → Bool
-too_slow kind.I2c values rate = false
-
--- why a decoder can't be opened: Range where an option doesn't take its value, then Rate where the rate is too low
-abbrev pub open_fault : ℕ → Kind → List (Option ℕ) → Rate → Option OptFault
-open_fault bits kind values rate = if not (in_range bits kind values) then Some Range
-    else if too_slow kind values rate then Some fault.Rate
-    else None
 
 -- a decoder of this kind, values and rate that has consumed nothing, or its fault
 abbrev pub Opens : ℕ → Kind → OptValues → Rate → Result AnyDecoder OptFault → Type 0

@@ -1,8 +1,41 @@
 -- What the values of each kind mean: its options by their names.
 use Rattle.std.specs.Prelude.{ℕ, List, Option}
 use Rattle.dec_i2c.specs.declared.held.I2cOpts.{I2cOpts}
-use Rattle.decoder_set.specs.Values.{channel_at}
+use Rattle.dec_spi.specs.declared.options.SpiOpts.{SpiOpts}
+use Rattle.dec_uart.specs.declared.options.UartOpts.{UartOpts}
+use Rattle.decoder_set.specs.Kinds.{kind_row}
+use Rattle.decoder_set.specs.Values.{channel_at, maybe_channel_at, number_at}
+use Rattle.decoder_set.specs.declared.kinds.Kind.{Kind}
+use Rattle.decoder_set.specs.declared.kinds.Kind.TheVariants.{Spi, Uart}
 
 -- the bits of the two lines of an I2C bus
 abbrev pub i2c_options : List (Option ℕ) → I2cOpts
 i2c_options values = record { scl = channel_at values 0; sda = channel_at values 1 }
+
+-- the number of an option of a kind, by its row
+abbrev pub option_number : Kind → List (Option ℕ) → ℕ → ℕ
+option_number kind values place = number_at (kind_row kind).options values place
+
+-- the lines and the settings of an SPI bus
+abbrev pub spi_options : List (Option ℕ) → SpiOpts
+spi_options values = record {
+  sck = channel_at values 0;
+  mosi = maybe_channel_at values 1;
+  miso = maybe_channel_at values 2;
+  cs = maybe_channel_at values 3;
+  cpol = option_number Spi values 4;
+  cpha = option_number Spi values 5;
+  bits = option_number Spi values 6;
+  mode = option_number Spi values 7;
+}
+
+-- the settings of a serial line
+abbrev pub uart_options : List (Option ℕ) → UartOpts
+uart_options values = record {
+  rx = channel_at values 0;
+  baud = option_number Uart values 1;
+  bits = option_number Uart values 2;
+  parity = option_number Uart values 3;
+  stop = option_number Uart values 4;
+  sp = option_number Uart values 5;
+}

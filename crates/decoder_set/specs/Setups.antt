@@ -6,15 +6,21 @@ use Rattle.la_base.specs.declared.wires.Out.{Out}
 use Rattle.decoder_core.specs.Inputs.{Item, counted_samples}
 use Rattle.dec_i2c.specs.Bus.{i2c_outs, i2c_near}
 use Rattle.dec_i2c.specs.Texts as i2c
+use Rattle.dec_spi.specs.Bus.{spi_outs, spi_near}
+use Rattle.dec_spi.specs.Texts as spi
+use Rattle.dec_uart.specs.Frames.{uart_outs, uart_near}
+use Rattle.dec_uart.specs.Texts as uart
 use Rattle.decoder_set.specs.declared.kinds.Kind.{Kind}
-use Rattle.decoder_set.specs.declared.kinds.Kind.TheVariants.{I2c}
+use Rattle.decoder_set.specs.declared.kinds.Kind.TheVariants.{I2c, Spi, Uart}
 use Rattle.decoder_set.specs.declared.setup.Setup.{Setup}
 use Rattle.decoder_set.specs.Kinds.{Text}
-use Rattle.decoder_set.specs.Options.{i2c_options}
+use Rattle.decoder_set.specs.Options.{i2c_options, spi_options, uart_options}
 
 -- what a kind gives with these values at a rate on a whole input
 abbrev pub outs_by : Kind → List (Option ℕ) → Rate → List Item → List Out
 outs_by I2c values rate input = i2c_outs (i2c_options values).scl (i2c_options values).sda (counted_samples input)
+outs_by Spi values rate input = spi_outs (spi_options values) (counted_samples input)
+outs_by Uart values rate input = uart_outs (uart_options values) rate (counted_samples input)
 
 -- all outputs of a decoder of this setup on a whole input
 abbrev pub outs_of : Setup → List Item → List Out
@@ -23,6 +29,8 @@ outs_of setup input = outs_by setup.kind setup.values.given setup.rate input
 -- where what has begun and isn't given yet starts, for a kind with these values at a rate
 abbrev pub near_by : Kind → List (Option ℕ) → Rate → List Item → ℕ
 near_by I2c values rate input = i2c_near (i2c_options values).scl (i2c_options values).sda (counted_samples input)
+near_by Spi values rate input = spi_near (spi_options values) (counted_samples input)
+near_by Uart values rate input = uart_near (uart_options values) rate (counted_samples input)
 
 -- where what has begun in this input and isn't given yet starts
 abbrev pub near_of : Setup → List Item → ℕ
@@ -31,3 +39,5 @@ near_of setup input = near_by setup.kind setup.values.given setup.rate input
 -- the text of a note
 abbrev pub note_text : Kind → Note → Text
 note_text I2c note = i2c.note_text note.class note.a
+note_text Spi note = spi.note_text note.class note.a note.b
+note_text Uart note = uart.note_text note.class note.a

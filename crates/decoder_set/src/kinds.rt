@@ -5,6 +5,8 @@ use la_base::Wire;
 #[derive(Clone, Copy, Debug, PartialEq, Eq)]
 pub enum Kind {
     I2c,
+    Spi,
+    Uart,
 }
 
 /// What an option takes.

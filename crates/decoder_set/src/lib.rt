@@ -4,6 +4,8 @@
 mod any;
 mod kinds;
 mod laws;
+mod machine;
+mod opening;
 mod options;
 mod setup;
 mod table;

@@ -2,12 +2,17 @@
 ghost use Rattle.std.specs.Prelude.{◌≡◌, true};
 ghost use Rattle.la_base.specs.declared.samples.TheConstants.{MOST_PINS};
 ghost use Rattle.dec_i2c.specs.Opening.{InRange};
-ghost use Rattle.decoder_set.specs.Options.{i2c_options};
+ghost use Rattle.dec_spi.specs.Opening.{InRange as SpiInRange};
+ghost use Rattle.dec_uart.specs.Ranges.{InRange as UartInRange};
+ghost use Rattle.decoder_set.specs.Options.{i2c_options, spi_options, uart_options};
 ghost use Rattle.decoder_set.specs.Values.{in_range};
 
 use crate::Kind;
 use crate::setup::OptValues;
+use crate::table::options_of;
 use dec_i2c::I2cOpts;
+use dec_spi::SpiOpts;
+use dec_uart::UartOpts;
 
 /// The lines of an I2C bus.
 pub fn i2c_options(values: &OptValues) -> I2cOpts
@@ -18,5 +23,41 @@ pub fn i2c_options(values: &OptValues) -> I2cOpts
     I2cOpts {
         scl: values.channel(0),
         sda: values.channel(1),
+    }
+}
+
+/// The lines and the settings of an SPI bus.
+pub fn spi_options(values: &OptValues) -> SpiOpts
+    requires { in_range MOST_PINS Kind.Spi values.now.given ≡ true }
+    ensures options { result ≡ spi_options values.now.given }
+    ensures within { SpiInRange MOST_PINS result }
+{
+    let rows = options_of(Kind::Spi);
+    SpiOpts {
+        sck: values.channel(0),
+        mosi: values.maybe_channel(1),
+        miso: values.maybe_channel(2),
+        cs: values.maybe_channel(3),
+        cpol: values.number(rows, 4),
+        cpha: values.number(rows, 5),
+        bits: values.number(rows, 6),
+        mode: values.number(rows, 7),
+    }
+}
+
+/// The settings of a serial line.
+pub fn uart_options(values: &OptValues) -> UartOpts
+    requires { in_range MOST_PINS Kind.Uart values.now.given ≡ true }
+    ensures options { result ≡ uart_options values.now.given }
+    ensures within { UartInRange MOST_PINS result }
+{
+    let rows = options_of(Kind::Uart);
+    UartOpts {
+        rx: values.channel(0),
+        baud: values.number(rows, 1),
+        bits: values.number(rows, 2),
+        parity: values.number(rows, 3),
+        stop: values.number(rows, 4),
+        sp: values.number(rows, 5),
     }
 }

@@ -8,7 +8,7 @@ use crate::kinds::{Asked, Kind, KindRow, OptForm, OptRow};
 use la_base::Wire;
 
 /// The kinds, in the order in which they are told.
-pub const KINDS: [Kind; 1] = [Kind::I2c];
+pub const KINDS: [Kind; 3] = [Kind::I2c, Kind::Spi, Kind::Uart];
 
 // I2C, by UM10204.
 const I2C: KindRow = KindRow {
@@ -30,6 +30,118 @@ const I2C: KindRow = KindRow {
     classes: &["write", "read"],
 };
 
+// SPI, by the formats of its clock.
+const SPI: KindRow = KindRow {
+    name: "spi",
+    input: Wire::Logic,
+    output: Wire::Spi,
+    options: &[
+        OptRow {
+            name: "sck",
+            form: OptForm::Pin { required: true },
+        },
+        OptRow {
+            name: "mosi",
+            form: OptForm::Pin { required: false },
+        },
+        OptRow {
+            name: "miso",
+            form: OptForm::Pin { required: false },
+        },
+        OptRow {
+            name: "cs",
+            form: OptForm::Pin { required: false },
+        },
+        OptRow {
+            name: "cpol",
+            form: OptForm::Number {
+                least: 0,
+                most: 1,
+                usual: 0,
+            },
+        },
+        OptRow {
+            name: "cpha",
+            form: OptForm::Number {
+                least: 0,
+                most: 1,
+                usual: 0,
+            },
+        },
+        OptRow {
+            name: "bits",
+            form: OptForm::Number {
+                least: 1,
+                most: 32,
+                usual: 8,
+            },
+        },
+        OptRow {
+            name: "mode",
+            form: OptForm::Choice {
+                words: &["msb_low", "msb_high", "lsb_low", "lsb_high"],
+            },
+        },
+    ],
+    groups: &[&[1, 2]],
+    parent: &[],
+    classes: &["mosi", "miso"],
+};
+
+// Asynchronous serial lines.
+const UART: KindRow = KindRow {
+    name: "uart",
+    input: Wire::Logic,
+    output: Wire::Uart,
+    options: &[
+        OptRow {
+            name: "rx",
+            form: OptForm::Pin { required: true },
+        },
+        OptRow {
+            name: "baud",
+            form: OptForm::Number {
+                least: 1,
+                most: 10_000_000,
+                usual: 9600,
+            },
+        },
+        OptRow {
+            name: "bits",
+            form: OptForm::Number {
+                least: 5,
+                most: 9,
+                usual: 8,
+            },
+        },
+        OptRow {
+            name: "parity",
+            form: OptForm::Choice {
+                words: &["none", "odd", "even", "zero", "one"],
+            },
+        },
+        OptRow {
+            name: "stop",
+            form: OptForm::Number {
+                least: 1,
+                most: 2,
+                usual: 1,
+            },
+        },
+        OptRow {
+            name: "sp",
+            form: OptForm::Number {
+                least: 1,
+                most: 99,
+                usual: 50,
+            },
+        },
+    ],
+    groups: &[],
+    parent: &[],
+    classes: &["data"],
+};
+
 /// The row of a kind.
 pub fn row(kind: Kind) -> KindRow
     ensures row { row_of result ≡ kind_row kind }
@@ -39,6 +151,8 @@ pub fn row(kind: Kind) -> KindRow
 {
     match kind {
         Kind::I2c => I2C,
+        Kind::Spi => SPI,
+        Kind::Uart => UART,
     }
 }
 

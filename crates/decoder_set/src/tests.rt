@@ -1,16 +1,16 @@
 // The table of kinds, by hand from the options and classes that each kind has.
 ghost use Rattle.std.specs.Prelude.{◌≡◌, ◌≤◌, ◌^◌, ◌++◌, ◌∷◌, [], None};
 
-use crate::kinds::KindRow;
-use crate::values::row_in_range;
 use crate::{
-    AnyDecoder, Kind, MOST_OPTIONS, OptForm, OptRow, OptValues, Setup, asked_of, class_of,
-    groups_of, input_of, kind_name, kind_of, kinds_are_whole, kinds_read_their_wires, note_text,
+    AnyDecoder, Kind, MOST_OPTIONS, OptValues, Setup, asked_of, class_of, groups_of, input_of,
+    kind_name, kind_of, kinds_are_whole, kinds_read_their_wires, note_text, number_of,
     one_input_makes_one_decoder, options_of, output_of, values_in_range_fit,
 };
 use decoder_core::{Machine, OptFault, Outs};
 use la_base::{Feed, Note, Out, Packet, PacketKind, Rate, Run, Wire};
 use line_text::LineBuf;
+use std::alloc::{AllocError, Global};
+use std::test::Fail;
 
 const RATE: Rate = Rate {
     num: 1_000_000,
@@ -25,139 +25,139 @@ fn lines(scl: Option<u64>, sda: Option<u64>) -> OptValues {
     OptValues { given }
 }
 
-fn fault(values: OptValues) -> Option<OptFault> {
-    AnyDecoder::open(Kind::I2c, values, RATE).err()
-}
-
 #[test]
-fn kinds_have_their_names_wires_options_and_classes(rt: HostRuntime) {
-    for (name, want) in [
-        ("i2c", Some(Kind::I2c)),
-        ("I2C", None),
-        ("i2c-1", None),
-        ("i2", None),
-        ("i2cc", None),
-        ("", None),
+fn kinds_have_their_names_and_wires(rt: HostRuntime) {
+    for (name, kind, output) in [
+        ("i2c", Kind::I2c, Wire::I2c),
+        ("spi", Kind::Spi, Wire::Spi),
+        ("uart", Kind::Uart, Wire::Uart),
     ] {
-        assert_eq!(rt; kind_of(name.as_bytes()), want, "{name}");
+        assert_eq!(rt; kind_of(name.as_bytes()), Some(kind));
+        assert_eq!(rt; kind_name(kind), name);
+        assert_eq!(rt; input_of(kind), Wire::Logic);
+        assert_eq!(rt; output_of(kind), output);
+        assert_eq!(rt; asked_of(kind).len(), 0);
     }
-    assert_eq!(rt; kind_name(Kind::I2c), "i2c");
-    assert_eq!(rt; input_of(Kind::I2c), Wire::Logic);
-    assert_eq!(rt; output_of(Kind::I2c), Wire::I2c);
-    let form = OptForm::Pin { required: true };
-    assert_eq!(rt;
-        options_of(Kind::I2c),
-        [OptRow { name: "scl", form }, OptRow { name: "sda", form },].as_slice()
-    );
-    for (class, want) in [
-        ("write", Some(0)),
-        ("read", Some(1)),
-        ("reads", None),
-        ("Write", None),
-        ("", None),
+    for name in ["I2C", "i2c-1", "i2", "uarts", ""] {
+        assert_eq!(rt; kind_of(name.as_bytes()), None);
+    }
+    assert_eq!(rt; groups_of(Kind::Spi).len(), 1);
+    for (kind, class, want) in [
+        (Kind::I2c, "write", Some(0)),
+        (Kind::I2c, "read", Some(1)),
+        (Kind::I2c, "Write", None),
+        (Kind::Spi, "mosi", Some(0)),
+        (Kind::Spi, "miso", Some(1)),
+        (Kind::Uart, "data", Some(0)),
+        (Kind::Uart, "read", None),
     ] {
-        assert_eq!(rt; class_of(Kind::I2c, class.as_bytes()), want, "{class}");
+        assert_eq!(rt; class_of(kind, class.as_bytes()), want);
     }
-}
-
-#[test]
-fn lines_must_be_given_and_be_bits_of_a_sample(rt: HostRuntime) {
-    assert_eq!(rt; fault(lines(Some(0), Some(1))), None);
-    assert_eq!(rt; fault(lines(Some(63), Some(63))), None);
-    for values in [
-        lines(None, Some(1)),
-        lines(Some(0), None),
-        lines(None, None),
-        lines(Some(64), Some(1)),
-        lines(Some(0), Some(64)),
-        lines(Some(0), Some(1 << 32)),
-    ] {
-        assert_eq!(rt; fault(values), Some(OptFault::Range));
-    }
-    let mut values = lines(Some(0), Some(1));
-    values.given[2] = Some(u64::MAX);
-    assert_eq!(rt; fault(values), None);
-}
-
-// A kind that isn't there yet: a channel, two of which one has to be given, a number and a choice.
-const MADE_UP: KindRow = KindRow {
-    name: "made-up",
-    input: Wire::Logic,
-    output: Wire::Nothing,
-    options: &[
-        OptRow {
-            name: "sck",
-            form: OptForm::Pin { required: true },
-        },
-        OptRow {
-            name: "mosi",
-            form: OptForm::Pin { required: false },
-        },
-        OptRow {
-            name: "miso",
-            form: OptForm::Pin { required: false },
-        },
-        OptRow {
-            name: "bits",
-            form: OptForm::Number {
-                least: 1,
-                most: 32,
-                usual: 8,
-            },
-        },
-        OptRow {
-            name: "mode",
-            form: OptForm::Choice {
-                words: &["msb", "lsb"],
-            },
-        },
-    ],
-    groups: &[&[1, 2]],
-    parent: &[],
-    classes: &[],
-};
-
-// Five values, and none behind them.
-fn five(values: [Option<u64>; 5]) -> OptValues
-    ensures { result.given ≡ values ++ None ∷ None ∷ None ∷ [] }
-{
-    let [sck, mosi, miso, bits, mode] = values;
-    OptValues {
-        given: [sck, mosi, miso, bits, mode, None, None, None],
-    }
-}
-
-#[test]
-fn values_of_any_kind_go_by_its_row(rt: HostRuntime) {
-    for (values, want, bits, mode) in [
-        ([Some(0), Some(1), None, None, None], true, 8, 0),
-        ([Some(0), None, Some(1), Some(16), Some(1)], true, 16, 1),
-        ([Some(0), Some(1), Some(63), Some(1), None], true, 1, 0),
-        ([None, Some(1), Some(2), None, None], false, 8, 0),
-        ([Some(0), None, None, None, None], false, 8, 0),
-        ([Some(0), None, None, Some(8), Some(0)], false, 8, 0),
-        ([Some(0), Some(64), None, None, None], false, 8, 0),
-        ([Some(0), Some(1), None, Some(0), None], false, 0, 0),
-        ([Some(0), Some(1), None, Some(33), None], false, 33, 0),
-        ([Some(0), Some(1), None, None, Some(2)], false, 8, 2),
-    ] {
-        let values = five(values);
-        assert_eq!(rt; row_in_range(MADE_UP, &values), want);
-        assert_eq!(rt; values.number(MADE_UP.options, 3), bits);
-        assert_eq!(rt; values.number(MADE_UP.options, 4), mode);
-        assert_eq!(rt; values.number(MADE_UP.options, 5), 0);
-    }
-    let values = five([Some(9), None, Some(5), None, None]);
-    assert_eq!(rt; values.channel(0), 9);
-    assert_eq!(rt; values.channel(1), 0);
-    assert_eq!(rt; values.maybe_channel(1), None);
-    assert_eq!(rt; values.maybe_channel(2), Some(5));
-    assert_eq!(rt; values.at(8), None);
-    assert_eq!(rt; groups_of(Kind::I2c).len(), 0);
-    assert_eq!(rt; asked_of(Kind::I2c).len(), 0);
     kinds_are_whole();
     kinds_read_their_wires();
     values_in_range_fit();
+}
+
+// The options of a kind, each with its usual number.
+fn options_in(alloc: Global, kind: Kind) -> Result<String, AllocError> {
+    let mut text = String::new(alloc);
+    for row in options_of(kind) {
+        let usual = number_of(row.form, None);
+        let part = format!(in alloc; "{} {usual},", row.name)?;
+        text.push_str(&part)?;
+    }
+    Ok(text)
+}
+
+#[test]
+fn kinds_have_their_options(rt: HostRuntime) -> Result<(), Fail> {
+    for (kind, options) in [
+        (Kind::I2c, "scl 0,sda 0,"),
+        (
+            Kind::Spi,
+            "sck 0,mosi 0,miso 0,cs 0,cpol 0,cpha 0,bits 8,mode 0,",
+        ),
+        (Kind::Uart, "rx 0,baud 9600,bits 8,parity 0,stop 1,sp 50,"),
+    ] {
+        assert!(rt; options_in(rt.alloc(), kind)?.as_str() == options);
+    }
+    Ok(())
+}
+
+// A row for each opening: the kind, its values, with a hyphen for one that isn't given, and the answer at a
+// rate of 1 MHz.
+const OPENINGS: &str = "\
+i2c 0 1 > ok
+i2c 63 63 > ok
+i2c - 1 > range
+i2c 0 - > range
+i2c 64 1 > range
+i2c 0 4294967296 > range
+spi 0 1 > ok
+spi 0 - 1 > ok
+spi 0 63 2 3 1 1 32 3 > ok
+spi - 1 2 > range
+spi 0 - - > range
+spi 0 - - 4 0 0 8 0 > range
+spi 0 64 > range
+spi 0 1 2 64 > range
+spi 0 1 2 3 2 > range
+spi 0 1 2 3 0 2 > range
+spi 0 1 2 3 0 0 0 > range
+spi 0 1 2 3 0 0 33 > range
+spi 0 1 2 3 0 0 8 4 > range
+uart 0 > ok
+uart 63 500000 9 4 2 99 > ok
+uart 0 500001 > rate
+uart 0 1 5 0 1 1 > ok
+uart 0 10000 8 0 1 1 > ok
+uart 0 10001 8 0 1 1 > rate
+uart - 9600 > range
+uart 64 > range
+uart 0 0 > range
+uart 0 10000001 > range
+uart 0 9600 4 > range
+uart 0 9600 10 > range
+uart 0 9600 8 5 > range
+uart 0 9600 8 0 0 > range
+uart 0 9600 8 0 3 > range
+uart 0 9600 8 0 1 0 > range
+uart 0 9600 8 0 1 100 > range";
+
+// The answer of an opening.
+fn opened(row: &str) -> Option<&'static str> {
+    let (left, _) = row.split_once(" > ")?;
+    let mut words = left.split(' ');
+    let kind = kind_of(words.next()?.as_bytes())?;
+    let mut given = [None; MOST_OPTIONS];
+    for (place, word) in words.enumerate() {
+        if place < MOST_OPTIONS {
+            given[place] = word.parse::<u64>().ok();
+        }
+    }
+    match AnyDecoder::open(kind, OptValues { given }, RATE) {
+        Ok(decoder) => {
+            one_input_makes_one_decoder(&decoder, &decoder);
+            Some("ok")
+        }
+        Err(OptFault::Range) => Some("range"),
+        Err(OptFault::Rate) => Some("rate"),
+    }
+}
+
+#[test]
+fn values_are_judged_by_their_rows(rt: HostRuntime) {
+    for row in OPENINGS.split('\n') {
+        assert!(rt;
+            opened(row).is_some_and(|answer| row.ends_with(answer)),
+            "{row}"
+        );
+    }
+    let mut values = lines(Some(0), Some(1));
+    values.given[2] = Some(u64::MAX);
+    assert!(rt; AnyDecoder::open(Kind::I2c, values, RATE).is_ok());
+    assert_eq!(rt; values.at(8), None);
+    assert_eq!(rt; values.number(options_of(Kind::I2c), 2), 0);
 }
 
 fn is_send<T: Send + Drop>(_: &T) {}
@@ -211,16 +211,22 @@ fn an_opened_decoder_takes_any_feed(rt: HostRuntime) {
 
 #[test]
 fn notes_have_the_texts_of_their_kind(rt: HostRuntime) {
-    let mut buf = LineBuf::new();
-    let note = Note {
-        class: 3,
-        start: 3,
-        end: 17,
-        a: 0x50,
-        b: 0,
-    };
-    note_text(Kind::I2c, note, &mut buf);
-    assert_eq!(rt; buf.bytes(), b"Address write: 50".as_slice());
+    for (kind, class, text) in [
+        (Kind::I2c, 3, "Address write: 50"),
+        (Kind::Spi, 1, "MOSI 50 MISO 07"),
+        (Kind::Uart, 1, "50"),
+    ] {
+        let mut buf = LineBuf::new();
+        let note = Note {
+            class,
+            start: 3,
+            end: 17,
+            a: 0x50,
+            b: 7,
+        };
+        note_text(kind, note, &mut buf);
+        assert_eq!(rt; buf.bytes(), text.as_bytes());
+    }
 }
 
 #[test]

@@ -14,5 +14,7 @@ pub fn note_text(kind: Kind, note: Note, buf: &mut LineBuf)
 {
     match kind {
         Kind::I2c => dec_i2c::text(note, buf),
+        Kind::Spi => dec_spi::text(note, buf),
+        Kind::Uart => dec_uart::text(note, buf),
     }
 }

@@ -14,7 +14,7 @@ use Rattle.decoder_set.specs.Opening.{HasConsumed, setup_of}
 use Rattle.decoder_set.specs.Setups.{outs_of}
 use Rattle.decoder_set.specs.declared.any.AnyDecoder.{AnyDecoder}
 use Rattle.decoder_set.specs.declared.kinds.Kind.{Kind}
-use Rattle.decoder_set.specs.declared.kinds.Kind.TheVariants.{I2c}
+use Rattle.decoder_set.specs.declared.kinds.Kind.TheVariants.{I2c, Spi, Uart}
 use Rattle.decoder_set.specs.declared.setup.Setup.{Setup}
 use Rattle.text_parts.specs.Chains.{chain_of}
 use Rattle.text_parts.specs.declared.chain.ChainWord.{ChainWord}
@@ -80,9 +80,13 @@ never_logic instances place is = by (slice_get instances place) is
       where
         of_kind : (kind : Kind) → (kind_row kind).output ≡ Logic → ⊥
         of_kind I2c e = cc
+        of_kind Spi e = cc
+        of_kind Uart e = cc
 
 reads_logic : (kind : Kind) → (kind_row kind).input ≡ Logic
 reads_logic I2c = refl
+reads_logic Spi = refl
+reads_logic Uart = refl
 
 -- so each stands on none
 no_parent : (instances : List Instance) (place : ℕ) (instance : Instance) (parent : Option ℕ) → HasParent instances place instance parent → parent ≡ None

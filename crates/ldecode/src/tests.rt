@@ -146,6 +146,29 @@ const DECODINGS: &str = "\
 [--show i2c-2,i2c-1 i2c:scl=D0:sda=D1 i2c:scl=D2:sda=D3 i2c:scl=D0:sda=D1] 0f0d060b0c01060b0c0104010401040104010401040107 0f > 0 >  > 1-1 i2c-1: Start|2-2 i2c-2: Start|3-17 i2c-1: Address write: 50|4-18 i2c-2: Address write: 50|19-19 i2c-1: ACK|20-20 i2c-2: ACK|22-22 i2c-1: Stop|23-23 i2c-2: Stop|
 [--channels 9 i2c:scl=D0:sda=D1] 03000100020003000000010002000300000001000000010000000100000001000000010000000100000001000300 03 > 3 > ldecode: capture at 46: ShortUnit| > 1-1 i2c-1: Start|3-17 i2c-1: Address write: 50|19-19 i2c-1: ACK|22-22 i2c-1: Stop|";
 
+// A byte is written to ten-bit address 150h; then one is read from it, behind a repeated start. A third line, D2,
+// stays high.
+const TEN_BIT_ADDRESSES: &str = "\
+[i2c:scl=D0:sda=D1] 070705050606070706060707060607070606070704040505040405050606070704040505040405050404050506060707040405050606070704040505040405050404050504040505040405050606070704040505060607070404050506060707040405050606070706060707040405050404050507070707 > 0 >  > 2-2 i2c-1: Start|6-34 i2c-1: Prefix write: 79|38-38 i2c-1: ACK|42-70 i2c-1: Address 10-bit write: 0150|74-74 i2c-1: ACK|78-106 i2c-1: Data write: AB|110-110 i2c-1: ACK|116-116 i2c-1: Stop|
+[i2c:scl=D0:sda=D1] 070705050606070706060707060607070606070704040505040405050606070704040505040405050404050506060707040405050606070704040505040405050404050504040505040405050606070705050606070706060707060607070606070704040505040405050606070706060707040405050606070704040505060607070404050506060707040405050606070706060707060607070404050507 > 0 >  > 2-2 i2c-1: Start|6-34 i2c-1: Prefix write: 79|38-38 i2c-1: ACK|42-70 i2c-1: Address 10-bit write: 0150|74-74 i2c-1: ACK|80-80 i2c-1: Start repeat|84-112 i2c-1: Address 10-bit read: 0150|116-116 i2c-1: ACK|120-148 i2c-1: Data read: AB|152-152 i2c-1: NACK|158-158 i2c-1: Stop|";
+
+// A general call that resets, and one by the hardware master with address 21h; data behind each.
+const GENERAL_CALLS: &str = "\
+[i2c:scl=D0:sda=D1] 070705050404050504040505040405050404050504040505040405050404050504040505040405050404050504040505040405050404050504040505060607070606070704040505040405050404050506060707040405050404050504040505040405050606070706060707040405050404050507070707 > 0 >  > 2-2 i2c-1: Start|6-34 i2c-1: General call|38-38 i2c-1: ACK|42-70 i2c-1: General call command: reset and write address|74-74 i2c-1: ACK|78-106 i2c-1: Data write: 43|110-110 i2c-1: ACK|116-116 i2c-1: Stop|
+[i2c:scl=D0:sda=D1] 070705050404050504040505040405050404050504040505040405050404050504040505040405050404050506060707040405050404050504040505040405050606070706060707040405050404050504040505040405050404050504040505060607070606070704040505040405050404050507070707 > 0 >  > 2-2 i2c-1: Start|6-34 i2c-1: General call|38-38 i2c-1: ACK|42-70 i2c-1: General call command: hardware master 21|74-74 i2c-1: ACK|78-106 i2c-1: Data write: 06|110-110 i2c-1: ACK|116-116 i2c-1: Stop|";
+
+// SPI and serial lines, at rates up to the bounds of what their options ask for.
+const LINES: &str = "\
+[uart:rx=D0]  > 0 >  > 
+[spi:sck=D0:mosi=D1:cs=D2:cpol=1:cpha=1] 05010203000100010203020302030203020300010001000105 > 0 >  > 1-1 spi-1: Select|3-17 spi-1: MOSI 9F|24-24 spi-1: Deselect|
+[spi:sck=D0:mosi=D1:miso=D2:cs=D3] 080000010001000100010001000102030203000100010001000100010001000100010001000100010001000100010001020300010001000100010001000100010001040500010405000104050001040500010001040500010405000104050001040508 > 0 >  > 1-1 spi-1: Select|3-17 spi-1: MOSI 03 MISO 00|19-33 spi-1: MOSI 00 MISO 00|35-49 spi-1: MOSI 01 MISO 00|51-65 spi-1: MOSI 00 MISO 00|67-81 spi-1: MOSI 00 MISO AA|83-97 spi-1: MOSI 00 MISO 55|98-98 spi-1: Deselect|
+[--rate 1000 uart:rx=D0:baud=300] 01010101000000010101000000000000000000000000000000000001010100000000010101010101 > 0 >  > 4-35 uart-1: 41|
+[--rate 1000 uart:rx=D0:baud=250:parity=odd] 010100000000000000000000000000000000000000000000000000000000000000000000000000000000010101010000000000000000000000000000000000000000000000000000000000000000000000000000000000000000000000000000000000000101 > 0 >  > 2-44 uart-1: 00|2-44 uart-1: Parity error|46-88 uart-1: 00|46-88 uart-1: Parity error|46-88 uart-1: Frame error|46-100 uart-1: Break|
+[--rate 1000 uart:rx=D0:baud=100] 010100000101010101010101010101010101010101 > 0 >  > 2-7 uart-1: False start|
+[--rate 1000000000000000 uart:rx=D0:baud=1] 010001 > 0 >  > 
+[--rate 20000000 uart:rx=D0:baud=10000000] 01 > 0 >  > 
+[--rate 1000000000000000/1000000000 uart:rx=D0:baud=500000] 01 > 0 >  > ";
+
 // Words, stacks and channels that are refused: nothing is read, though there are samples.
 const REFUSALS: &str = "\
 [--rat 5] 00 > 1 > ldecode: word 0 at 0: Unknown| > 
@@ -154,7 +177,15 @@ const REFUSALS: &str = "\
 [--job find D0=q] 00 > 1 > ldecode: word 2 at 3: Cond| > 
 [--job find D0=r,D1] 00 > 1 > ldecode: word 2 at 5: Cond| > 
 [--job find D0=r --job=find] 00 > 1 > ldecode: word 3 at 0: Repeat| > 
-[uart:rx=D0] 00 > 1 > ldecode: stack word 0 at 0: Unknown| > 
+[can:rx=D0] 00 > 1 > ldecode: stack word 0 at 0: Unknown| > 
+[spi:sck=D0:cs=D2] 00 > 1 > ldecode: stack word 0 at 0: Missing| > 
+[i2c:scl=D0:sda=D1,spi:sck=D0:mosi=D1] 00 > 1 > ldecode: stack word 0 at 18: Mismatch| > 
+[uart:rx=D0:parity=mark] 00 > 1 > ldecode: stack word 0 at 11: Value| > 
+[uart:rx=D0:bits=10] 00 > 1 > ldecode: stack word 0 at 11: Range| > 
+[--rate 1000 uart:rx=D0] 00 > 1 > ldecode: entry 0 item 0: Rate| > 
+[--rate 19999999 uart:rx=D0:baud=10000000] 00 > 1 > ldecode: entry 0 item 0: Rate| > 
+[--rate 1000000000000000/1000000000 uart:rx=D0:baud=500001] 00 > 1 > ldecode: entry 0 item 0: Rate| > 
+[spi:sck=D0:miso=D9] 00 > 1 > ldecode: entry 0 item 2: Unknown| > 
 [i2c:scl=D0:sda=D1 i2c:scl=D2:sda=D3,i2c:scl=D0:sda=D1] 00 > 1 > ldecode: stack word 1 at 18: Mismatch| > 
 [--show i2c-1,i2c-2 i2c:scl=D0:sda=D1] 00 > 1 > ldecode: stack word 1 at 6: Unknown| > 
 [i2c:scl=D0:sda=D9] 00 > 1 > ldecode: entry 0 item 1: Unknown| > 
@@ -240,8 +271,10 @@ fn writes_a_line_for_each_stop(rt: HostRuntime) -> Result<(), Fail> {
 
 #[test]
 fn writes_a_line_for_each_note(rt: HostRuntime) -> Result<(), Fail> {
-    for row in DECODINGS.split('\n') {
-        assert!(rt; holds(rt.alloc(), row, None)?, "{row}");
+    for table in [DECODINGS, TEN_BIT_ADDRESSES, GENERAL_CALLS, LINES] {
+        for row in table.split('\n') {
+            assert!(rt; holds(rt.alloc(), row, None)?, "{row}");
+        }
     }
     Ok(())
 }

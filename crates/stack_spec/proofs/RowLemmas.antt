@@ -15,7 +15,7 @@ use Rattle.la_base.specs.declared.samples.Rate.{Rate}
 use Rattle.decoder_core.specs.declared.faults.OptFault.{OptFault}
 use Rattle.decoder_core.specs.declared.faults.OptFault.TheVariants as opt
 use Rattle.decoder_set.specs.Kinds.{Form, OptionRow, Pin, Number, Choice, kind_row}
-use Rattle.decoder_set.specs.Opening.{open_fault, too_slow}
+use Rattle.decoder_set.specs.Faults.{open_fault, too_slow}
 use Rattle.decoder_set.specs.Values.{takes, has_groups, in_range, row_in_range}
 use Rattle.decoder_set.specs.Values as set_values
 use Rattle.decoder_set.proofs.WholeRows.{kind_whole}

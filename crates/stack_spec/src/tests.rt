@@ -31,7 +31,7 @@ const FAULTS: &str = "\
 [i2] 0 0 Unknown
 [I2C:scl=D0:sda=D1] 0 0 Unknown
 [i2c_:scl=D0:sda=D1] 0 0 Unknown
-[spi:sck=D0] 0 0 Unknown
+[can:rx=D0] 0 0 Unknown
 [:scl=D0:sda=D1] 0 0 Unknown
 [,i2c:scl=D0:sda=D1] 0 0 Unknown
 [i2c=x] 0 0 Unknown

@@ -1,4 +1,4 @@
-use Rattle.decoder_set.proofs.RangeLemmas.{channel_within, maybe_channel_within, number_within}
+use Rattle.decoder_set.specs.laws.RangeLaws.{channel_within, maybe_channel_within, number_within}
 use Rattle.decoder_set.proofs.laws.values_in_range_fit.Goals as goal
 
 pub returns-clause-number : goal.returns-clause-number

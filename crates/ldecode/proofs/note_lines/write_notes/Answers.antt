@@ -9,14 +9,14 @@ use Rattle.ldecode.proofs.note_lines.write_notes.Goals as goal
 pub returns-in-Err-clause-front : goal.returns-in-Err-clause-front
 returns-in-Err-clause-front g c =
     let written = g.K.Sink.written in
-    let line : c.bytes.result.now ≡ note_line (instances_in c.args.stack.now) c.entry-item.result = c.bytes.ensures.bytes ∙ c.put_entry.ensures in
+    let line : c.bytes.result.now ≡ note_line (instances_in c.args.stack.now) c.entry-item.result = c.bytes.ensures ∙ c.put.ensures in
     front_of_lines (instances_in c.args.stack.now) (written c.args.sink.now) (written c.loop-entry.sink) (written c.write_whole.new.sink) c.args.entries.now c.loop-entry.entry-index c.entry-item.result c.loop-entry-test.true c.entry-item.is
     c.loop-entry.invariant.so_far (subst (λ (l : List ℕ). AppendsFront (written c.loop-entry.sink) (written c.write_whole.new.sink) l) line c.in-Err.ensures.front)
 
 pub loop-entry-preserved : goal.loop-entry-preserved
 loop-entry-preserved g c =
     let written = g.K.Sink.written in
-    let line : c.bytes.result.now ≡ note_line (instances_in c.args.stack.now) c.entry-item.result = c.bytes.ensures.bytes ∙ c.put_entry.ensures in
+    let line : c.bytes.result.now ≡ note_line (instances_in c.args.stack.now) c.entry-item.result = c.bytes.ensures ∙ c.put.ensures in
     record {
       so_far = appends_on (written c.args.sink.now) (written c.loop-entry.sink) (written c.write_whole.new.sink) _ c.bytes.result.now _ c.loop-entry.invariant.so_far c.in-Ok.ensures.whole
           (ap (λ (l : List ℕ). note_lines (instances_in c.args.stack.now) (take c.loop-entry.entry-index c.args.entries.now) ++ l) line ∙ sym (lines_so_far (instances_in c.args.stack.now) c.args.entries.now c.loop-entry.entry-index c.entry-item.result c.loop-entry-test.true c.entry-item.is));

@@ -7,7 +7,7 @@ use Rattle.decoder_set.specs.Kinds.{Form, OptionRow, Row, Pin, Number, Choice}
 use Rattle.decoder_set.specs.Values.{channel_at, given_at, has_groups, maybe_channel_at, number_at, number_by, number_of, row_in_range, takes}
 use Rattle.decoder_set.specs.Whole.{NumberFits, usual_fits}
 
-both : (a b : Bool) → (a && b) ≡ true → (a ≡ true) × (b ≡ true)
+pub both : (a b : Bool) → (a && b) ≡ true → (a ≡ true) × (b ≡ true)
 both true true e = (refl, refl)
 both true false e = cc
 both false b e = cc

@@ -1,0 +1,22 @@
+-- Why a decoder can't be opened.
+use Rattle.std.specs.Prelude.{ℕ, ◌*◌, Bool, false, not, nat_lt, List, Option, Some, None, if◌then◌else◌}
+use Rattle.la_base.specs.declared.samples.Rate.{Rate}
+use Rattle.decoder_core.specs.declared.faults.OptFault.{OptFault}
+use Rattle.decoder_core.specs.declared.faults.OptFault.TheVariants.{Range}
+use Rattle.decoder_core.specs.declared.faults.OptFault.TheVariants as fault
+use Rattle.decoder_set.specs.declared.kinds.Kind.{Kind}
+use Rattle.decoder_set.specs.declared.kinds.Kind.TheVariants.{I2c, Spi, Uart}
+use Rattle.decoder_set.specs.Options.{uart_options}
+use Rattle.decoder_set.specs.Values.{in_range}
+
+-- whether a rate is too low for the options of a kind: a serial line asks that its first bit is read behind its first sample
+abbrev pub too_slow : Kind → List (Option ℕ) → Rate → Bool
+too_slow I2c values rate = false
+too_slow Spi values rate = false
+too_slow Uart values rate = nat_lt ((uart_options values).sp * rate.num) (100 * (uart_options values).baud * rate.den)
+
+-- why a decoder can't be opened: Range where an option doesn't take its value, then Rate where the rate is too low
+abbrev pub open_fault : ℕ → Kind → List (Option ℕ) → Rate → Option OptFault
+open_fault bits kind values rate = if not (in_range bits kind values) then Some Range
+    else if too_slow kind values rate then Some fault.Rate
+    else None

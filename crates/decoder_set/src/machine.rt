@@ -1,0 +1,58 @@
+// A decoder of any kind as a machine.
+ghost use Rattle.decoder_set.specs.Setups.{outs_of, near_of};
+ghost use Rattle.decoder_set.specs.Opening.{HasConsumed, IsAsleep, opened_by, setup_of};
+ghost use Rattle.decoder_set.specs.Kinds.{kind_row};
+ghost use Rattle.decoder_set.specs.laws.KindLaws.{nothing_of, prefix_of, order_of, few_of, on_wire_of};
+
+use crate::any::AnyMachine;
+use crate::{AnyDecoder, Setup, input_of};
+use decoder_core::{Machine, Outs};
+use la_base::{Feed, Wire};
+
+impl Machine for AnyDecoder {
+    type Setup = Setup;
+
+    ghost setup = { λ d. setup_of d };
+
+    ghost outputs = { λ setup input. outs_of setup input };
+
+    ghost near = { λ setup input. near_of setup input };
+
+    ghost wire = { λ setup. (kind_row setup.kind).input };
+
+    ghost gives = { λ setup. (kind_row setup.kind).output };
+
+    ghost consumed = { λ d input. HasConsumed d input };
+
+    ghost sleeps = { λ d input more. IsAsleep d input more };
+
+    fn wants(&self) -> Wire {
+        input_of(self.setup.kind)
+    }
+
+    fn step(&mut self, feed: Feed, into: &mut Outs) -> Option<Feed> {
+        match &mut self.machine {
+            AnyMachine::I2c(driver) => driver.step(feed, into),
+            AnyMachine::Spi(driver) => driver.step(feed, into),
+            AnyMachine::Uart(driver) => driver.step(feed, into),
+        }
+    }
+
+    fn floor(&self) -> u64 {
+        match &self.machine {
+            AnyMachine::I2c(driver) => driver.floor(),
+            AnyMachine::Spi(driver) => driver.floor(),
+            AnyMachine::Uart(driver) => driver.floor(),
+        }
+    }
+
+    ghost nothing = { λ d. nothing_of (setup_of d) (opened_by d) };
+
+    ghost prefix = { λ d. prefix_of (setup_of d) (opened_by d) };
+
+    ghost order = { λ d. order_of (setup_of d) (opened_by d) };
+
+    ghost few = { λ d. few_of (setup_of d) (opened_by d) };
+
+    ghost on_wire = { λ d. on_wire_of (setup_of d) (opened_by d) };
+}

@@ -1,0 +1,106 @@
+// How a decoder of any kind is opened.
+ghost use Rattle.std.specs.Prelude.{◌≡◌, ◌≤◌, ◌^◌, true, false, [], IfOk, IfErr, IsOk, OnErr, OnOk};
+ghost use Rattle.la_base.specs.declared.samples.TheConstants.{MOST_PINS};
+ghost use Rattle.decoder_core.specs.declared.faults.OptFault.TheVariants.{Rate as TooSlow};
+ghost use Rattle.decoder_set.specs.Faults.{too_slow};
+ghost use Rattle.decoder_set.specs.Opening.{Opens, Consumed, I2cConsumed, SpiConsumed, UartConsumed};
+ghost use Rattle.decoder_set.specs.Options.{i2c_options, spi_options, uart_options};
+ghost use Rattle.decoder_set.specs.Values.{in_range};
+
+use crate::any::AnyMachine;
+use crate::options::{i2c_options, spi_options, uart_options};
+use crate::values::in_range;
+use crate::{AnyDecoder, Kind, OptValues, Setup};
+use dec_i2c::I2c;
+use dec_spi::Spi;
+use dec_uart::Uart;
+use decoder_core::{Driver, OptFault};
+use la_base::Rate;
+
+// An I2C decoder of values in range.
+fn open_i2c(values: &OptValues, rate: Rate) -> Result<Driver<I2c>, OptFault>
+    requires { in_range MOST_PINS Kind.I2c values.now.given ≡ true }
+    ensures opens { IfOk result (λ driver. I2cConsumed (i2c_options values.now.given) driver []) }
+    ensures always { IsOk result }
+{
+    match I2c::open(i2c_options(values), rate) {
+        Ok(machine) => Ok(Driver::new(machine)),
+        Err(fault) => Err(fault),
+    }
+}
+
+// An SPI decoder of values in range.
+fn open_spi(values: &OptValues, rate: Rate) -> Result<Driver<Spi>, OptFault>
+    requires { in_range MOST_PINS Kind.Spi values.now.given ≡ true }
+    ensures opens { IfOk result (λ driver. SpiConsumed (spi_options values.now.given) driver []) }
+    ensures always { IsOk result }
+{
+    match Spi::open(spi_options(values), rate) {
+        Ok(machine) => Ok(Driver::new(machine)),
+        Err(fault) => Err(fault),
+    }
+}
+
+// A decoder of a serial line with values in range, at a rate that may be too low.
+fn open_uart(values: &OptValues, rate: Rate) -> Result<Driver<Uart>, OptFault>
+    requires range { in_range MOST_PINS Kind.Uart values.now.given ≡ true }
+    requires rate { rate.num ≤ 10 ^ 15 }
+    ensures opens { IfOk result (λ driver. UartConsumed (uart_options values.now.given) rate driver []) }
+    ensures fast { OnOk result (too_slow Kind.Uart values.now.given rate ≡ false) }
+    ensures slow { OnErr result (too_slow Kind.Uart values.now.given rate ≡ true) }
+    ensures fault { IfErr result (λ fault. fault ≡ TooSlow) }
+{
+    match Uart::open(uart_options(values), rate) {
+        Ok(machine) => Ok(Driver::new(machine)),
+        Err(fault) => Err(fault),
+    }
+}
+
+// A machine of a kind, of values in range.
+fn open_machine(kind: Kind, values: &OptValues, rate: Rate) -> Result<AnyMachine, OptFault>
+    requires range { in_range MOST_PINS kind values.now.given ≡ true }
+    requires rate { rate.num ≤ 10 ^ 15 }
+    ensures opens { IfOk result (λ machine. Consumed kind values.now.given rate machine []) }
+    ensures fast { OnOk result (too_slow kind values.now.given rate ≡ false) }
+    ensures slow { OnErr result (too_slow kind values.now.given rate ≡ true) }
+    ensures fault { IfErr result (λ fault. fault ≡ TooSlow) }
+{
+    match kind {
+        Kind::I2c => match open_i2c(values, rate) {
+            Ok(driver) => Ok(AnyMachine::I2c(driver)),
+            Err(fault) => Err(fault),
+        },
+        Kind::Spi => match open_spi(values, rate) {
+            Ok(driver) => Ok(AnyMachine::Spi(driver)),
+            Err(fault) => Err(fault),
+        },
+        Kind::Uart => match open_uart(values, rate) {
+            Ok(driver) => Ok(AnyMachine::Uart(driver)),
+            Err(fault) => Err(fault),
+        },
+    }
+}
+
+impl AnyDecoder {
+    /// Opens a decoder of a kind with these options at a rate; it has consumed nothing. `Range` comes
+    /// exactly where an option isn't in its range: a channel that is required and not given, or that
+    /// isn't one of the bits of a sample; a number that is too small or too large; a place behind the
+    /// words of a choice; or where of some options at least one has to be given, and none is. `Rate`
+    /// comes where the options are in range and the rate is too low for them: only a serial line asks
+    /// for one.
+    pub fn open(kind: Kind, values: OptValues, rate: Rate) -> Result<AnyDecoder, OptFault>
+        requires { rate.num ≤ 10 ^ 15 }
+        ensures { Opens MOST_PINS kind values rate result }
+    {
+        if !in_range(kind, &values) {
+            return Err(OptFault::Range);
+        }
+        match open_machine(kind, &values, rate) {
+            Ok(machine) => {
+                let setup = Setup { kind, values, rate };
+                Ok(AnyDecoder { setup, machine })
+            }
+            Err(fault) => Err(fault),
+        }
+    }
+}
