@@ -6,7 +6,7 @@ ghost use Rattle.dec_i2c.specs.Opening.{StandsFor, Opens};
 ghost use Rattle.dec_i2c.specs.laws.Machine.{mark_alt, clock_alt, i2c_alts, near_by};
 ghost use Rattle.dec_i2c.specs.laws.I2cLaws.{i2c_nothing, i2c_prefix, i2c_order, i2c_few};
 ghost use Rattle.dec_i2c.specs.laws.WireLaws.{i2c_on_wire};
-ghost use Rattle.dec_i2c.specs.laws.MachineLaws.{machine_quiet, one_i2c, i2c_one_stop, same_alts};
+ghost use Rattle.dec_i2c.specs.laws.MachineLaws.{machine_quiet, one_i2c, i2c_one_stop};
 
 use crate::outputs::give;
 use crate::steps::step;
@@ -103,22 +103,17 @@ impl LogicMachine for I2c {
 
     ghost alts = { λ machine. i2c_alts machine.bus.scl machine.bus.sda };
 
-    ghost fixes_alts = { λ _. true };
-
     fn cond(&self) -> Cond {
         let mut cond = Cond::one(mark_alt(self.bus));
         cond.add(clock_alt(self.bus));
         cond
     }
 
-    fn has_fixed_cond(&self) -> bool {
-        true
-    }
-
-    fn resume(&mut self, at: u64, value: Word, met: u8, into: &mut Outs) {
+    fn resume(&mut self, at: u64, value: Word, met: u8, into: &mut Outs) -> bool {
         let level = pin(value, self.bus.sda);
         give(&self.held, met, at, level, into);
         step(&mut self.held, met, at, level);
+        false
     }
 
     fn floor(&self, next: u64) -> u64 {
@@ -136,8 +131,6 @@ impl LogicMachine for I2c {
     ghost few = { λ machine. i2c_few machine.bus.scl machine.bus.sda };
 
     ghost on_wire = { λ machine. i2c_on_wire machine.bus.scl machine.bus.sda };
-
-    ghost fixed = { λ one other same _. same_alts one other same };
 
     ghost one_machine = { λ one other list same stands also. one_i2c one other list same stands also };
 

@@ -1,7 +1,5 @@
 // SPI as a decoder of samples: it sleeps between two events.
-ghost use Rattle.std.specs.Prelude.{◌≡◌, ◌∷◌, [], ℕ, List, false};
-ghost use Rattle.std.proofs.Common.{sym};
-ghost use Rattle.std.proofs.lemmas.Bool.{true≢false};
+ghost use Rattle.std.specs.Prelude.{◌≡◌, ◌∷◌, [], ℕ, List};
 ghost use Rattle.la_base.specs.declared.wires.Wire.TheVariants.{Spi as SpiWire};
 ghost use Rattle.dec_spi.specs.Bus.{spi_outs, spi_near};
 ghost use Rattle.dec_spi.specs.Opening.{opts_of, alts_of, StandsFor};
@@ -9,7 +7,7 @@ ghost use Rattle.dec_spi.specs.laws.SpiLaws.{spi_nothing, spi_prefix, spi_order,
 ghost use Rattle.dec_spi.specs.laws.MachineLaws.{machine_quiet, one_spi, spi_one_stop};
 
 use crate::alternatives::{first_select, next_event};
-use crate::stops::stop;
+use crate::stops::{is_fresh, stop};
 use crate::words::near;
 use crate::{Held, Spi, SpiOpts};
 use decoder_core::{LogicMachine, Outs};
@@ -31,8 +29,6 @@ impl LogicMachine for Spi {
 
     ghost alts = { λ machine. alts_of machine };
 
-    ghost fixes_alts = { λ _. false };
-
     // No edge is met at the first sample, so what is waited for first is a level; later it is always the same.
     fn cond(&self) -> Cond {
         match self.held {
@@ -42,12 +38,10 @@ impl LogicMachine for Spi {
         }
     }
 
-    fn has_fixed_cond(&self) -> bool {
-        false
-    }
-
-    fn resume(&mut self, at: u64, value: Word, _met: u8, into: &mut Outs) {
+    fn resume(&mut self, at: u64, value: Word, _met: u8, into: &mut Outs) -> bool {
+        let fresh = is_fresh(self.held);
         self.held = stop(&self.bus, self.held, at, value, into);
+        fresh
     }
 
     fn floor(&self, next: u64) -> u64 {
@@ -65,8 +59,6 @@ impl LogicMachine for Spi {
     ghost few = { λ machine. spi_few machine.bus.opts machine.bus.bits_some machine.bus.bits_few };
 
     ghost on_wire = { λ machine. spi_on_wire machine.bus.opts machine.bus.bits_some machine.bus.bits_few };
-
-    ghost fixed = { λ one other same fixes. absurd (true≢false (sym fixes)) };
 
     ghost one_machine = { λ one other list same stands also. one_spi one other list same stands also };
 

@@ -1,7 +1,7 @@
 // What a stop puts out, and what is kept behind it.
 ghost use Rattle.std.specs.Prelude.{◌≡◌, []};
 ghost use Rattle.dec_spi.specs.Bus.{level_of};
-ghost use Rattle.dec_spi.specs.laws.Machine.{clock_gives, clock_next, gives, next, event_of};
+ghost use Rattle.dec_spi.specs.laws.Machine.{clock_gives, clock_next, gives, next, event_of, is_fresh};
 
 use crate::levels::{is_low_first, is_selected, level_of};
 use crate::outputs::{give_deselect, give_select, give_word};
@@ -39,6 +39,17 @@ fn clock(
     } else {
         give_word(bus, first, at, mosi, miso, into);
         begun()
+    }
+}
+
+/// Whether no sample was selected yet.
+pub fn is_fresh(held: Held) -> bool
+    ensures { result ≡ is_fresh held }
+{
+    match held {
+        Held::Fresh => true,
+        Held::Outside => false,
+        Held::Inside { .. } => false,
     }
 }
 

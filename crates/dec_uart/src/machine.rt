@@ -1,6 +1,5 @@
 // A serial line as a decoder of samples: it sleeps from point to point.
 ghost use Rattle.std.specs.Prelude.{◌≡◌, ◌≢◌, ◌<◌, ◌^◌, ◌∷◌, [], ℕ, List, false};
-ghost use Rattle.std.proofs.lemmas.Bool.{false≢true};
 ghost use Rattle.la_base.specs.declared.wires.Wire.TheVariants.{Uart as UartWire};
 ghost use Rattle.dec_uart.specs.Frames.{uart_outs, uart_near};
 ghost use Rattle.dec_uart.specs.Opening.{StandsFor, alts_of};
@@ -83,20 +82,15 @@ impl LogicMachine for Uart {
 
     ghost alts = { λ machine. alts_of machine };
 
-    ghost fixes_alts = { λ _. false };
-
     fn cond(&self) -> Cond {
         Cond::one(held_alt(self.line, self.held))
     }
 
-    fn has_fixed_cond(&self) -> bool {
-        false
-    }
-
-    fn resume(&mut self, at: u64, value: Word, _met: u8, into: &mut Outs) {
+    fn resume(&mut self, at: u64, value: Word, _met: u8, into: &mut Outs) -> bool {
         let level = pin(value, self.line.opts.rx);
         give(self.line, self.held, at, level, into);
         self.held = step(self.line, self.held, at, level);
+        true
     }
 
     fn floor(&self, next: u64) -> u64 {
@@ -114,8 +108,6 @@ impl LogicMachine for Uart {
     ghost few = { λ machine. uart_few machine.line.opts machine.line.rate machine.line.in_range machine.line.fast };
 
     ghost on_wire = { λ machine. uart_on_wire machine.line.opts machine.line.rate };
-
-    ghost fixed = { λ _ _ _ fixes. absurd (false≢true fixes) };
 
     ghost one_machine = { λ one other list same stands also. one_uart one other list same stands also };
 

@@ -66,10 +66,6 @@ IsLoud outs stands alts at value met into =
 abbrev pub StandsThere : (List ℕ → Type 0) → (List ℕ → Type 0) → List Alt → ℕ → ℕ → ℕ → Type 0
 StandsThere old new alts at value met = (seen more : List ℕ) → old seen → StopsIn alts seen more at value met → new (take (at + 1) (seen ++ more))
 
--- *fixed*: where a setup fixes the alternatives, all machines of it wait for the same
-abbrev pub FixesAlts : {L S : Type 0} → (L → S) → (S → Bool) → (L → List Alt) → Type 0
-FixesAlts {L} setup fixes alts = (one other : L) → setup one ≡ setup other → fixes (setup one) ≡ true → alts one ≡ alts other
-
 -- *one machine*: two machines of one setup that stand for the same samples are equal
 abbrev pub OneMachine : {L S : Type 0} → (L → S) → (L → List ℕ → Type 0) → Type 0
 OneMachine {L} setup stands = (one other : L) (list : List ℕ) → setup one ≡ setup other → stands one list → stands other list → one ≡ other

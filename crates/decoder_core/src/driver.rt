@@ -1,5 +1,5 @@
 // Drives a decoder of samples by the waits that it asks for.
-ghost use Rattle.std.specs.Prelude.{◌≡◌, ◌≤◌, ◌<◌, ◌+◌, ◌^◌, [], ◌∷◌, ◌++◌, ℕ, List, length, min, replicate, ◌-◌, IfSome};
+ghost use Rattle.std.specs.Prelude.{◌≡◌, ◌≤◌, ◌<◌, ◌+◌, ◌^◌, [], ◌∷◌, ◌++◌, ℕ, List, length, min, replicate, ◌-◌, false, IfSome};
 ghost use Rattle.la_base.specs.declared.wires.Wire.TheVariants.{Logic};
 ghost use Rattle.wait_cond.specs.Waiting.{Waits, alts_of, wait_from, consumed_by};
 ghost use Rattle.decoder_core.specs.Inputs.{Item, Sample, counted_samples, items_of, left_items};
@@ -47,23 +47,23 @@ impl<L: LogicMachine> Driver<L> {
         match self.waiter.scan(part_of(run, MOST_SAMPLES - before)) {
             Scan::Through => None,
             Scan::Met { at, value, met, .. } => {
-                self.machine.resume(at, value, met, into);
-                wait_on(&self.machine, &mut self.waiter);
+                let anew = self.machine.resume(at, value, met, into);
+                wait_on(&self.machine, anew, &mut self.waiter);
                 behind(run, at + 1 - before)
             }
         }
     }
 }
 
-// Begins the wait for what a machine waits for, behind its last stop. Where its setup fixes that, the
-// waiter has it already: to make it anew at each stop would take a tenth of a decode.
-fn wait_on<L: LogicMachine>(machine: &L, waiter: &mut Waiter)
+// Begins the wait for what a machine waits for, behind its last stop. Where that is what it waited for
+// before, the waiter has it already: to make it anew at each stop would take a third of a decode.
+fn wait_on<L: LogicMachine>(machine: &L, anew: bool, waiter: &mut Waiter)
     requires { wait_from waiter.old ≡ consumed_by waiter.old }
     ensures waits { (list : List ℕ) → Waits waiter.old list → Waits waiter.new list }
     ensures from { wait_from waiter.new ≡ wait_from waiter.old }
-    ensures alts { (before : L) → L.setup before ≡ L.setup machine.now → alts_of waiter.old ≡ L.alts before → alts_of waiter.new ≡ L.alts machine.now }
+    ensures alts { (anew ≡ false → alts_of waiter.old ≡ L.alts machine.now) → alts_of waiter.new ≡ L.alts machine.now }
 {
-    if !machine.has_fixed_cond() {
+    if anew {
         waiter.renew(machine.cond());
     }
 }

@@ -1,11 +1,11 @@
 // What a decoder is, by the outputs of its whole input.
-ghost use Rattle.std.specs.Prelude.{◌≡◌, ◌≤◌, ◌<◌, ◌+◌, ◌^◌, [], ◌∷◌, ◌++◌, ℕ, List, length, take, Bool};
+ghost use Rattle.std.specs.Prelude.{◌≡◌, ◌≤◌, ◌<◌, ◌+◌, ◌^◌, [], ◌∷◌, ◌++◌, ℕ, List, length, take, false};
 ghost use Rattle.la_base.specs.declared.wires.Out.{Out};
 ghost use Rattle.la_base.specs.declared.wires.Wire.{Wire};
 ghost use Rattle.wait_cond.specs.declared.alt.Alt.{Alt};
 ghost use Rattle.wait_cond.specs.Conds.{cond_alts};
 ghost use Rattle.decoder_core.specs.Inputs.{Item};
-ghost use Rattle.decoder_core.specs.Promises.{IsFloor, GivesNothing, GivesOn, KeepsFront, PacketsInOrder, AddsFew, Rests, IsQuiet, IsLoud, StandsThere, FixesAlts, OneMachine, OneLastStop};
+ghost use Rattle.decoder_core.specs.Promises.{IsFloor, GivesNothing, GivesOn, KeepsFront, PacketsInOrder, AddsFew, Rests, IsQuiet, IsLoud, StandsThere, OneMachine, OneLastStop};
 ghost use Rattle.decoder_core.specs.Driving.{Steps, StopsFirst};
 
 use crate::Outs;
@@ -37,26 +37,21 @@ pub trait LogicMachine {
     /// The alternatives that it waits for.
     ghost alts: { Self → List Alt };
 
-    /// Whether a setup fixes the alternatives.
-    ghost fixes_alts: { Self.Setup → Bool };
-
     /// The condition of its next stop.
     fn cond(&self) -> Cond
         ensures { cond_alts result ≡ alts self.now };
 
-    /// Whether its setup fixes the alternatives. Then `cond` isn't asked again after the first wait.
-    fn has_fixed_cond(&self) -> bool
-        ensures { result ≡ fixes_alts (setup self.now) };
-
     /// Takes the stop at sample number `at`, whose value is `value`; bit i of `met` says whether it
     /// meets alternative i. *Loud*: the outputs grow by those that are put into `into`, in their order,
-    /// and by nothing else.
-    fn resume(&mut self, at: u64, value: Word, met: u8, into: &mut Outs)
+    /// and by nothing else. Answers whether it may wait for something else now; where it doesn't, `cond`
+    /// isn't asked again.
+    fn resume(&mut self, at: u64, value: Word, met: u8, into: &mut Outs) -> bool
         requires empty { into.old ≡ [] }
         requires early { at < 2 ^ 60 }
         ensures setup { setup self.new ≡ setup self.old }
         ensures stands { StandsThere (stands self.old) (stands self.new) (alts self.old) at value met }
-        ensures loud { IsLoud (outs (setup self.old)) (stands self.old) (alts self.old) at value met into.new };
+        ensures loud { IsLoud (outs (setup self.old)) (stands self.old) (alts self.old) at value met into.new }
+        ensures waits { result ≡ false → alts self.new ≡ alts self.old };
 
     /// At most the start of every note that is still to come, where `next` is the number of samples
     /// consumed so far; and at least the start of what has begun and isn't given yet.
@@ -83,9 +78,6 @@ pub trait LogicMachine {
 
     /// *Wire*: each packet that is put out is of that wire.
     ghost on_wire: { (machine : Self) → GivesOn (gives (setup machine)) (outs (setup machine)) };
-
-    /// *Fixed*: where a setup fixes the alternatives, all machines of it wait for the same.
-    ghost fixed: { FixesAlts setup fixes_alts alts };
 
     /// *One machine*: two machines of one setup that stand for the same samples are equal.
     ghost one_machine: { OneMachine setup stands };

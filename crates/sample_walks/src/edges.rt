@@ -48,8 +48,6 @@ impl LogicMachine for Edges {
 
     ghost alts = { λ _. edge_alts };
 
-    ghost fixes_alts = { λ _. true };
-
     fn cond(&self) -> Cond {
         Cond::one(Alt {
             low: 0,
@@ -62,12 +60,9 @@ impl LogicMachine for Edges {
         })
     }
 
-    fn has_fixed_cond(&self) -> bool {
-        true
-    }
-
-    fn resume(&mut self, at: u64, value: Word, _met: u8, into: &mut Outs) {
+    fn resume(&mut self, at: u64, value: Word, _met: u8, into: &mut Outs) -> bool {
         into.push(note_at(0, at, level(value)));
+        false
     }
 
     fn floor(&self, next: u64) -> u64 {
@@ -85,8 +80,6 @@ impl LogicMachine for Edges {
     ghost few = { λ _. edges_few };
 
     ghost on_wire = { λ _. edges_on_wire };
-
-    ghost fixed = { λ _ _ _ _. refl };
 
     ghost one_machine = { λ _ _ _ _ _ _. refl };
 

@@ -6,6 +6,7 @@ use Rattle.std.proofs.lemmas.Nat.Bits.{bit_at-zero}
 use Rattle.std.proofs.lemmas.Bool.Decides.{nat_tests}
 use Rattle.wait_cond.specs.Stops.{MetSet, MetIn, NoneMet, IsStop}
 use Rattle.wait_cond.specs.Standing.{FirstStanding}
+use Rattle.wait_cond.specs.Watching.{SkipMore}
 use Rattle.wait_cond.specs.Waiting.{WaitsAt}
 use Rattle.la_base.specs.declared.samples.Run.{Run}
 use Rattle.la_base.specs.Samples.{samples, before_of}
@@ -63,6 +64,13 @@ module _ (list more : List ℕ) (value len : ℕ) (is : more ≡ replicate len v
         | inl same ↦ subst (λ (n : ℕ). MetIn (list ++ more) alts from n 0) (sym same) here
         | inr other ↦ none q after (omega arith)
       ]
+
+  -- while each alternative skips more samples, none is met
+  pub none_skipped : (alts : List Alt) (from end samples : ℕ) → SkipMore samples alts → end ≤ from + samples → NoneMet (list ++ more) alts from end
+  none_skipped alts from end samples skips near q after below = record {
+    each = λ i one. absurd (omega (arith, one, bit_at-zero i));
+    all = λ i alt there meets. let more = skips i alt there in absurd (omega (arith, more, meets.skipped (λ none. omega (arith, more, none)), near, below));
+  }
 
   -- behind the first sample of the run the value stands
   before_standing : (k : ℕ) → k < len → 0 < k → before_of (list ++ more) (length list + k) ≡ Some value

@@ -5,7 +5,7 @@ use Rattle.std.proofs.lemmas.Nat.Bits.{bit_at_and, bit_at_or, bit_at_xor, bit_at
 use Rattle.std.proofs.lemmas.Bool.{cases_eq}
 use Rattle.wait_cond.specs.Meets.{Rises, LinesHold, AllIn}
 use Rattle.wait_cond.specs.Standing.{FirstStanding}
-use Rattle.wait_cond.specs.Watching.{edge_lines, high_lines, Watches, AskHigh, NeverMet}
+use Rattle.wait_cond.specs.Watching.{edge_lines, high_lines, Watches, AskHigh, SkipAtLeast, NeverMet}
 use Rattle.wait_cond.specs.declared.alt.Alt.{Alt}
 use Rattle.wait_cond.proofs.Masks.{all_in_no}
 use Rattle.wait_cond.proofs.Sets.{get_push}
@@ -47,6 +47,19 @@ ask_more alts alt high lines is asks i other got = elim (get_push alts alt i oth
     both line one =
         let bit = bit_at_and high lines line in
         (omega (arith, bit, one, bit_at-lt high line, bit_at-lt lines line), omega (arith, bit, one, bit_at-lt high line, bit_at-lt lines line))
+
+-- the same of the samples that are skipped
+pub skip_one : (alt : Alt) → SkipAtLeast alt.skip (alt ∷ [])
+skip_one alt i other got = elim (get_push [] alt i other got) [
+  | inl none ↦ absurd cc
+  | inr last ↦ omega (arith, ap (λ (a : Alt). a.skip) last.1)
+]
+
+pub skip_more : (alts : List Alt) (alt : Alt) (least all : ℕ) → all ≤ least → all ≤ alt.skip → SkipAtLeast least alts → SkipAtLeast all (alts ++ alt ∷ [])
+skip_more alts alt least all first second skips i other got = elim (get_push alts alt i other got) [
+  | inl front ↦ omega (arith, skips i other front, first)
+  | inr last ↦ omega (arith, ap (λ (a : Alt). a.skip) last.1, second)
+]
 
 -- a line that rises is high
 risen : (before : Option ℕ) (now line : ℕ) → Rises before now line → bit_at now line ≡ 1

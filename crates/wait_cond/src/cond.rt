@@ -1,6 +1,6 @@
 // Conditions.
 ghost use Rattle.std.specs.Prelude.{◌≡◌, ◌≢◌, ◌<◌, ◌≤◌, ◌∷◌, ◌++◌, [], length, Option, bit_or, true};
-ghost use Rattle.wait_cond.specs.Watching.{edge_lines, high_lines, Watches, AskHigh, NeverMet};
+ghost use Rattle.wait_cond.specs.Watching.{edge_lines, high_lines, Watches, AskHigh, NeverMet, SkipAtLeast, SkipMore};
 
 use crate::Alt;
 use arrayvec::ArrayVec;
@@ -14,9 +14,12 @@ pub struct Cond {
     watched: Word,
     // the lines that each alternative asks to be high
     high: Word,
+    // the least skip of the alternatives
+    skip: u64,
     ghost some: { 1 ≤ length alts.items },
     ghost watches: { watched ≢ 0 → Watches watched alts.items },
     ghost asks: { AskHigh high alts.items },
+    ghost skips: { SkipAtLeast skip alts.items },
 }
 
 impl Cond {
@@ -28,12 +31,14 @@ impl Cond {
     {
         let watched = edge_lines(&alt);
         let high = high_lines(&alt);
+        let skip = alt.skip;
         let mut alts = ArrayVec::new();
         alts.push(alt);
         Cond {
             alts,
             watched,
             high,
+            skip,
         }
     }
 
@@ -44,9 +49,11 @@ impl Cond {
     {
         let watched = watched_with(self.watched, edge_lines(&alt));
         let high = self.high & high_lines(&alt);
+        let skip = self.skip.min(alt.skip);
         self.alts.push(alt);
         self.watched = watched;
         self.high = high;
+        self.skip = skip;
     }
 
     /// How many alternatives there are.
@@ -64,6 +71,14 @@ impl Cond {
         ensures few { length result.now ≤ 8 }
     {
         &self.alts
+    }
+
+    /// Whether each alternative skips more than so many samples behind the last stop.
+    #[inline]
+    pub fn skips_more(&self, samples: u64) -> bool
+        ensures { result ≡ true → SkipMore samples (cond_alts self.now) }
+    {
+        samples < self.skip
     }
 
     /// Whether it is plain that no alternative is met: each asks one line to be high, and it is low;

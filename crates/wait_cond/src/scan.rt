@@ -132,6 +132,9 @@ impl Waiter {
         ensures found { (list : List ℕ) → Waits self.now list → Found self.now.cond.alts.items self.now.from (list ++ samples run) (length list) run.len result }
         ensures within { IfSome result (λ x. (x.0 < run.len) × (x.1 ≢ 0)) }
     {
+        if self.cond.skips_more(self.consumed + run.len - self.from) {
+            return None;
+        }
         let met = self.met_next(run.value);
         if met != 0 {
             return Some((0, met));

@@ -67,7 +67,3 @@ pub i2c_one_stop : (one other : I2c) (seen more : List ℕ) → bus_of one ≡ b
 i2c_one_stop one other seen more same stands also none =
     held_one_stop (by_events (i2c_walk one.bus.scl one.bus.sda)) i2c_fits (λ h q. Unit {0}) (i2c_sound one.bus.scl one.bus.sda) (i2c_outs one.bus.scl one.bus.sda) (i2c_given one.bus.scl one.bus.sda) one.held seen more stands.0 stands.1 none
     (subst (λ (bus : Bus). EndsThere (by_events (i2c_walk bus.scl bus.sda)) (seen ++ more)) (sym same) also.0)
-
--- the lines alone say what is waited for
-pub same_alts : (one other : I2c) → bus_of one ≡ bus_of other → i2c_alts one.bus.scl one.bus.sda ≡ i2c_alts other.bus.scl other.bus.sda
-same_alts one other same = ap (λ (bus : Bus). i2c_alts bus.scl bus.sda) same

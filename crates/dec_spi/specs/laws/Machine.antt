@@ -68,6 +68,12 @@ spi_alts opts Fresh = select_alt opts.cs (is_active_high opts) ∷ []
 spi_alts opts Outside = event_alts opts
 spi_alts opts (Inside count mosi miso first) = event_alts opts
 
+-- no sample was selected yet
+abbrev pub is_fresh : Held → Bool
+is_fresh Fresh = true
+is_fresh Outside = false
+is_fresh (Inside count mosi miso first) = false
+
 -- a stretch that has just begun
 abbrev pub begun : Held
 begun = Inside 0 0 0 0

@@ -1,6 +1,7 @@
 -- What an SPI decoder that stands for samples answers.
-use Rattle.std.proofs.Common.{◌≡◌, ℕ, ◌+◌, ◌≤◌, ◌<◌, List, [], ◌∷◌, ◌++◌, take, length, Option, sym, ◌∙◌, ap, subst}
+use Rattle.std.proofs.Common.{refl, ◌≡◌, ℕ, Bool, true, false, nat_lt, if◌then◌else◌, ◌+◌, ◌≤◌, ◌<◌, List, [], ◌∷◌, ◌++◌, take, length, Option, sym, ◌∙◌, ap, subst}
 use Rattle.std.specs.Option.{ForSome}
+use Rattle.std.proofs.lemmas.Bool.{true≢false}
 use Rattle.std.proofs.Math.Bridge.{le_prop}
 use Rattle.std.proofs.Math.Path.{to_path_p}
 use Rattle.std.proofs.lemmas.List.{append-nil}
@@ -14,9 +15,10 @@ use Rattle.dec_spi.specs.declared.held.Bus.{Bus}
 use Rattle.dec_spi.specs.declared.held.Held.{Held}
 use Rattle.dec_spi.specs.declared.held.Spi.{Spi}
 use Rattle.dec_spi.specs.declared.options.SpiOpts.{SpiOpts}
-use Rattle.dec_spi.specs.Bus.{Event, event_at, spi_outs, spi_near}
+use Rattle.dec_spi.specs.declared.held.Held.TheVariants.{Fresh, Outside, Inside}
+use Rattle.dec_spi.specs.Bus.{Event, Select, Deselect, Clock, event_at, is_low_first, spi_outs, spi_near}
 use Rattle.dec_spi.specs.Opening.{opts_of, alts_of, StandsFor}
-use Rattle.dec_spi.specs.laws.Machine.{gives, next, near_by, spi_walk, event_of, EndsAtEvent, held_at}
+use Rattle.dec_spi.specs.laws.Machine.{gives, next, near_by, spi_walk, event_of, EndsAtEvent, held_at, is_fresh, spi_alts, event_alts, with_bit, start_of, begun}
 use Rattle.dec_spi.specs.laws.SpiSound.{spi_fits, spi_sound, stop_is}
 use Rattle.dec_spi.specs.laws.SpiLaws.{timed, spi_same, spi_same_near}
 
@@ -84,3 +86,17 @@ one_spi one other list same stands also =
 pub spi_one_stop : (one other : Spi) (seen more : List ℕ) → opts_of one ≡ opts_of other → StandsFor one seen → StandsFor other (seen ++ more) → Rests (alts_of one) seen more → more ≡ []
 spi_one_stop one other seen more same stands also none =
     machine_one_stop one seen more stands none (subst (λ (opts : SpiOpts). EndsAtEvent opts (seen ++ more)) (sym same) also.0)
+
+-- behind the first selected sample the same events are waited for
+pub waits_on : (options : SpiOpts) (held : Held) (event : Event) → is_fresh held ≡ false → spi_alts options (next options held event) ≡ spi_alts options held
+waits_on options Fresh event later = absurd (true≢false later)
+waits_on options Outside (Select k) later = refl
+waits_on options Outside (Deselect k) later = refl
+waits_on options Outside (Clock k out back) later = refl
+waits_on options (Inside count mosi miso first) (Select k) later = refl
+waits_on options (Inside count mosi miso first) (Deselect k) later = refl
+waits_on options (Inside count mosi miso first) (Clock k out back) later = inside (nat_lt (count + 1) options.bits)
+  where
+    inside : (more : Bool) → spi_alts options (if more then Inside (count + 1) (with_bit (is_low_first options) count mosi out) (with_bit (is_low_first options) count miso back) (start_of count first k) else begun) ≡ event_alts options
+    inside true = refl
+    inside false = refl

@@ -114,14 +114,14 @@ returns-in-Met-clause-step g c =
           let from = c.wait_on.ensures.from ∙ counts.from in
           record {
             waits = subst (λ (l : List ℕ). Waits c.wait_on.new.waiter l) (sym (place input d)) (c.wait_on.ensures.waits (take (at + 1) whole) scanned.3);
-            machine_stands = subst (λ (n : ℕ). m.stands c.resume.new.self (take n (counted_samples (input ++ front)))) (sym from)
-                (subst (λ (l : List ℕ). m.stands c.resume.new.self l) (sym cut) (c.resume.ensures.stands (seen input) (more input) d.machine_stands (stops input d)));
-            cond = c.wait_on.ensures.alts s.machine (sym c.resume.ensures.setup) (c.scan.ensures.alts ∙ d.cond);
+            machine_stands = subst (λ (n : ℕ). m.stands c.resume-anew.new.self (take n (counted_samples (input ++ front)))) (sym from)
+                (subst (λ (l : List ℕ). m.stands c.resume-anew.new.self l) (sym cut) (c.resume-anew.ensures.stands (seen input) (more input) d.machine_stands (stops input d)));
+            cond = c.wait_on.ensures.alts (λ same. c.scan.ensures.alts ∙ d.cond ∙ sym (c.resume-anew.ensures.waits same));
           };
       gives = λ input d.
           ap (λ (l : List ℕ). m.outs (m.setup s.machine) l) (place input d ∙ ap (λ (l : List ℕ). take (at + 1) l) (sym (parts input d)))
-          ∙ c.resume.ensures.loud (seen input) (more input) d.machine_stands (stops input d)
-          ∙ ap (λ (l : List Out). l ++ c.resume.new.into) (sym (outs_now m.setup m.outs m.stands m.alts g.met.L.LogicMachine.quiet s.machine s.waiter input d));
+          ∙ c.resume-anew.ensures.loud (seen input) (more input) d.machine_stands (stops input d)
+          ∙ ap (λ (l : List Out). l ++ c.resume-anew.new.into) (sym (outs_now m.setup m.outs m.stands m.alts g.met.L.LogicMachine.quiet s.machine s.waiter input d));
     }
 
 pub returns-in-Met-clause-stops : goal.returns-in-Met-clause-stops

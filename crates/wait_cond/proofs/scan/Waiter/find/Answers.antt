@@ -6,7 +6,7 @@ use Rattle.wait_cond.specs.Stops.{MetIn, MetSet, NoneMet}
 use Rattle.wait_cond.specs.Waiting.{WaitsAt}
 use Rattle.wait_cond.specs.declared.alt.Alt.{Alt}
 use Rattle.wait_cond.proofs.ChainLemmas.{none_in_longer}
-use Rattle.wait_cond.proofs.Runs.{samples_are, waits_before, met_at, none_next, none_standing, standing_at}
+use Rattle.wait_cond.proofs.Runs.{samples_are, waits_before, met_at, none_next, none_standing, none_skipped, standing_at}
 use Rattle.wait_cond.proofs.StandingLemmas.{some_standing}
 use Rattle.wait_cond.proofs.WatchLemmas.{never_standing}
 use Rattle.wait_cond.proofs.scan.Waiter.find.Goals as goal
@@ -26,6 +26,13 @@ module _ (list : List ℕ) (run : Run) (alts : List Alt) (consumed from last : �
       none_next list (samples run) run.value run.len (samples_are run) alts from 0
       (met_at list (samples run) run.value run.len (samples_are run) alts from 0 before 0 run.not_empty at_first
       (subst (λ (n : ℕ). MetSet alts before run.value from n 0) here (subst (λ (m : ℕ). MetSet alts before run.value from consumed m) none set))) none_so_far
+
+-- each alternative skips more samples than lie between the last stop and the end of the run
+pub returns-then-skips_more-clause-found : goal.returns-then-skips_more-clause-found
+returns-then-skips_more-clause-found c = λ list w.
+    let s = c.args.self.now in
+    let run = c.args.run in
+    none_skipped list (samples run) run.value run.len (samples_are run) s.cond.alts.items s.from (length list + run.len) (s.consumed + run.len - s.from) (c.if-skips_more.ensures refl) (omega (arith, w.count))
 
 pub returns-then-met-ne0-clause-found : goal.returns-then-met-ne0-clause-found
 returns-then-met-ne0-clause-found c = λ list w.
