@@ -13,7 +13,7 @@ use crate::steps::step;
 use crate::{Bus, I2c, I2cOpts, Segment};
 use decoder_core::{LogicMachine, OptFault, Outs};
 use la_base::{MOST_PINS, Rate, Word, pin};
-use wait_cond::{Alt, Cond};
+use wait_cond::{Alt, Cond, Waiter};
 
 // The mask of one line.
 fn mask(line: u32) -> Word
@@ -107,6 +107,10 @@ impl LogicMachine for I2c {
         let mut cond = Cond::one(mark_alt(self.bus));
         cond.add(clock_alt(self.bus));
         cond
+    }
+
+    fn wait(&self, waiter: &mut Waiter) {
+        waiter.renew(self.cond());
     }
 
     fn resume(&mut self, at: u64, value: Word, met: u8, into: &mut Outs) -> bool {

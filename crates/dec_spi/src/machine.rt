@@ -12,7 +12,7 @@ use crate::words::near;
 use crate::{Held, Spi, SpiOpts};
 use decoder_core::{LogicMachine, Outs};
 use la_base::Word;
-use wait_cond::Cond;
+use wait_cond::{Cond, Waiter};
 
 impl LogicMachine for Spi {
     type Setup = SpiOpts;
@@ -36,6 +36,10 @@ impl LogicMachine for Spi {
             Held::Outside => next_event(&self.bus),
             Held::Inside { .. } => next_event(&self.bus),
         }
+    }
+
+    fn wait(&self, waiter: &mut Waiter) {
+        waiter.renew(self.cond());
     }
 
     fn resume(&mut self, at: u64, value: Word, _met: u8, into: &mut Outs) -> bool {

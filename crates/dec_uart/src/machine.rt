@@ -13,7 +13,7 @@ use crate::steps::step;
 use crate::{Held, Line, Uart};
 use decoder_core::{LogicMachine, Outs};
 use la_base::{MOST_PINS, Word, pin};
-use wait_cond::{Alt, Cond};
+use wait_cond::{Alt, Cond, Waiter};
 
 // The mask of one line.
 fn mask(line: u32) -> Word
@@ -84,6 +84,10 @@ impl LogicMachine for Uart {
 
     fn cond(&self) -> Cond {
         Cond::one(held_alt(self.line, self.held))
+    }
+
+    fn wait(&self, waiter: &mut Waiter) {
+        waiter.renew_one(held_alt(self.line, self.held));
     }
 
     fn resume(&mut self, at: u64, value: Word, _met: u8, into: &mut Outs) -> bool {

@@ -2,3 +2,4 @@ pub mod Counting
 pub mod Driven
 pub mod OneDriver
 pub mod Ordered
+mod Joining

@@ -1,12 +1,14 @@
 -- What one step of a machine does, and what a driver stands for.
-use Rattle.std.specs.Prelude.{ℕ, ◌≡◌, ◌<◌, List, [], ◌∷◌, ◌++◌, length, take, Option, IfSome}
+use Rattle.std.specs.Prelude.{ℕ, ◌≡◌, ◌<◌, List, [], ◌∷◌, ◌++◌, length, take, map, Option, IfSome}
+use Rattle.la_base.specs.Samples.{samples}
+use Rattle.la_base.specs.declared.samples.Run.{Run}
 use Rattle.la_base.specs.declared.wires.Feed.{Feed}
 use Rattle.la_base.specs.declared.wires.Out.{Out}
 use Rattle.wait_cond.specs.declared.alt.Alt.{Alt}
 use Rattle.wait_cond.specs.declared.scan.Waiter.{Waiter}
 use Rattle.wait_cond.specs.Stops.{NoneMet}
 use Rattle.wait_cond.specs.Waiting.{Waits, SameNumbers, wait_from, alts_of}
-use Rattle.decoder_core.specs.Inputs.{Item, items_of, left_items, counted_samples}
+use Rattle.decoder_core.specs.Inputs.{Item, Sample, items_of, left_items, counted_samples}
 
 -- a front of the feed was consumed, which isn't empty where the feed isn't; the outputs grew by those that were put out, and what is answered is the rest, which isn't empty. `before` and `after` say of which inputs the machine stood and stands
 pub record Steps (before after : List Item → Type 0) (outputs : List Item → List Out) (feed : Feed) (left : Option Feed) (into : List Out) : Type 0 where
@@ -23,6 +25,16 @@ pub record StopsFirst (before : List Item → Type 0) (sleeps : List Item → Li
   pub split : items_of feed ≡ front ++ left_items left
   pub none : (input earlier : List Item) (last : Item) → before input → front ≡ earlier ++ last ∷ [] → sleeps input earlier
   pub stop : 0 < length (left_items left) → (input : List Item) → before input → ¬ sleeps input front
+
+-- a step goes on at least to the first stop: where anything is left, a stop was among what was consumed
+pub record ReachesStop (before : List Item → Type 0) (sleeps : List Item → List Item → Type 0) (feed : Feed) (left : Option Feed) : Type 0 where
+  pub front : List Item
+  pub split : items_of feed ≡ front ++ left_items left
+  pub stop : 0 < length (left_items left) → (input : List Item) → before input → ¬ sleeps input front
+
+-- a run was consumed whole, and gives nothing
+abbrev pub Passes : (List Item → Type 0) → (List Item → Type 0) → (List Item → List Out) → Run → Type 0
+Passes before after outputs run = (input : List Item) → before input → after (input ++ map Sample (samples run)) × (outputs (input ++ map Sample (samples run)) ≡ outputs input)
 
 -- a driver has consumed this input: its waiter stands for the samples that count, and its machine for those up to its last stop
 pub record Drives {L : Type 0} (stands : L → List ℕ → Type 0) (alts : L → List Alt) (machine : L) (waiter : Waiter) (input : List Item) : Type 0 where

@@ -1,5 +1,6 @@
 -- What a machine is given, as one list.
 use Rattle.std.specs.Prelude.{ℕ, ◌^◌, List, [], ◌∷◌, map, take, Option, Some, None}
+use Rattle.la_base.specs.declared.samples.Run.{Run}
 use Rattle.la_base.specs.declared.wires.Packet.{Packet}
 use Rattle.la_base.specs.declared.wires.Feed.{Feed}
 use Rattle.la_base.specs.declared.wires.Feed.TheVariants.{Run as RunFeed, Packet as PacketFeed, End}
@@ -19,6 +20,11 @@ items_of End = []
 abbrev pub left_items : Option Feed → List Item
 left_items None = []
 left_items (Some feed) = items_of feed
+
+-- a run that is left over, as a feed
+abbrev pub left_feed : Option Run → Option Feed
+left_feed None = None
+left_feed (Some run) = Some (RunFeed run)
 
 -- the samples among items
 abbrev pub samples_in : List Item → List ℕ

@@ -1,7 +1,7 @@
 -- What a decoder promises. *Outputs*: `outs` is all that the decoder's definition gives on a whole input, at one
 -- setup. *Stands for*: `stands` says that a machine holds what it has to know of a list of samples, which ends with
 -- the machine's last stop; its condition `alts` is pending from there on.
-use Rattle.std.specs.Prelude.{ℕ, ◌≡◌, ◌+◌, ◌≤◌, Bool, true, List, [], ◌∷◌, ◌++◌, take, length, slice_index}
+use Rattle.std.specs.Prelude.{ℕ, ◌≡◌, ◌+◌, ◌≤◌, List, [], ◌∷◌, ◌++◌, take, length, slice_index}
 use Rattle.std.specs.List.Sorted.{IsNonDecreasing}
 use Rattle.la_base.specs.Kinds.{wire_of}
 use Rattle.la_base.specs.declared.wires.Wire.{Wire}

@@ -1,9 +1,9 @@
 // Drives a decoder of samples by the waits that it asks for.
-ghost use Rattle.std.specs.Prelude.{◌≡◌, ◌≤◌, ◌<◌, ◌+◌, ◌^◌, [], ◌∷◌, ◌++◌, ℕ, List, length, min, replicate, ◌-◌, false, IfSome};
+ghost use Rattle.std.specs.Prelude.{◌≡◌, ◌≤◌, ◌<◌, ◌+◌, ◌^◌, [], ◌∷◌, ◌++◌, ℕ, List, length, min, replicate, ◌-◌, true, false, IfSome};
 ghost use Rattle.la_base.specs.declared.wires.Wire.TheVariants.{Logic};
 ghost use Rattle.wait_cond.specs.Waiting.{Waits, alts_of, wait_from, consumed_by};
-ghost use Rattle.decoder_core.specs.Inputs.{Item, Sample, counted_samples, items_of, left_items};
-ghost use Rattle.decoder_core.specs.Driving.{Steps, StopsFirst, Drives, Sleeps, SameState};
+ghost use Rattle.decoder_core.specs.Inputs.{Item, Sample, counted_samples, items_of, left_feed, left_items};
+ghost use Rattle.decoder_core.specs.Driving.{Passes, ReachesStop, Steps, StopsFirst, Drives, Sleeps, SameState};
 ghost use Rattle.decoder_core.specs.laws.CountedLaws.{nothing_counted, front_counted, few_counted};
 
 use crate::{LogicMachine, Machine, Outs};
@@ -32,13 +32,49 @@ impl<L: LogicMachine> Driver<L> {
         Driver { machine, waiter }
     }
 
-    // Consumes samples up to their first stop.
-    fn run(&mut self, run: Run, into: &mut Outs) -> Option<Feed>
+    // Consumes a run of which it is plain that it has no stop, and answers whether it did. Else nothing changes.
+    #[inline(always)]
+    fn pass(&mut self, run: Run) -> bool
+        ensures passes { result ≡ true → Passes (Drives L.stands L.alts self.old.machine self.old.waiter) (Drives L.stands L.alts self.new.machine self.new.waiter)
+            (λ input. L.outs (L.setup self.old.machine) (counted_samples input)) run }
+        ensures setup { L.setup self.new.machine ≡ L.setup self.old.machine }
+        ensures kept { result ≡ false → self.new ≡ self.old }
+    {
+        if run.len <= MOST_SAMPLES - self.waiter.consumed() && self.waiter.passes(run) {
+            self.waiter.pass(run);
+            return true;
+        }
+        false
+    }
+
+    // Consumes samples up to their first stop, and those behind it if it is plain that they have none. It isn't
+    // inlined, so that the loop over runs has its registers for those without a stop.
+    #[inline(never)]
+    fn look_on(&mut self, run: Run, into: &mut Outs) -> Option<Run>
         requires { into.old ≡ [] }
         ensures setup { L.setup self.new.machine ≡ L.setup self.old.machine }
         ensures step { Steps (Drives L.stands L.alts self.old.machine self.old.waiter) (Drives L.stands L.alts self.new.machine self.new.waiter)
-            (λ input. L.outs (L.setup self.old.machine) (counted_samples input)) (Feed.Run run) result into.new }
-        ensures stops { StopsFirst (Drives L.stands L.alts self.old.machine self.old.waiter) (Sleeps L.alts self.old.machine self.old.waiter) (Feed.Run run) result }
+            (λ input. L.outs (L.setup self.old.machine) (counted_samples input)) (Feed.Run run) (left_feed result) into.new }
+        ensures stops { ReachesStop (Drives L.stands L.alts self.old.machine self.old.waiter) (Sleeps L.alts self.old.machine self.old.waiter) (Feed.Run run) (left_feed result) }
+    {
+        match self.look(run, into) {
+            Some(rest) => {
+                if self.pass(rest) {
+                    return None;
+                }
+                Some(rest)
+            }
+            None => None,
+        }
+    }
+
+    // Consumes samples up to their first stop.
+    fn look(&mut self, run: Run, into: &mut Outs) -> Option<Run>
+        requires { into.old ≡ [] }
+        ensures setup { L.setup self.new.machine ≡ L.setup self.old.machine }
+        ensures step { Steps (Drives L.stands L.alts self.old.machine self.old.waiter) (Drives L.stands L.alts self.new.machine self.new.waiter)
+            (λ input. L.outs (L.setup self.old.machine) (counted_samples input)) (Feed.Run run) (left_feed result) into.new }
+        ensures stops { StopsFirst (Drives L.stands L.alts self.old.machine self.old.waiter) (Sleeps L.alts self.old.machine self.old.waiter) (Feed.Run run) (left_feed result) }
     {
         let before = self.waiter.consumed();
         if before >= MOST_SAMPLES {
@@ -64,7 +100,7 @@ fn wait_on<L: LogicMachine>(machine: &L, anew: bool, waiter: &mut Waiter)
     ensures alts { (anew ≡ false → alts_of waiter.old ≡ L.alts machine.now) → alts_of waiter.new ≡ L.alts machine.now }
 {
     if anew {
-        waiter.renew(machine.cond());
+        machine.wait(waiter);
     }
 }
 
@@ -81,16 +117,16 @@ fn part_of(run: Run, room: u64) -> Run
 }
 
 // The samples of a run behind its first `count`.
-fn behind(run: Run, count: u64) -> Option<Feed>
+fn behind(run: Run, count: u64) -> Option<Run>
     requires { count ≤ run.len }
-    ensures rest { left_items result ≡ replicate (run.len - count) (Sample run.value) }
-    ensures more { IfSome result (λ rest. 0 < length (items_of rest)) }
+    ensures rest { left_items (left_feed result) ≡ replicate (run.len - count) (Sample run.value) }
+    ensures more { IfSome (left_feed result) (λ rest. 0 < length (items_of rest)) }
 {
     if count < run.len {
-        Some(Feed::Run(Run {
+        Some(Run {
             value: run.value,
             len: run.len - count,
-        }))
+        })
     } else {
         None
     }
@@ -119,10 +155,20 @@ impl<L: LogicMachine> Machine for Driver<L> {
 
     fn step(&mut self, feed: Feed, into: &mut Outs) -> Option<Feed> {
         match feed {
-            Feed::Run(run) => self.run(run, into),
+            Feed::Run(run) => match self.look(run, into) {
+                Some(rest) => Some(Feed::Run(rest)),
+                None => None,
+            },
             Feed::Packet(_) => None,
             Feed::End => None,
         }
+    }
+
+    fn step_run(&mut self, run: Run, into: &mut Outs) -> Option<Run> {
+        if self.pass(run) {
+            return None;
+        }
+        self.look_on(run, into)
     }
 
     fn floor(&self) -> u64 {

@@ -4,13 +4,14 @@ ghost use Rattle.la_base.specs.declared.wires.Out.{Out};
 ghost use Rattle.la_base.specs.declared.wires.Wire.{Wire};
 ghost use Rattle.wait_cond.specs.declared.alt.Alt.{Alt};
 ghost use Rattle.wait_cond.specs.Conds.{cond_alts};
-ghost use Rattle.decoder_core.specs.Inputs.{Item};
+ghost use Rattle.wait_cond.specs.Waiting.{Waits, alts_of, wait_from, consumed_by};
+ghost use Rattle.decoder_core.specs.Inputs.{Item, left_feed};
 ghost use Rattle.decoder_core.specs.Promises.{IsFloor, GivesNothing, GivesOn, KeepsFront, PacketsInOrder, AddsFew, Rests, IsQuiet, IsLoud, StandsThere, OneMachine, OneLastStop};
-ghost use Rattle.decoder_core.specs.Driving.{Steps, StopsFirst};
+ghost use Rattle.decoder_core.specs.Driving.{ReachesStop, Steps, StopsFirst};
 
 use crate::Outs;
-use la_base::{Feed, Wire, Word};
-use wait_cond::Cond;
+use la_base::{Feed, Run, Wire, Word};
+use wait_cond::{Cond, Waiter};
 
 /// A decoder of samples, between two stops. It waits for a condition; what it does at a sample that
 /// meets it is all that it does. Every call is safe for every value of the type, also for one that
@@ -41,10 +42,17 @@ pub trait LogicMachine {
     fn cond(&self) -> Cond
         ensures { cond_alts result ≡ alts self.now };
 
+    /// Begins the wait for its next stop. The last sample that was consumed must be the last stop.
+    fn wait(&self, waiter: &mut Waiter)
+        requires { wait_from waiter.old ≡ consumed_by waiter.old }
+        ensures waits { (list : List ℕ) → Waits waiter.old list → Waits waiter.new list }
+        ensures from { wait_from waiter.new ≡ wait_from waiter.old }
+        ensures alts { alts_of waiter.new ≡ alts self.now };
+
     /// Takes the stop at sample number `at`, whose value is `value`; bit i of `met` says whether it
     /// meets alternative i. *Loud*: the outputs grow by those that are put into `into`, in their order,
-    /// and by nothing else. Answers whether it may wait for something else now; where it doesn't, `cond`
-    /// isn't asked again.
+    /// and by nothing else. Answers whether it may wait for something else now; where it doesn't, `wait`
+    /// isn't called.
     fn resume(&mut self, at: u64, value: Word, met: u8, into: &mut Outs) -> bool
         requires empty { into.old ≡ [] }
         requires early { at < 2 ^ 60 }
@@ -126,6 +134,14 @@ pub trait Machine {
         ensures setup { setup self.new ≡ setup self.old }
         ensures step { Steps (consumed self.old) (consumed self.new) (outputs (setup self.old)) feed result into.new }
         ensures stops { StopsFirst (consumed self.old) (sleeps self.old) feed result };
+
+    /// As `step`, for the feed of a run; but it may go on behind the first stop, as far as there is no
+    /// other. So mostly nothing is left.
+    fn step_run(&mut self, run: Run, into: &mut Outs) -> Option<Run>
+        requires { into.old ≡ [] }
+        ensures setup { setup self.new ≡ setup self.old }
+        ensures step { Steps (consumed self.old) (consumed self.new) (outputs (setup self.old)) (Feed.Run run) (left_feed result) into.new }
+        ensures stops { ReachesStop (consumed self.old) (sleeps self.old) (Feed.Run run) (left_feed result) };
 
     /// At most the start of every note that is still to come, and at least the start of what has begun
     /// and isn't given yet.

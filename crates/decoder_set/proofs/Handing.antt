@@ -3,7 +3,7 @@ use Rattle.std.proofs.Common.{◌≡◌, ◌≤◌, ℕ, List, ◌++◌, Option,
 use Rattle.la_base.specs.declared.wires.Feed.{Feed}
 use Rattle.la_base.specs.declared.wires.Out.{Out}
 use Rattle.wait_cond.specs.declared.alt.Alt.{Alt}
-use Rattle.decoder_core.specs.Driving.{Drives, Sleeps, Steps, StopsFirst}
+use Rattle.decoder_core.specs.Driving.{Drives, ReachesStop, Sleeps, Steps, StopsFirst}
 use Rattle.decoder_core.specs.Inputs.{Item, counted_samples}
 use Rattle.decoder_core.specs.Promises.{IsFloor}
 use Rattle.decoder_core.specs.declared.driver.Driver.{Driver}
@@ -66,4 +66,14 @@ module _ {L S : Type 0} (setup : Setup) (wrap : Driver L S → AnyMachine) (stan
         subst (λ (m : AnyMachine). SleepsBy m input earlier) (sym is) (asleep input earlier (stops.none input earlier last (own input has).1.drives front_is));
     stop = λ some input has rests.
         stops.stop some input (own input has).1.drives (sleeps input stops.front (subst (λ (m : AnyMachine). SleepsBy m input stops.front) is rests));
+  }
+
+  pub reaches_by : (feed : Feed) (left : Option Feed) → ((input more : List Item) → SleepsBy (wrap driver) input more → Sleeps alts driver.machine driver.waiter input more)
+      → ReachesStop (λ input. Drives stands alts driver.machine driver.waiter input) (λ input more. Sleeps alts driver.machine driver.waiter input more) feed left
+      → ReachesStop (λ input. Has setup machine input) (λ input more. SleepsBy machine input more) feed left
+  reaches_by feed left sleeps reaches = record {
+    front = reaches.front;
+    split = reaches.split;
+    stop = λ some input has rests.
+        reaches.stop some input (own input has).1.drives (sleeps input reaches.front (subst (λ (m : AnyMachine). SleepsBy m input reaches.front) is rests));
   }

@@ -1,7 +1,4 @@
 // A decoder of any kind as a machine.
-ghost use Rattle.std.specs.Prelude.{◌≡◌, []};
-ghost use Rattle.decoder_core.specs.Driving.{Drives, Sleeps, Steps, StopsFirst};
-ghost use Rattle.decoder_core.specs.Inputs.{counted_samples};
 ghost use Rattle.decoder_set.specs.Setups.{outs_of, near_of};
 ghost use Rattle.decoder_set.specs.Opening.{HasConsumed, IsAsleep, opened_by, setup_of};
 ghost use Rattle.decoder_set.specs.Kinds.{kind_row};
@@ -9,21 +6,8 @@ ghost use Rattle.decoder_set.specs.laws.KindLaws.{nothing_of, prefix_of, order_o
 
 use crate::any::AnyMachine;
 use crate::{AnyDecoder, Setup, input_of};
-use decoder_core::{Driver, LogicMachine, Machine, Outs};
-use la_base::{Feed, Wire};
-
-// A step of a driver whose code stands apart: three of them in one loop would each take the other's
-// registers. The driver of the commonest kind stands in the loop.
-#[inline(never)]
-fn step_apart<L: LogicMachine>(driver: &mut Driver<L>, feed: Feed, into: &mut Outs) -> Option<Feed>
-    requires { into.old ≡ [] }
-    ensures setup { L.setup driver.new.machine ≡ L.setup driver.old.machine }
-    ensures step { Steps (Drives L.stands L.alts driver.old.machine driver.old.waiter) (Drives L.stands L.alts driver.new.machine driver.new.waiter)
-        (λ input. L.outs (L.setup driver.old.machine) (counted_samples input)) feed result into.new }
-    ensures stops { StopsFirst (Drives L.stands L.alts driver.old.machine driver.old.waiter) (Sleeps L.alts driver.old.machine driver.old.waiter) feed result }
-{
-    driver.step(feed, into)
-}
+use decoder_core::{Machine, Outs};
+use la_base::{Feed, Run, Wire};
 
 impl Machine for AnyDecoder {
     type Setup = Setup;
@@ -49,8 +33,16 @@ impl Machine for AnyDecoder {
     fn step(&mut self, feed: Feed, into: &mut Outs) -> Option<Feed> {
         match &mut self.machine {
             AnyMachine::I2c(driver) => driver.step(feed, into),
-            AnyMachine::Spi(driver) => step_apart(driver, feed, into),
-            AnyMachine::Uart(driver) => step_apart(driver, feed, into),
+            AnyMachine::Spi(driver) => driver.step(feed, into),
+            AnyMachine::Uart(driver) => driver.step(feed, into),
+        }
+    }
+
+    fn step_run(&mut self, run: Run, into: &mut Outs) -> Option<Run> {
+        match &mut self.machine {
+            AnyMachine::I2c(driver) => driver.step_run(run, into),
+            AnyMachine::Spi(driver) => driver.step_run(run, into),
+            AnyMachine::Uart(driver) => driver.step_run(run, into),
         }
     }
 

@@ -91,7 +91,7 @@ pub fn decode<S: Source, K: Sink, M: Machine + Drop>(
     let mut entries = Vec::new(alloc);
     match collect(stack, capture, &mut machines, source, &mut entries) {
         ListingEnd::NoMemory => ListingEnd::NoMemory,
-        end => match sort_entries(&mut entries) {
+        end => match sort_entries(alloc, &mut entries) {
             Ok(()) => match write_listing(stack, &entries, sink) {
                 Ok(()) => end,
                 Err(Failed) => ListingEnd::Write,

@@ -9,7 +9,7 @@ ghost use Rattle.ldecode.specs.Decoding.{notes_of, where_shown};
 ghost use Rattle.ldecode.specs.Feeding.{Fed};
 
 use decoder_core::{Machine, Outs};
-use la_base::{Feed, NoMemory, Out, Run};
+use la_base::{NoMemory, Out, Run};
 use note_order::Entry;
 use stack_spec::Stack;
 
@@ -55,10 +55,10 @@ pub fn feed<M: Machine>(
     ensures setup { M.setup machine.new ≡ M.setup machine.old }
     ensures fed { OnOk result (Fed (M.consumed machine.old) (M.consumed machine.new) (M.outputs (M.setup machine.old)) instance (is_shown (stack_meaning stack.now).shown instance) (map Sample (samples run)) entries.old.items entries.new.items) }
 {
-    let mut rest = Some(Feed::Run(run));
-    while let Some(feed) = rest {
+    let mut rest = Some(run);
+    while let Some(run) = rest {
         outs.clear();
-        rest = machine.step(feed, outs);
+        rest = machine.step_run(run, outs);
         gather(outs.list(), stack, instance, entries)?;
     }
     Ok(())

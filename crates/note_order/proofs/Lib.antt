@@ -1,2 +1,3 @@
 pub mod SortLemmas
 pub mod Entries
+mod Groups

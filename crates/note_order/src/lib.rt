@@ -3,6 +3,7 @@
 #![tactic(auto)]
 
 mod entry;
+mod group;
 mod laws;
 mod sort;
 #[cfg(test)]

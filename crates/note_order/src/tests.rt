@@ -22,7 +22,7 @@ fn entry(instance: u32, start: u64, class: u16) -> Entry {
 #[test]
 fn entries_stand_by_start_then_instance_then_as_given(rt: HostRuntime) -> Result<(), Fail> {
     let alloc = rt.alloc();
-    let cases: [(&[Entry], &[u16]); 5] = [
+    let cases: [(&[Entry], &[u16]); 6] = [
         (&[], &[]),
         (&[entry(0, 7, 1)], &[1]),
         // later starts behind earlier ones
@@ -40,6 +40,11 @@ fn entries_stand_by_start_then_instance_then_as_given(rt: HostRuntime) -> Result
             ],
             &[4, 2, 3, 1],
         ),
+        // also of more instances than are grouped
+        (
+            &[entry(70, 4, 1), entry(0, 9, 2), entry(0, 4, 3), entry(70, 2, 4)],
+            &[4, 3, 1, 2],
+        ),
         // one instance keeps its order where starts are alike
         (
             &[
@@ -55,7 +60,7 @@ fn entries_stand_by_start_then_instance_then_as_given(rt: HostRuntime) -> Result
     ];
     for (given, classes) in cases {
         let mut entries = given.to_vec(alloc)?;
-        assert!(rt; sort_entries(&mut entries).is_ok());
+        assert!(rt; sort_entries(alloc, &mut entries).is_ok());
         let mut sorted = Vec::new(alloc);
         for entry in &entries {
             sorted.push(entry.note.class)?;

@@ -10,7 +10,7 @@ ghost use Rattle.sample_walks.specs.laws.EdgeLaws.{edges_quiet, edges_nothing, e
 
 use decoder_core::{LogicMachine, Outs, note_at};
 use la_base::{Word, pin};
-use wait_cond::{Alt, Cond};
+use wait_cond::{Alt, Cond, Waiter};
 
 /// Gives a note for each edge of line 0: class 0, the place of the edge as start and end, and the
 /// level behind it as `a`. It shows what a decoder of samples has to prove.
@@ -58,6 +58,10 @@ impl LogicMachine for Edges {
             steady: 0,
             skip: 0,
         })
+    }
+
+    fn wait(&self, waiter: &mut Waiter) {
+        waiter.renew(self.cond());
     }
 
     fn resume(&mut self, at: u64, value: Word, _met: u8, into: &mut Outs) -> bool {

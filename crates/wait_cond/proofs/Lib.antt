@@ -1,5 +1,6 @@
 pub mod Masks
 pub mod Sets
+mod Passing
 pub mod Runs
 pub mod StandingLemmas
 pub mod ChainLemmas

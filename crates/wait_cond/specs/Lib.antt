@@ -5,6 +5,7 @@ pub mod StopLaws
 pub mod Standing
 pub mod Waiting
 pub mod Watching
+pub mod Plain
 pub mod Words
 pub mod Grammar
 pub mod Binding

@@ -1,5 +1,5 @@
 // Conditions.
-ghost use Rattle.std.specs.Prelude.{◌≡◌, ◌≢◌, ◌<◌, ◌≤◌, ◌∷◌, ◌++◌, [], length, Option, bit_or, true};
+ghost use Rattle.std.specs.Prelude.{◌≡◌, ◌≢◌, ◌<◌, ◌≤◌, ◌∷◌, ◌++◌, [], length, Option, Some, bit_or, nat_lt, true};
 ghost use Rattle.wait_cond.specs.Watching.{edge_lines, high_lines, Watches, AskHigh, NeverMet, SkipAtLeast, SkipMore};
 
 use crate::Alt;
@@ -23,6 +23,7 @@ pub struct Cond {
 }
 
 impl Cond {
+    ghost use Rattle.wait_cond.specs.Plain.{is_still};
     ghost use Rattle.wait_cond.specs.Conds.{cond_alts};
 
     /// The condition of one alternative.
@@ -40,6 +41,17 @@ impl Cond {
             high,
             skip,
         }
+    }
+
+    /// This alternative alone, in place of those that there were.
+    pub fn set_one(&mut self, alt: Alt)
+        ensures { cond_alts self.new ≡ alt ∷ [] }
+    {
+        self.watched = edge_lines(&alt);
+        self.high = high_lines(&alt);
+        self.skip = alt.skip;
+        self.alts.truncate(1);
+        self.alts[0] = alt;
     }
 
     /// Adds an alternative behind the others.
@@ -76,16 +88,19 @@ impl Cond {
     /// Whether each alternative skips more than so many samples behind the last stop.
     #[inline]
     pub fn skips_more(&self, samples: u64) -> bool
-        ensures { result ≡ true → SkipMore samples (cond_alts self.now) }
+        ensures exact { result ≡ nat_lt samples self.now.skip }
+        ensures skips { result ≡ true → SkipMore samples (cond_alts self.now) }
     {
         samples < self.skip
     }
 
     /// Whether it is plain that no alternative is met: each asks one line to be high, and it is low;
-    /// or each asks an edge, and none of those lines changes.
+    /// or each asks an edge, and none of those lines changes. Nor is any met while the value stands.
     #[inline]
     pub fn is_still(&self, before: Option<Word>, now: Word) -> bool
-        ensures { result ≡ true → NeverMet (cond_alts self.now) before now }
+        ensures exact { result ≡ is_still self.now before now }
+        ensures now { result ≡ true → NeverMet (cond_alts self.now) before now }
+        ensures stands { result ≡ true → NeverMet (cond_alts self.now) (Some now) now }
     {
         if self.high & now != self.high {
             return true;

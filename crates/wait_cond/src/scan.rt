@@ -1,7 +1,7 @@
 // The wait itself.
 ghost use Rattle.std.specs.Prelude.{◌≡◌, ◌≤◌, ◌^◌, length};
 
-use crate::Cond;
+use crate::{Alt, Cond};
 use crate::behind::behind;
 use crate::met::met_set;
 use crate::standing::first_standing;
@@ -32,12 +32,13 @@ pub enum Scan {
 }
 
 impl Waiter {
-    ghost use Rattle.std.specs.Prelude.{◌≡◌, ◌≢◌, ◌+◌, ◌≤◌, ◌<◌, ◌^◌, ◌++◌, ◌==◌, if◌then◌else◌, [], List, ℕ, length, Some, IfSome};
+    ghost use Rattle.std.specs.Prelude.{◌≡◌, ◌≢◌, ◌+◌, ◌≤◌, ◌<◌, ◌^◌, ◌++◌, ◌==◌, if◌then◌else◌, [], ◌∷◌, List, ℕ, length, Some, IfSome, true};
     ghost use Rattle.la_base.specs.Samples.{samples};
     ghost use Rattle.wait_cond.specs.Conds.{cond_alts};
     ghost use Rattle.wait_cond.specs.Standing.{FirstStanding};
-    ghost use Rattle.wait_cond.specs.Stops.{MetSet};
-    ghost use Rattle.wait_cond.specs.Waiting.{Waits, Scanned, Counts, Found, alts_of, wait_from, consumed_by, last_of};
+    ghost use Rattle.wait_cond.specs.Plain.{is_plain};
+    ghost use Rattle.wait_cond.specs.Stops.{MetSet, NoneMet};
+    ghost use Rattle.wait_cond.specs.Waiting.{Waits, Scanned, Counts, ThroughCounts, Found, alts_of, wait_from, consumed_by, last_of};
 
     /// A waiter that has consumed no sample yet.
     pub fn new(cond: Cond) -> Waiter
@@ -51,6 +52,18 @@ impl Waiter {
             from: 0,
             last: 0,
         }
+    }
+
+    /// Sets the condition of the next wait to one alternative, as `renew` does; it makes no condition anew.
+    pub fn renew_one(&mut self, alt: Alt)
+        requires { wait_from self.old ≡ consumed_by self.old }
+        ensures waits { (list : List ℕ) → Waits self.old list → Waits self.new list }
+        ensures alts { alts_of self.new ≡ alt ∷ [] }
+        ensures from { wait_from self.new ≡ wait_from self.old }
+        ensures consumed { consumed_by self.new ≡ consumed_by self.old }
+        ensures last { last_of self.new ≡ last_of self.old }
+    {
+        self.cond.set_one(alt);
     }
 
     /// Sets the condition of the next wait; without it the same condition is waited for again. The
@@ -86,8 +99,35 @@ impl Waiter {
         }
     }
 
-    // The alternatives that the next sample meets, where it has this value.
+    /// Whether it is plain that no sample of a run meets the condition, without a look at each
+    /// alternative: each skips more samples than there are up to the end of the run, or each asks one line
+    /// to be high that is low, or each asks an edge and none of these lines changes.
     #[inline]
+    pub fn passes(&self, run: Run) -> bool
+        requires { consumed_by self.now + run.len ≤ 2 ^ 60 }
+        ensures plain { result ≡ is_plain self.now run }
+        ensures none { result ≡ true → (list : List ℕ) → Waits self.now list → NoneMet (list ++ samples run) (alts_of self.now) (wait_from self.now) (length list + run.len) }
+    {
+        if self.cond.skips_more(self.consumed + run.len - self.from) {
+            return true;
+        }
+        self.cond.is_still(self.before(), run.value)
+    }
+
+    /// Consumes a run no sample of which meets the condition.
+    #[inline]
+    pub fn pass(&mut self, run: Run)
+        requires { consumed_by self.old + run.len ≤ 2 ^ 60 }
+        ensures waits { (list : List ℕ) → Waits self.old list → NoneMet (list ++ samples run) (alts_of self.old) (wait_from self.old) (length list + run.len) → Waits self.new (list ++ samples run) }
+        ensures counts { ThroughCounts self.old self.new run }
+        ensures alts { alts_of self.new ≡ alts_of self.old }
+    {
+        self.consumed += run.len;
+        self.last = run.value;
+    }
+
+    // The alternatives that the next sample meets, where it has this value.
+    #[inline(always)]
     fn met_next(&self, value: Word) -> u8
         requires { self.now.consumed < 2 ^ 60 }
         ensures { MetSet self.now.cond.alts.items (if self.now.consumed == 0 then None else Some self.now.last) value self.now.from self.now.consumed result }
@@ -126,15 +166,12 @@ impl Waiter {
     }
 
     // The first sample of a run that meets the condition, and the alternatives that it meets.
-    #[inline]
+    #[inline(always)]
     fn find(&self, run: Run) -> Option<(u64, u8)>
         requires { self.now.consumed + run.len ≤ 2 ^ 60 }
         ensures found { (list : List ℕ) → Waits self.now list → Found self.now.cond.alts.items self.now.from (list ++ samples run) (length list) run.len result }
         ensures within { IfSome result (λ x. (x.0 < run.len) × (x.1 ≢ 0)) }
     {
-        if self.cond.skips_more(self.consumed + run.len - self.from) {
-            return None;
-        }
         let met = self.met_next(run.value);
         if met != 0 {
             return Some((0, met));
@@ -156,7 +193,8 @@ impl Waiter {
     /// last stop. `Met` has its place among all samples, its value, the set of all alternatives that
     /// it meets (bit i is alternative i) and the samples of the run behind it. `Through` comes exactly
     /// where there is none; the whole run is consumed then. All samples together are at most 2^60.
-    #[inline]
+    // Inlined, since of its answer callers look at some parts alone.
+    #[inline(always)]
     pub fn scan(&mut self, run: Run) -> Scan
         requires { consumed_by self.old + run.len ≤ 2 ^ 60 }
         ensures scanned { (list : List ℕ) → Waits self.old list → Scanned self.old self.new (list ++ samples run) result }

@@ -1,10 +1,10 @@
 use Rattle.std.proofs.Common.{◌≡◌, List, Option, refl, ◌∙◌, ap, subst, map, sym}
 use Rattle.la_base.specs.Samples.{samples}
-use Rattle.la_base.specs.declared.wires.Feed.{Feed}
+use Rattle.la_base.specs.declared.samples.Run.{Run}
 use Rattle.la_base.specs.declared.wires.Out.{Out}
 use Rattle.la_base.specs.declared.wires.Feed.TheVariants.{Run as RunFeed}
 use Rattle.decoder_core.specs.Driving.{Steps}
-use Rattle.decoder_core.specs.Inputs.{Item, Sample}
+use Rattle.decoder_core.specs.Inputs.{Item, Sample, left_feed}
 use Rattle.decoder_core.proofs.Counting.{run_has_items}
 use Rattle.stack_spec.specs.Accepting.{is_shown}
 use Rattle.stack_spec.specs.Stacks.{stack_meaning}
@@ -27,10 +27,10 @@ loop-rest-preserved g c =
     let so_far = c.loop-rest.invariant.feeding in
     record {
       feeding = feeding_on (machine.consumed c.args.machine.now) (machine.outputs (machine.setup c.args.machine.now)) c.args.instance (is_shown (stack_meaning c.args.stack.now).shown c.args.instance) (map Sample (samples c.args.run)) c.args.entries.now.items
-          (machine.consumed c.loop-rest.machine) (machine.consumed c.step-rest.new.self) c.in-Some.feed c.step-rest.result c.list.result.now c.loop-rest.entries.items c.gather.new.entries.items
-          (subst (λ (rest : Option Feed). Feeding (machine.consumed c.args.machine.now) (machine.consumed c.loop-rest.machine) outputs c.args.instance (is_shown (stack_meaning c.args.stack.now).shown c.args.instance) (map Sample (samples c.args.run)) rest c.args.entries.now.items c.loop-rest.entries.items) c.in-Some.is so_far)
-          (subst (λ (out : List Out). Steps (machine.consumed c.loop-rest.machine) (machine.consumed c.step-rest.new.self) outputs c.in-Some.feed c.step-rest.result out) (sym c.list.ensures.list)
-          (subst (λ (f : List Item → List Out). Steps (machine.consumed c.loop-rest.machine) (machine.consumed c.step-rest.new.self) f c.in-Some.feed c.step-rest.result c.step-rest.new.into) same c.step-rest.ensures.step))
+          (machine.consumed c.loop-rest.machine) (machine.consumed c.step_run-rest.new.self) (RunFeed c.in-Some.run') (left_feed c.step_run-rest.result) c.list.result.now c.loop-rest.entries.items c.gather.new.entries.items
+          (subst (λ (rest : Option Run). Feeding (machine.consumed c.args.machine.now) (machine.consumed c.loop-rest.machine) outputs c.args.instance (is_shown (stack_meaning c.args.stack.now).shown c.args.instance) (map Sample (samples c.args.run)) (left_feed rest) c.args.entries.now.items c.loop-rest.entries.items) c.in-Some.is so_far)
+          (subst (λ (out : List Out). Steps (machine.consumed c.loop-rest.machine) (machine.consumed c.step_run-rest.new.self) outputs (RunFeed c.in-Some.run') (left_feed c.step_run-rest.result) out) (sym c.list.ensures.list)
+          (subst (λ (f : List Item → List Out). Steps (machine.consumed c.loop-rest.machine) (machine.consumed c.step_run-rest.new.self) f (RunFeed c.in-Some.run') (left_feed c.step_run-rest.result) c.step_run-rest.new.into) same c.step_run-rest.ensures.step))
           c.in_ok-gather.ensures;
-      setup = c.step-rest.ensures.setup ∙ c.loop-rest.invariant.setup;
+      setup = c.step_run-rest.ensures.setup ∙ c.loop-rest.invariant.setup;
     }

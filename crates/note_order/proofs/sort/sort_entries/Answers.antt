@@ -1,14 +1,7 @@
-use Rattle.std.proofs.Common.{ℕ, rules}
-use Rattle.std.proofs.lemmas.List.Sorted.{answers_always}
-use Rattle.note_order.specs.Order.{is_before}
-use Rattle.note_order.specs.declared.entry.Entry.{Entry}
-use Rattle.note_order.proofs.Entries.{entries_rank}
-use Rattle.note_order.proofs.SortLemmas.{sorted_is_one}
+use Rattle.std.proofs.Common.{◌∙◌, ap}
+use Rattle.note_order.specs.Order.{in_order}
+use Rattle.note_order.proofs.Entries.{instances_make_listing}
 use Rattle.note_order.proofs.sort.sort_entries.Goals as goal
 
-pub returns-in-Ok-clause-sorted : goal.returns-in-Ok-clause-sorted
-returns-in-Ok-clause-sorted c =
-    let key : Entry → ℕ × ℕ = λ e. (e.note.start, e.instance) in
-    sorted_is_one is_before entries_rank c.args.entries.now.items c.sort_by_key.new.self.items
-    (c.in-Ok.ensures.sorted key (answers_always _ _ _ (λ f a r g q. search rules)))
-    (c.in-Ok.ensures.stable key (answers_always _ _ _ (λ f a r g q. search rules)))
+pub returns-clause-sorted : goal.returns-clause-sorted
+returns-clause-sorted c = c.in_ok-sort.ensures.sorted ∙ instances_make_listing _ _ c.in_ok-grouped.ensures ∙ ap in_order c.deref-2.ensures.value

@@ -34,25 +34,25 @@ returns-in-Spi-clause-step c =
     let s = c.args.self.now.setup in
     let driver = c.in-Spi.driver in
     steps_by s machine.Spi spi.StandsFor spi.alts_of (IsSpi (spi_options s.values.given)) (λ driver input has. has) c.args.self.now.machine driver (search rules)
-    (spi_outs (spi.opts_of driver.machine)) (spi_outs_are s driver.machine) c.step_apart.new.driver c.args.feed c.step_apart.result c.step_apart.new.into
-    (λ input is own drives. (is, record { own = (subst (λ (o : SpiOpts). o ≡ spi_options s.values.given) (sym c.step_apart.ensures.setup) own); drives = drives })) c.step_apart.ensures.step
+    (spi_outs (spi.opts_of driver.machine)) (spi_outs_are s driver.machine) c.step-in-Spi.new.self c.args.feed c.step-in-Spi.result c.step-in-Spi.new.into
+    (λ input is own drives. (is, record { own = (subst (λ (o : SpiOpts). o ≡ spi_options s.values.given) (sym c.step-in-Spi.ensures.setup) own); drives = drives })) c.step-in-Spi.ensures.step
 
 pub returns-in-Spi-clause-stops : goal.returns-in-Spi-clause-stops
 returns-in-Spi-clause-stops c =
     let s = c.args.self.now.setup in
-    stops_by s machine.Spi spi.StandsFor spi.alts_of (IsSpi (spi_options s.values.given)) (λ driver input has. has) c.args.self.now.machine c.in-Spi.driver (search rules) c.args.feed c.step_apart.result
-    (λ input more rests. rests) (λ input more rests. rests) c.step_apart.ensures.stops
+    stops_by s machine.Spi spi.StandsFor spi.alts_of (IsSpi (spi_options s.values.given)) (λ driver input has. has) c.args.self.now.machine c.in-Spi.driver (search rules) c.args.feed c.step-in-Spi.result
+    (λ input more rests. rests) (λ input more rests. rests) c.step-in-Spi.ensures.stops
 
 pub returns-in-Uart-clause-step : goal.returns-in-Uart-clause-step
 returns-in-Uart-clause-step c =
     let s = c.args.self.now.setup in
     let driver = c.in-Uart.driver in
     steps_by s machine.Uart uart.StandsFor uart.alts_of (IsUart (uart_options s.values.given) s.rate) (λ driver input has. has) c.args.self.now.machine driver (search rules)
-    (uart_outs (uart.line_of driver.machine).opts (uart.line_of driver.machine).rate) (uart_outs_are s driver.machine) c.step_apart-in-Uart.new.driver c.args.feed c.step_apart-in-Uart.result c.step_apart-in-Uart.new.into
-    (λ input is own drives. (is, record { own = (subst (λ (l : Line). (l.opts ≡ uart_options s.values.given) × (l.rate ≡ s.rate)) (sym c.step_apart-in-Uart.ensures.setup) own); drives = drives })) c.step_apart-in-Uart.ensures.step
+    (uart_outs (uart.line_of driver.machine).opts (uart.line_of driver.machine).rate) (uart_outs_are s driver.machine) c.step-in-Uart.new.self c.args.feed c.step-in-Uart.result c.step-in-Uart.new.into
+    (λ input is own drives. (is, record { own = (subst (λ (l : Line). (l.opts ≡ uart_options s.values.given) × (l.rate ≡ s.rate)) (sym c.step-in-Uart.ensures.setup) own); drives = drives })) c.step-in-Uart.ensures.step
 
 pub returns-in-Uart-clause-stops : goal.returns-in-Uart-clause-stops
 returns-in-Uart-clause-stops c =
     let s = c.args.self.now.setup in
-    stops_by s machine.Uart uart.StandsFor uart.alts_of (IsUart (uart_options s.values.given) s.rate) (λ driver input has. has) c.args.self.now.machine c.in-Uart.driver (search rules) c.args.feed c.step_apart-in-Uart.result
-    (λ input more rests. rests) (λ input more rests. rests) c.step_apart-in-Uart.ensures.stops
+    stops_by s machine.Uart uart.StandsFor uart.alts_of (IsUart (uart_options s.values.given) s.rate) (λ driver input has. has) c.args.self.now.machine c.in-Uart.driver (search rules) c.args.feed c.step-in-Uart.result
+    (λ input more rests. rests) (λ input more rests. rests) c.step-in-Uart.ensures.stops

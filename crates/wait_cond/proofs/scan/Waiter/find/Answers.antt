@@ -5,34 +5,11 @@ use Rattle.wait_cond.specs.Standing.{FirstStanding}
 use Rattle.wait_cond.specs.Stops.{MetIn, MetSet, NoneMet}
 use Rattle.wait_cond.specs.Waiting.{WaitsAt}
 use Rattle.wait_cond.specs.declared.alt.Alt.{Alt}
-use Rattle.wait_cond.proofs.ChainLemmas.{none_in_longer}
-use Rattle.wait_cond.proofs.Runs.{samples_are, waits_before, met_at, none_next, none_standing, none_skipped, standing_at}
+use Rattle.wait_cond.proofs.Passing.{here, none_so_far, first_passed}
+use Rattle.wait_cond.proofs.Runs.{samples_are, waits_before, met_at, none_standing, standing_at}
 use Rattle.wait_cond.proofs.StandingLemmas.{some_standing}
 use Rattle.wait_cond.proofs.WatchLemmas.{never_standing}
 use Rattle.wait_cond.proofs.scan.Waiter.find.Goals as goal
-
-module _ (list : List ℕ) (run : Run) (alts : List Alt) (consumed from last : ℕ) (w : WaitsAt alts consumed from last list) where
-  here : consumed ≡ length list + 0
-  here = omega (arith, w.count)
-
-  none_so_far : NoneMet (list ++ samples run) alts from (length list + 0)
-  none_so_far = none_in_longer list (samples run) alts from (length list + 0) (omega arith) (subst (λ (n : ℕ). NoneMet list alts from n) here w.none)
-
-  -- none is met at the first sample of the run
-  first_passed : (met : ℕ) → met ≡ 0 → MetSet alts (if consumed == 0 then None else Some last) run.value from consumed met → NoneMet (list ++ samples run) alts from (length list + 1)
-  first_passed met none set =
-      let before : Option ℕ = if consumed == 0 then None else Some last in
-      let at_first = waits_before list (samples run) run.value run.len (samples_are run) alts consumed from last 0 w run.not_empty in
-      none_next list (samples run) run.value run.len (samples_are run) alts from 0
-      (met_at list (samples run) run.value run.len (samples_are run) alts from 0 before 0 run.not_empty at_first
-      (subst (λ (n : ℕ). MetSet alts before run.value from n 0) here (subst (λ (m : ℕ). MetSet alts before run.value from consumed m) none set))) none_so_far
-
--- each alternative skips more samples than lie between the last stop and the end of the run
-pub returns-then-skips_more-clause-found : goal.returns-then-skips_more-clause-found
-returns-then-skips_more-clause-found c = λ list w.
-    let s = c.args.self.now in
-    let run = c.args.run in
-    none_skipped list (samples run) run.value run.len (samples_are run) s.cond.alts.items s.from (length list + run.len) (s.consumed + run.len - s.from) (c.if-skips_more.ensures refl) (omega (arith, w.count))
 
 pub returns-then-met-ne0-clause-found : goal.returns-then-met-ne0-clause-found
 returns-then-met-ne0-clause-found c = λ list w.
@@ -64,7 +41,7 @@ returns-then-is_still-clause-found c = λ list w.
     let alts = s.cond.alts.items in
     none_standing list (samples run) run.value run.len (samples_are run) alts s.from (length list + run.len)
     (first_passed list run alts s.consumed s.from s.last w c.met_next-met.result c.if-met-ne0.false c.met_next-met.ensures)
-    (never_standing alts run.value s.from (length list + 1) (length list + run.len) (omega (arith, run.not_empty)) (c.if-is_still.ensures refl))
+    (never_standing alts run.value s.from (length list + 1) (length list + run.len) (omega (arith, run.not_empty)) (c.if-is_still.ensures.now refl))
 
 -- the first place at which an alternative is met while the value stands, and none before it
 module _ (list : List ℕ) (run : Run) (alts : List Alt) (consumed from last at : ℕ) (w : WaitsAt alts consumed from last list) (met : ℕ) (none : met ≡ 0)

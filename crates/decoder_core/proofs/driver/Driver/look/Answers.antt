@@ -1,4 +1,4 @@
-use Rattle.std.proofs.Common.{min, refl, slice_index, ◌≡◌, ◌∙◌, ◌++◌, ◌+◌, ◌-◌, ◌^◌, ◌≤◌, [], sym, ap, subst, arith, List, ℕ, take, drop, map, length, replicate}
+use Rattle.std.proofs.Common.{refl, [], min, slice_index, ◌≡◌, ◌∙◌, ◌++◌, ◌+◌, ◌-◌, ◌^◌, ◌≤◌, sym, ap, subst, arith, List, ℕ, take, drop, map, length, replicate}
 use Rattle.std.proofs.lemmas.List.{append-nil, length-map, length-replicate, take-take}
 use Rattle.la_base.specs.declared.wires.Out.{Out}
 use Rattle.la_base.specs.Samples.{samples}
@@ -8,7 +8,7 @@ use Rattle.decoder_core.specs.Driving.{Drives}
 use Rattle.decoder_core.specs.Promises.{StopsIn}
 use Rattle.decoder_core.proofs.Counting.{parts_of_run}
 use Rattle.decoder_core.proofs.Driven.{through, passed_over, before_stop, awake, outs_now, part_counts, seen_parts, stop_seen, counted_front, list_len, spent}
-use Rattle.decoder_core.proofs.driver.Driver.run.Goals as goal
+use Rattle.decoder_core.proofs.driver.Driver.look.Goals as goal
 
 -- no sample counts any more
 pub returns-then-before-ge-MOST_SAMPLES-clause-step : goal.returns-then-before-ge-MOST_SAMPLES-clause-step

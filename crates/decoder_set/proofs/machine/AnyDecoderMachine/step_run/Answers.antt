@@ -1,0 +1,60 @@
+use Rattle.std.proofs.Common.{◌≡◌, sym, subst, rules}
+use Rattle.la_base.specs.declared.wires.Feed.TheVariants.{Run as RunFeed}
+use Rattle.decoder_core.specs.Inputs.{left_feed}
+use Rattle.dec_i2c.specs.Opening as i2c
+use Rattle.dec_i2c.specs.Bus.{i2c_outs}
+use Rattle.dec_i2c.specs.declared.held.Bus.{Bus}
+use Rattle.dec_spi.specs.Opening as spi
+use Rattle.dec_spi.specs.Bus.{spi_outs}
+use Rattle.dec_spi.specs.declared.options.SpiOpts.{SpiOpts}
+use Rattle.dec_uart.specs.Opening as uart
+use Rattle.dec_uart.specs.Frames.{uart_outs}
+use Rattle.dec_uart.specs.declared.held.Line.{Line}
+use Rattle.decoder_set.specs.declared.any.AnyMachine.TheVariants as machine
+use Rattle.decoder_set.specs.Opening.{IsI2c, IsSpi, IsUart, i2c_alts_of}
+use Rattle.decoder_set.specs.Options.{i2c_options, spi_options, uart_options}
+use Rattle.decoder_set.proofs.Handing.{steps_by, reaches_by}
+use Rattle.decoder_set.proofs.KindLemmas.{i2c_outs_are, spi_outs_are, uart_outs_are}
+use Rattle.decoder_set.proofs.machine.AnyDecoderMachine.step_run.Goals as goal
+
+pub returns-in-I2c-clause-step : goal.returns-in-I2c-clause-step
+returns-in-I2c-clause-step c =
+    let s = c.args.self.now.setup in
+    let driver = c.in-I2c.driver in
+    steps_by s machine.I2c i2c.StandsFor i2c_alts_of (IsI2c (i2c_options s.values.given)) (λ driver input has. has) c.args.self.now.machine driver (search rules)
+    (λ list. i2c_outs (i2c.bus_of driver.machine).scl (i2c.bus_of driver.machine).sda list) (i2c_outs_are s driver.machine) c.step_run.new.self (RunFeed c.args.run) (left_feed c.step_run.result) c.step_run.new.into
+    (λ input is own drives. (is, record { own = (subst (λ (b : Bus). (b.scl ≡ (i2c_options s.values.given).scl) × (b.sda ≡ (i2c_options s.values.given).sda)) (sym c.step_run.ensures.setup) own); drives = drives })) c.step_run.ensures.step
+
+pub returns-in-I2c-clause-stops : goal.returns-in-I2c-clause-stops
+returns-in-I2c-clause-stops c =
+    let s = c.args.self.now.setup in
+    reaches_by s machine.I2c i2c.StandsFor i2c_alts_of (IsI2c (i2c_options s.values.given)) (λ driver input has. has) c.args.self.now.machine c.in-I2c.driver (search rules) (RunFeed c.args.run) (left_feed c.step_run.result)
+    (λ input more rests. rests) c.step_run.ensures.stops
+
+pub returns-in-Spi-clause-step : goal.returns-in-Spi-clause-step
+returns-in-Spi-clause-step c =
+    let s = c.args.self.now.setup in
+    let driver = c.in-Spi.driver in
+    steps_by s machine.Spi spi.StandsFor spi.alts_of (IsSpi (spi_options s.values.given)) (λ driver input has. has) c.args.self.now.machine driver (search rules)
+    (spi_outs (spi.opts_of driver.machine)) (spi_outs_are s driver.machine) c.step_run-in-Spi.new.self (RunFeed c.args.run) (left_feed c.step_run-in-Spi.result) c.step_run-in-Spi.new.into
+    (λ input is own drives. (is, record { own = (subst (λ (o : SpiOpts). o ≡ spi_options s.values.given) (sym c.step_run-in-Spi.ensures.setup) own); drives = drives })) c.step_run-in-Spi.ensures.step
+
+pub returns-in-Spi-clause-stops : goal.returns-in-Spi-clause-stops
+returns-in-Spi-clause-stops c =
+    let s = c.args.self.now.setup in
+    reaches_by s machine.Spi spi.StandsFor spi.alts_of (IsSpi (spi_options s.values.given)) (λ driver input has. has) c.args.self.now.machine c.in-Spi.driver (search rules) (RunFeed c.args.run) (left_feed c.step_run-in-Spi.result)
+    (λ input more rests. rests) c.step_run-in-Spi.ensures.stops
+
+pub returns-in-Uart-clause-step : goal.returns-in-Uart-clause-step
+returns-in-Uart-clause-step c =
+    let s = c.args.self.now.setup in
+    let driver = c.in-Uart.driver in
+    steps_by s machine.Uart uart.StandsFor uart.alts_of (IsUart (uart_options s.values.given) s.rate) (λ driver input has. has) c.args.self.now.machine driver (search rules)
+    (uart_outs (uart.line_of driver.machine).opts (uart.line_of driver.machine).rate) (uart_outs_are s driver.machine) c.step_run-in-Uart.new.self (RunFeed c.args.run) (left_feed c.step_run-in-Uart.result) c.step_run-in-Uart.new.into
+    (λ input is own drives. (is, record { own = (subst (λ (l : Line). (l.opts ≡ uart_options s.values.given) × (l.rate ≡ s.rate)) (sym c.step_run-in-Uart.ensures.setup) own); drives = drives })) c.step_run-in-Uart.ensures.step
+
+pub returns-in-Uart-clause-stops : goal.returns-in-Uart-clause-stops
+returns-in-Uart-clause-stops c =
+    let s = c.args.self.now.setup in
+    reaches_by s machine.Uart uart.StandsFor uart.alts_of (IsUart (uart_options s.values.given) s.rate) (λ driver input has. has) c.args.self.now.machine c.in-Uart.driver (search rules) (RunFeed c.args.run) (left_feed c.step_run-in-Uart.result)
+    (λ input more rests. rests) c.step_run-in-Uart.ensures.stops
