@@ -8,8 +8,6 @@ mod form;
 mod laws;
 mod names;
 mod reader;
-#[cfg(test)]
-mod tests;
 
 pub use capture::Capture;
 pub use end::ListingEnd;

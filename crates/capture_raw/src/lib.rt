@@ -8,8 +8,6 @@ mod filled;
 mod laws;
 mod reader;
 mod step;
-#[cfg(test)]
-mod tests;
 mod units;
 
 pub use laws::{fault_stays, given_is_front, longer_extends, samples_are_levels, stands_fixes};

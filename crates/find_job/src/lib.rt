@@ -4,8 +4,6 @@
 mod listing;
 mod search;
 mod stops;
-#[cfg(test)]
-mod tests;
 
 pub use capture_any::ListingEnd as FindEnd;
 pub use search::{find, find_buffered};

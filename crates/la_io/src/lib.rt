@@ -11,8 +11,6 @@ mod outgoing;
 mod outside;
 mod standard;
 mod sure;
-#[cfg(test)]
-mod tests;
 mod whole;
 
 pub use buffered::Buffered;

@@ -17,6 +17,3 @@ mod text;
 pub use run::run_here;
 pub use status::{Status, exit_code};
 pub use words::{Format, Job, Settings, WordFault, WordWhy, WordsError, read_words};
-
-#[cfg(test)]
-mod tests;

@@ -5,8 +5,6 @@ mod decimal;
 mod hex;
 mod line;
 mod short;
-#[cfg(test)]
-mod tests;
 
 pub use decimal::Decimal;
 pub use line::{LineBuf, ROOM};

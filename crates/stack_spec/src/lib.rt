@@ -20,6 +20,3 @@ pub use faults::{BindError, BindFault, StackError, StackFault, StackWhy};
 pub use read::read_stack;
 pub use stack::Stack;
 pub use text_parts::ChainWord;
-
-#[cfg(test)]
-mod tests;

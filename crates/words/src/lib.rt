@@ -22,6 +22,3 @@ pub use read::read_words;
 pub use settings::Settings;
 pub use text_parts::ChainWord;
 pub use values::{MOST_RATE_DEN, MOST_RATE_NUM};
-
-#[cfg(test)]
-mod tests;

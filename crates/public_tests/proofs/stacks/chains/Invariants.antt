@@ -1,6 +1,6 @@
 use Rattle.std.proofs.Common.{◌≤◌, All, length}
 use Rattle.std.specs.String.{string_bytes}
-use Rattle.stack_spec.proofs.tests.chains.Given as goal
+use Rattle.public_tests.proofs.stacks.chains.Given as goal
 
 abbrev pub invariant-loop-text : goal.invariant-loop-text
 invariant-loop-text l = record {
@@ -8,3 +8,6 @@ invariant-loop-text l = record {
   is_finite : (goal.iterator-loop-text).is_finite l.text-iterator;
   short : All (λ chain. length (string_bytes chain.text) ≤ 4096) l.chains.items;
 }
+
+abbrev pub invariant-loop-number : goal.invariant-loop-number
+invariant-loop-number l = All (λ chain. length (string_bytes chain.text) ≤ 4096) l.chains.items

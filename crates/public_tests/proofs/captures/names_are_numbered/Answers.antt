@@ -1,7 +1,7 @@
 use Rattle.std.proofs.Common.{[], ◌∷◌, ◌++◌, codes, arith}
 use Rattle.std.proofs.lemmas.Fmt.{decimal_digit}
 use Rattle.capture_raw.specs.Raw.{raw_names}
-use Rattle.capture_raw.proofs.tests.names_are_numbered.Goals as goal
+use Rattle.public_tests.proofs.captures.names_are_numbered.Goals as goal
 
 pub returns : goal.returns
 unfolding raw_names

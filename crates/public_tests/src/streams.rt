@@ -1,7 +1,10 @@
 ghost use Rattle.std.specs.Prelude.{◌≡◌, ◌≤◌};
 
-use super::*;
 use la_base::NoMemory;
+use la_io::{
+    Buffered, Failed, Intake, MOST_BYTES, MemSink, MemSource, Sink, Source, StdSink, StdSource,
+    SureSink, SureSource, write_whole,
+};
 use std::alloc::{AllocError, Global};
 use std::io;
 use std::io::{ErrorKind, Read, Write};

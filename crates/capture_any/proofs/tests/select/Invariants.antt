@@ -1,5 +1,0 @@
-use Rattle.std.proofs.Common.{ℕ, ◌<◌, length, slice_index}
-use Rattle.capture_any.proofs.tests.select.Given as goal
-
-abbrev pub invariant-loop-pin : goal.invariant-loop-pin
-invariant-loop-pin l = (k : ℕ) → k < length l.chosen.items → slice_index l.chosen.items k < l.count

@@ -1,0 +1,385 @@
+// Captures through the public calls, of the raw reader and of the reader of any form.
+ghost use Rattle.std.specs.Prelude.{◌≡◌, ◌≤◌, ◌<◌, ℕ, [], ◌∷◌, codes, length, slice_index};
+ghost use Rattle.la_base.specs.declared.samples.Rate.{Rate as ItsRate};
+ghost use Rattle.la_io.specs.Capture.{AtEnd, Ends, Faulty};
+ghost use Rattle.la_io.specs.declared.fault.CaptureFault.TheVariants.{ShortUnit};
+ghost use Rattle.capture_raw.specs.Raw.{raw_capture, raw_names};
+
+use crate::rows::{bytes_of, numbers_of, parts_of, source_of};
+use capture_any::{Capture, Form};
+use capture_raw::{RawReader, RawStep};
+use la_base::{MOST_PINS, Pins, Rate, Word};
+use la_io::{Failed, MemSource};
+use std::alloc::Global;
+use std::process::Abort;
+use std::test::Fail;
+
+// More than the runs of any test.
+const MANY: u32 = 10_000;
+
+// The sample rate of the tests.
+const RATE: Rate = Rate { num: 3, den: 2 };
+
+// A row has how many channels there are, the least and the most bytes of a read that are tried, and the
+// number of the call that fails, if one does; between brackets the pins; then the bytes in hexadecimal. The
+// raw reader gives these samples or runs, and this answer behind them.
+
+const SAMPLES: &str = "\
+# channel 8 is the lowest bit of the second byte
+9 1 9 [8] 0000010102 > [0, 1] > Some(Ok(ShortUnit { at: 4 }))
+# the pins' order is that of the bits; channel 9 isn't declared
+9 1 9 [8, 0] 000101000103 > [1, 2, 3] > Some(Ok(End))
+# bits above the channels are ignored
+3 1 9 [0, 1, 2] f8ff05 > [0, 7, 5] > Some(Ok(End))
+8 1 9 [7, 0, 3] 880180 > [5, 2, 1] > Some(Ok(End))
+64 1 9 [63, 0, 40] 0100000000010080 > [7] > Some(Ok(End))
+# no pins
+8 1 9 [] aa5555 > [0, 0, 0] > Some(Ok(End))
+8 1 9 [0]  > [] > Some(Ok(End))
+16 1 9 [0] 01 > [] > Some(Ok(ShortUnit { at: 0 }))
+# unit k has k in its lowest byte and k modulo 2 in its highest
+17 1 9 [16, 1, 0] 0000000100010200000300010400000500010600000900 > [0, 5, 2, 7, 0, 5, 2] > Some(Ok(ShortUnit { at: 21 }))";
+
+const RUNS: &str = "\
+# units join within a read of five bytes
+8 5 5 [0, 1] 00000001010101020203 > [(0, 3), (1, 2), (1, 2), (2, 2), (3, 1)] > Some(Ok(End))
+# what no pin picks parts no run
+8 1000 1000 [3] 0017f0080f07 > [(0, 3), (1, 2), (0, 1)] > Some(Ok(End))
+8 1000 1000 [] 01020304 > [(0, 4)] > Some(Ok(End))
+# bit 9 is bit 1 of the second byte
+16 1000 1000 [9] 01000201030204ff > [(0, 2), (1, 2)] > Some(Ok(End))
+17 1000 1000 [16] 000001090901090900 > [(1, 2), (0, 1)] > Some(Ok(End))
+# longer than what is compared at once
+16 1000 1000 [0, 8] 07*301 06 > [(3, 150), (1, 1)] > Some(Ok(End))
+8 1000 1000 [0] 07*301 06 > [(1, 301), (0, 1)] > Some(Ok(End))
+# bit 0 is noise
+8 1000 1000 [1] 0302*35 0102 0302*64 > [(1, 70), (0, 1), (1, 129)] > Some(Ok(End))
+8 1000 1000 [0]  > [] > Some(Ok(End))
+# the third read fails, in the second unit
+16 2 2 2 [0, 15] 018001 > [(3, 1)] > Some(Err(Failed))
+8 2 2 0 [0]  > [] > Some(Err(Failed))";
+
+// The same of a capture of any form: its samples, and the error behind them, if there is one.
+const ANY_FORM: &str = "\
+8 1 8 [7, 0] 8001818100 > [1, 2, 3, 3, 0] > None
+8 1 8 [] 0102 > [0, 0] > None
+1 1 8 [0]  > [] > None
+9 1 8 [8] 0000010102 > [0, 1] > Some(Fault(ShortUnit { at: 4 }))
+16 1 8 [0] 01 > [] > Some(Fault(ShortUnit { at: 0 }))
+64 1 8 [63] 0000000000000080 > [1] > None
+8 1 1 2 [0] 0100 > [1, 0] > Some(Read)";
+
+// What a row says: the numbers before its pins, the pins, the bytes, and what these give.
+#[derive(Drop)]
+struct Case<'a> {
+    channels: u64,
+    least: usize,
+    most: usize,
+    fails: Vec<u64>,
+    pins: Vec<u64>,
+    bytes: Vec<u8>,
+    want: &'a str,
+}
+
+fn case_of(alloc: Global, row: &str) -> Result<Case, Fail> {
+    let (numbers, pins, behind) = parts_of(row);
+    let (bytes, want) = behind.split_once("> ").unwrap_or(("", ""));
+    let numbers = numbers_of(alloc, numbers)?;
+    let [channels, least, most, fails @ ..] = numbers.as_slice() else {
+        return Err("a row has too few numbers".into());
+    };
+    Ok(Case {
+        channels: *channels,
+        least: *least as usize,
+        most: *most as usize,
+        fails: fails.to_vec(alloc)?,
+        pins: numbers_of(alloc, pins)?,
+        bytes: bytes_of(alloc, bytes)?,
+        want,
+    })
+}
+
+// The pins of these channels.
+fn chosen(rt: &impl Abort, channels: u32, pins: &[u64]) -> Pins
+    ensures { (k : ℕ) → k < length result.items → slice_index result.items k < channels }
+{
+    let mut chosen = Pins::new();
+    for pin in pins {
+        assert!(rt; *pin < u64::from(channels) && !chosen.is_full());
+        chosen.push(*pin as u32);
+    }
+    chosen
+}
+
+// A reader whose samples have these channels as bits.
+fn opened(rt: &impl Abort, channels: u64, pins: &[u64]) -> RawReader {
+    assert!(rt; 1 <= channels && channels <= 64);
+    let mut reader = RawReader::open(channels as u32, RATE);
+    reader.select(chosen(rt, channels as u32, pins));
+    reader
+}
+
+// What the raw reader gave: the value and length of each run, and the answer behind them.
+#[derive(Drop)]
+struct Given {
+    runs: Vec<(Word, u64)>,
+    last: Option<Result<RawStep, Failed>>,
+}
+
+// Reads to the end, and sees that the reader is open behind runs alone.
+fn read_all(alloc: Global, mut reader: RawReader, mut source: MemSource) -> Result<Given, Fail> {
+    let mut runs = Vec::new(alloc);
+    let mut last = None;
+    for _ in 0..MANY {
+        if !reader.is_open() {
+            break;
+        }
+        match reader.next(&mut source) {
+            Ok(RawStep::Run(run)) => runs.push((run.value, run.len))?,
+            end => {
+                last = Some(end);
+                if reader.is_open() {
+                    return Err("open behind the last answer".into());
+                }
+            }
+        }
+    }
+    Ok(Given { runs, last })
+}
+
+// Each sample by itself.
+fn samples_in(alloc: Global, runs: &[(Word, u64)]) -> Result<Vec<Word>, Fail> {
+    let mut samples = Vec::new(alloc);
+    for (value, len) in runs {
+        for _ in 0..*len {
+            samples.push(*value)?;
+        }
+    }
+    Ok(samples)
+}
+
+// Whether the raw reader gives what its row says, in runs or in samples.
+fn raw_holds(rt: &impl Abort, alloc: Global, case: &Case, size: usize) -> Result<bool, Fail>
+    requires { 1 ≤ size }
+{
+    let source = source_of(alloc, &case.bytes, size, &case.fails)?;
+    let given = read_all(alloc, opened(rt, case.channels, &case.pins), source)?;
+    let samples = samples_in(alloc, &given.runs)?;
+    let by_samples = format!(in alloc; "{:?} > {:?}", samples.as_slice(), given.last)?;
+    let by_runs = format!(in alloc; "{:?} > {:?}", given.runs.as_slice(), given.last)?;
+    Ok(by_samples.as_str() == case.want || by_runs.as_str() == case.want)
+}
+
+// Whether a capture of any form gives what its row says, and isn't open behind it.
+fn any_holds(rt: &impl Abort, alloc: Global, case: &Case, size: usize) -> Result<bool, Fail>
+    requires { 1 ≤ size }
+{
+    let mut source = source_of(alloc, &case.bytes, size, &case.fails)?;
+    assert!(rt; 1 <= case.channels && case.channels <= 64);
+    let form = Form::Raw {
+        channels: case.channels as u32,
+        rate: RATE,
+    };
+    let mut capture = Capture::open(alloc, form, &mut source)?;
+    let pins = chosen(rt, capture.names().count(), &case.pins);
+    capture.select(pins);
+    let mut samples = Vec::new(alloc);
+    let mut last = None;
+    for _ in 0..MANY {
+        if !capture.is_open() {
+            break;
+        }
+        match capture.next(&mut source) {
+            Ok(Some(run)) => {
+                for _ in 0..run.len {
+                    samples.push(run.value)?;
+                }
+            }
+            Ok(None) => {}
+            Err(error) => last = Some(error),
+        }
+    }
+    let told = format!(in alloc; "{:?} > {:?}", samples.as_slice(), last)?;
+    Ok(!capture.is_open() && told.as_str() == case.want)
+}
+
+#[test]
+fn rows_of_captures(rt: HostRuntime) -> Result<(), Fail> {
+    let alloc = rt.alloc();
+    for (table, any_form) in [(SAMPLES, false), (RUNS, false), (ANY_FORM, true)] {
+        for row in table.split('\n') {
+            if row.starts_with('#') {
+                continue;
+            }
+            let case = case_of(alloc, row)?;
+            for size in case.least..=case.most {
+                assert!(rt; size >= 1);
+                let holds = if any_form {
+                    any_holds(&rt, alloc, &case, size)?
+                } else {
+                    raw_holds(&rt, alloc, &case, size)?
+                };
+                assert!(rt; holds, "{row}");
+            }
+        }
+    }
+    Ok(())
+}
+
+// The sample of a unit: bit j is bit `pins[j]` of the unit, whose lowest byte comes first.
+fn plain_sample(pins: &[u64], unit: &[u8]) -> Result<Word, Fail> {
+    let mut sample = 0;
+    for place in 0..MOST_PINS {
+        let Some(pin) = pins.get(place as usize) else {
+            break;
+        };
+        let byte = unit.get((*pin / 8) as usize).ok_or("no such channel")?;
+        if byte >> (*pin % 8) & 1 == 1 {
+            sample |= 1 << place;
+        }
+    }
+    Ok(sample)
+}
+
+// The samples of bytes, unit by unit.
+fn plain_samples(
+    alloc: Global,
+    channels: u64,
+    pins: &[u64],
+    bytes: &[u8],
+) -> Result<Vec<Word>, Fail>
+    requires { 1 ≤ channels }
+{
+    let mut samples = Vec::new(alloc);
+    for unit in bytes.chunks_exact(channels.div_ceil(8) as usize) {
+        samples.push(plain_sample(pins, unit)?)?;
+    }
+    Ok(samples)
+}
+
+// The number that comes next where numbers shall look random (xorshift).
+fn next_random(number: u64) -> u64 {
+    let mut next = number;
+    next ^= next << 13;
+    next ^= next >> 7;
+    next ^= next << 17;
+    next
+}
+
+// Bytes of units whose neighbours differ in noise alone, but for one channel, that changes behind
+// stretches of 1, 2, 3 .. units. So changes lie at all places of the blocks that are compared at once.
+fn stretches(alloc: Global, channels: u64, noise: u64, most: u32) -> Result<Vec<u8>, Fail>
+    requires some { 1 ≤ channels }
+    requires few { channels ≤ 64 }
+{
+    let unit = channels.div_ceil(8) as usize;
+    let mut bytes = Vec::new(alloc);
+    let mut random = 1;
+    let mut value: u64 = 0x1234_5678_9abc_def0;
+    for len in 1..most {
+        value ^= 1 << (channels - 1);
+        for _ in 0..len {
+            random = next_random(random);
+            let number = (value ^ (random & noise)).to_le_bytes();
+            bytes.extend_from_slice(&number[..unit])?;
+        }
+    }
+    Ok(bytes)
+}
+
+// Whether a reader gives the samples of the plain program, in pieces of each size.
+fn are_plain(
+    rt: &impl Abort,
+    alloc: Global,
+    channels: u64,
+    pins: &[u64],
+    bytes: &[u8],
+) -> Result<bool, Fail>
+    requires { 1 ≤ channels }
+{
+    let plain = plain_samples(alloc, channels, pins, bytes)?;
+    for size in [1, 7, 64, 1000, 100_000] {
+        let source = source_of(alloc, bytes, size, &[])?;
+        let given = read_all(alloc, opened(rt, channels, pins), source)?;
+        if samples_in(alloc, &given.runs)?.as_slice() != plain.as_slice() {
+            return Ok(false);
+        }
+    }
+    Ok(true)
+}
+
+#[test]
+fn samples_are_those_of_each_unit_by_itself(rt: HostRuntime) -> Result<(), Fail> {
+    let alloc = rt.alloc();
+    for channels in [1, 8, 9, 16, 17, 64] {
+        assert!(rt; 1 <= channels && channels <= 64);
+        let high = channels - 1;
+        // no noise, the lowest bit of each byte, the highest one, all
+        for (noise, most) in [
+            (0, 70),
+            (0x0101_0101_0101_0101, 35),
+            (0x8080_8080_8080_8080, 35),
+            (u64::MAX, 5),
+        ] {
+            let bytes = stretches(alloc, channels, noise, most)?;
+            let lists: [&[u64]; 6] = [&[], &[0], &[high], &[0, high], &[high, 0], &[channels / 2]];
+            for pins in lists {
+                assert!(rt;
+                    are_plain(&rt, alloc, channels, pins, &bytes)?,
+                    "{channels} {pins:?}"
+                );
+            }
+        }
+    }
+    Ok(())
+}
+
+fn is_send<T: Send>(_: &T) {}
+
+#[test]
+fn the_head_of_a_raw_capture(rt: HostRuntime) -> Result<(), Fail> {
+    is_send(&opened(&rt, 8, &[0]));
+    let mut source = source_of(rt.alloc(), &[], 1, &[0])?;
+    let form = Form::Raw {
+        channels: 12,
+        rate: RATE,
+    };
+    let capture = Capture::open(rt.alloc(), form, &mut source)?;
+    is_send(&capture);
+    let names = capture.names();
+    let found = [
+        names.find(b"D0"),
+        names.find(b"D11"),
+        names.find(b"D12"),
+        names.find(b"d1"),
+    ];
+    assert!(rt; names.count() == 12 && capture.rate() == RATE && capture.is_open());
+    assert!(rt; found == [Some(0), Some(11), None, None]);
+    Ok(())
+}
+
+// The definition's names, written out.
+fn names_are_numbered()
+    ensures { raw_names 3 ≡ codes "D0" ∷ codes "D1" ∷ codes "D2" ∷ [] }
+{}
+
+// What the definition gives for units of two bytes that end inside the third.
+fn a_short_unit()
+    ensures { (rate : ItsRate) → Ends (raw_capture 9 rate (8 ∷ []) (0 ∷ 0 ∷ 1 ∷ 1 ∷ 2 ∷ []) AtEnd) (0 ∷ 1 ∷ []) (Faulty (ShortUnit 4)) }
+{}
+
+#[test]
+fn laws_are_called() {
+    names_are_numbered();
+    a_short_unit();
+    capture_raw::longer_extends();
+    capture_raw::fault_stays();
+    capture_raw::stands_fixes();
+    capture_raw::given_is_front();
+    capture_raw::samples_are_levels();
+    capture_any::longer_extends();
+    capture_any::fault_stays();
+    capture_any::head_stays();
+    capture_any::pins_leave_the_head();
+    capture_any::given_is_front();
+}

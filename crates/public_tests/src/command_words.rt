@@ -1,0 +1,257 @@
+use crate::rows::parts_of;
+use std::alloc::Global;
+use std::test::Fail;
+use words::{
+    Job, Name, OPTIONS, Settings, Takes, WordsError, clap_reads_the_uses, options_are_whole,
+    read_words,
+};
+
+// A row has words between brackets, before them how many words `a` stand in front, and behind them what
+// they give. In a word a star stands before the number of bytes `x` that go on; a dot stands for no word.
+
+// The number of the word at fault, the place of the fault in it, and why.
+pub const FAULTS: &str = "\
+# empty words, and words that begin with a hyphen and are no options
+[] 0 0 Empty
+[ i2c] 0 0 Empty
+[i2c ] 1 0 Empty
+[-] 0 0 Unknown
+[--] 0 0 Unknown
+[-j find] 0 0 Unknown
+[---job find] 0 0 Unknown
+[--=x] 0 0 Unknown
+[--é=x] 0 0 Unknown
+[--help] 0 0 Unknown
+[--version] 0 0 Unknown
+[--rat 5] 0 0 Unknown
+[--Job find] 0 0 Unknown
+[--down 1] 0 0 Unknown
+[--chains x] 0 0 Unknown
+[i2c -x] 1 0 Unknown
+# an option is given once, with a value that it takes
+[--job] 0 0 NoValue
+[i2c --ring] 1 0 NoValue
+[--job --job=find] 0 0 NoValue
+[--channels -5] 0 0 NoValue
+[--job find --job=find] 2 0 Repeat
+[--job=find --job] 1 0 Repeat
+[--job=find --job=] 1 0 Repeat
+[--job=find --job=x] 1 0 Repeat
+[--show=all x --show all] 2 0 Repeat
+[--job=] 0 0 Empty
+[--show=] 0 0 Empty
+[--job ] 1 0 Empty
+[--show  i2c] 1 0 Empty
+[--job Find] 1 0 Value
+[--job=make] 0 0 Value
+[--job=find=] 0 0 Value
+[i2c --job seek] 2 0 Value
+[--format vcd] 1 0 Value
+[--format=RAW] 0 0 Value
+[--threads maybe] 1 0 Value
+[--threads=Yes] 0 0 Value
+# of two faults the first word's is told
+[--ring=x] 0 0 Value
+[--x --channels=0] 0 0 Unknown
+[--channels=0 --x] 0 0 Range
+[-y ] 0 0 Unknown
+[ -y] 0 0 Empty
+[--ring=x --rate=0] 0 0 Value
+[--rate=0 --ring=x] 0 0 Range
+[--threads= --job] 0 0 Empty
+[--job --threads=] 0 0 NoValue
+[--ring=1 --ring --x] 1 0 Repeat
+[--ring=1 --x --ring] 1 0 Unknown
+[i2c --ring 0 --job] 2 0 Range
+[i2c --job --ring 0] 1 0 NoValue
+[--show  --x] 1 0 Empty
+[--show x  --x] 2 0 Empty
+# numbers
+[--channels 0] 1 0 Range
+[--channels 65] 1 0 Range
+[--channels=+5] 0 0 Value
+[--channels=-5] 0 0 Value
+[--channels=8x] 0 0 Value
+[--channels=0x8] 0 0 Value
+[--channels=00000000000000000008] 0 0 Range
+[--channels 99999999999999999999] 1 0 Range
+[--channels 9999999999999999999x] 1 0 Value
+[--ring 0] 1 0 Range
+[--ring=16385] 0 0 Range
+[--ring=1e3] 0 0 Value
+[--ring ten] 1 0 Value
+# rates: N is judged whole, and then D
+[--rate 0] 1 0 Range
+[--rate=1000000000000001] 0 0 Range
+[--rate=10000000000000000000] 0 0 Range
+[--rate=+5] 0 0 Value
+[--rate=1.5] 0 0 Value
+[--rate 5/] 1 0 Value
+[--rate=/5] 0 0 Value
+[--rate=/] 0 0 Value
+[--rate 5/1/1] 1 0 Value
+[--rate 1/+1] 1 0 Value
+[--rate=5/0] 0 0 Range
+[--rate=5/1000000001] 0 0 Range
+[--rate 0/x] 1 0 Range
+[--rate x/0] 1 0 Value
+[--rate=0/0] 0 0 Range
+[--rate=x/x] 0 0 Value
+# behind all words: too few, too many before what an alternative is, and faults of words before both
+[--threads=no] 1 0 Few
+[--job decode] 2 0 Few
+[--job find] 2 0 Few
+[--job=find --ring 5 --rate=5] 4 0 Few
+[a a a a a a a a a a a a a a a a a a a a a a a a a] 24 0 Many
+[a a a a a a a a a a a a a a a a a a a a a a a a --ring 5 a a] 26 0 Many
+[a=h --job find a=h a=h a=h a=h a=h a=h a=h a=h a=h] 10 0 Many
+[--job=find a=q a=h a=h a=h a=h a=h a=h a=h a=h] 9 0 Many
+[--job find D0=q] 2 3 Cond
+[--job=find D0] 1 0 Cond
+[D0=h =r --job=find] 1 0 Cond
+[D0=h --job find D1=h D10=] 4 4 Cond
+[--job=find D0=x D1=y] 1 3 Cond
+[--job=find D0=h D10=hh D1=y] 2 4 Cond
+[D0=q --job=find --ring=0] 2 0 Range
+[--job=find D0=q --x] 2 0 Unknown
+[--job=find a a a a a a a a a --job] 10 0 Repeat
+# how many words there are is told before their bytes, and a value is judged as a word is
+[.] 0 0 Few
+255[a] 24 0 Many
+256[a] 256 0 Many
+256[a*4096] 256 0 Many
+255[--ring a] 256 0 Many
+255[--ring -a] 255 0 NoValue
+254[--ring a] 255 0 Value
+[a*4096] 0 0 Long
+1[-*4096] 1 0 Long
+[--show=*4089] 1 0 Few
+[--show=*4090] 0 0 Long
+[--show x*4095] 2 0 Few
+1[--show x*4096] 2 0 Long
+1[--show -*4096] 1 0 NoValue";
+
+// The job, the channels, the rate, whether there are threads, and the ring.
+pub const VALUES: &str = "\
+[i2c] decode 8 1000000/1 yes 256
+[--job decode i2c] decode 8 1000000/1 yes 256
+[D0=h --job find] find 8 1000000/1 yes 256
+[--job=find D0=h] find 8 1000000/1 yes 256
+[a*4095] decode 8 1000000/1 yes 256
+[--format raw i2c] decode 8 1000000/1 yes 256
+[i2c --format=raw] decode 8 1000000/1 yes 256
+[--channels 64 i2c] decode 64 1000000/1 yes 256
+[--channels=1 i2c] decode 1 1000000/1 yes 256
+[i2c --channels=0000000000000000007] decode 7 1000000/1 yes 256
+[--rate 1 i2c] decode 8 1/1 yes 256
+[--rate 0001/0003 i2c] decode 8 1/3 yes 256
+[--rate=4/2 i2c] decode 8 4/2 yes 256
+[--rate=1000000000000000/1000000000 i2c] decode 8 1000000000000000/1000000000 yes 256
+[--threads no i2c] decode 8 1000000/1 no 256
+[--threads=yes i2c] decode 8 1000000/1 yes 256
+[--ring 1 i2c] decode 8 1000000/1 yes 1
+[--ring=16384 i2c] decode 8 1000000/1 yes 16384
+[--ring=4 --threads no D0=h --rate=2/3 --channels 16 --format=raw --show all --job=find] find 16 2/3 no 4";
+
+// The decoders that are shown, and the other words, each with its number. Decode takes 24 chains,
+// whatever they are, and find 8 alternatives.
+pub const TEXTS: &str = "\
+[help] 0:help
+[é a=b] 0:é 1:a=b
+[a --ring 5 b --rate=5 c] 0:a 3:b 5:c
+[--job=find D0=h --ring 5 D1=r] 1:D0=h 4:D1=r
+[--show all a] 2:a
+[--show=all a] 1:a
+[--show i2c-1 i2c] 1:i2c-1 of 2:i2c
+[i2c --show=i2c-1,spi-1] 1:i2c-1,spi-1 of 0:i2c
+[a --show all,i2c-1] 2:all,i2c-1 of 0:a
+[--show=-all a] 0:-all of 1:a
+[--show=a=b a] 0:a=b of 1:a
+[--show==x a] 0:=x of 1:a
+[D0=q a a a a a a a a a a a a a a a a a a a a a a a] 0:D0=q 1:a 2:a 3:a 4:a 5:a 6:a 7:a 8:a 9:a 10:a 11:a 12:a 13:a 14:a 15:a 16:a 17:a 18:a 19:a 20:a 21:a 22:a 23:a
+[a=h a=l a=r a=f a=e a=s a=h a=h --job=find] 0:a=h 1:a=l 2:a=r 3:a=f 4:a=e 5:a=s 6:a=h 7:a=h";
+
+// A word of a row.
+fn word_of(alloc: Global, text: &str) -> Result<String, Fail> {
+    let (begin, more) = text.split_once('*').unwrap_or((text, "0"));
+    let mut word = String::from_str(alloc, begin)?;
+    for _ in 0..more.parse::<u32>().unwrap_or(0) {
+        word.push_str("x")?;
+    }
+    Ok(word)
+}
+
+// What words give. They stand between single blanks, so that two blanks have an empty word between them.
+fn read(alloc: Global, count: &str, line: &str) -> Result<Result<Settings, WordsError>, Fail> {
+    let mut words = Vec::new(alloc);
+    for _ in 0..count.parse::<u32>().unwrap_or(0) {
+        words.push(word_of(alloc, "a")?)?;
+    }
+    for word in line.split(' ') {
+        if word != "." {
+            words.push(word_of(alloc, word)?)?;
+        }
+    }
+    Ok(read_words(alloc, &words))
+}
+
+// What options set.
+fn values(alloc: Global, settings: &Settings) -> Result<String, Fail> {
+    let job = if settings.job == Job::Find {
+        "find"
+    } else {
+        "decode"
+    };
+    let threads = if settings.threads { "yes" } else { "no" };
+    Ok(format!(in alloc;
+        "{job} {} {}/{} {threads} {}",
+        settings.channels, settings.rate.num, settings.rate.den, settings.ring
+    )?)
+}
+
+// The decoders that are shown, and the other words.
+fn texts(alloc: Global, settings: &Settings) -> Result<String, Fail> {
+    let mut told = String::new(alloc);
+    if let Some(show) = &settings.show {
+        told.push_str(format!(in alloc; "{}:{} of ", show.word, show.text)?.as_str())?;
+    }
+    for chain in &settings.chains {
+        told.push_str(format!(in alloc; "{}:{} ", chain.word, chain.text)?.as_str())?;
+    }
+    Ok(told)
+}
+
+/// Whether words give what their row says: their fault, or what they set.
+pub fn holds(alloc: Global, row: &str) -> Result<bool, Fail> {
+    let (count, line, want) = parts_of(row);
+    Ok(match read(alloc, count, line)? {
+        Ok(settings) => {
+            values(alloc, &settings)?.as_str() == want
+                || texts(alloc, &settings)?.as_str().trim_end() == want
+        }
+        Err(WordsError::Fault(fault)) => {
+            let told = format!(in alloc; "{} {} {:?}", fault.word, fault.at, fault.why)?;
+            told.as_str() == want
+        }
+        Err(WordsError::NoMemory) => false,
+    })
+}
+
+#[test]
+fn tells_options(rt: HostRuntime) -> Result<(), Fail> {
+    let alloc = rt.alloc();
+    let mut told = String::new(alloc);
+    for option in OPTIONS {
+        let row = option.row();
+        let usual = row.usual.unwrap_or("none");
+        told.push_str(format!(in alloc; "{} ({}) {usual}\n", row.name, row.takes)?.as_str())?;
+    }
+    assert_eq!(rt;
+        told.as_str(),
+        "job (decode, find) decode\nformat (raw) raw\nchannels (1 to 64) 8\nrate (N or N/D, N 1 to 1000000000000000, D 1 to 1000000000) 1000000\nthreads (yes, no) yes\nring (1 to 16384) 256\nshow (text) all\n"
+    );
+    assert!(rt; matches!(Name::Show.row().takes, Takes::Text));
+    options_are_whole();
+    clap_reads_the_uses();
+    Ok(())
+}

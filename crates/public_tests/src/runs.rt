@@ -1,0 +1,267 @@
+// Whole runs through the public call.
+ghost use Rattle.std.specs.Prelude.{◌≤◌};
+
+use crate::rows::{barred, bytes_of, is_front, parts_of, source_of};
+use la_io::{CaptureFault, MemSink};
+use ldecode::{Status, exit_code, run_here};
+use std::alloc::Global;
+use std::test::Fail;
+
+// More than any test writes.
+const AMPLE: usize = 1 << 12;
+
+// 40 samples; D0 rises at 2, 5, 9, 14, 16, 21, 24, 27, 29, 34 and 37.
+const CAPTURE: &str =
+    "00000101000100000001010301000102010004000001010203030201000101000006070000010000";
+
+const RISES: &str = "2: 0|5: 0|9: 0|14: 0|16: 0|21: 0|24: 0|27: 0|29: 0|34: 0|37: 0|";
+
+const SEARCH: &str = "--job find D0=r";
+
+// An I2C bus with SCL on D0 and SDA on D1: an address is written, and acknowledged.
+const WRITE_OF_50: &str = "0301020300010203000100010001000100010001000103";
+
+const LISTING: &str =
+    "1-1 i2c-1: Start|3-17 i2c-1: Address write: 50|19-19 i2c-1: ACK|22-22 i2c-1: Stop|";
+
+const BUS: &str = "i2c:scl=D0:sda=D1";
+
+// How many bytes of the rises' lines the first so many samples give.
+fn settled(samples: usize) -> usize {
+    match samples {
+        0..=2 => 0,
+        3..=5 => 5,
+        6..=9 => 10,
+        10..=14 => 15,
+        15..=16 => 21,
+        17..=21 => 27,
+        22..=24 => 33,
+        25..=27 => 39,
+        28..=29 => 45,
+        30..=34 => 51,
+        35..=37 => 57,
+        _ => 63,
+    }
+}
+
+// How many bytes of the bus's lines the first so many samples give.
+fn decoded(samples: usize) -> usize {
+    match samples {
+        0..=1 => 0,
+        2..=17 => 17,
+        18..=19 => 47,
+        20..=22 => 64,
+        _ => 82,
+    }
+}
+
+// Runs over whole captures. A row has the words between brackets, the samples in hexadecimal, the exit status, the notices
+// and what is written, where a bar stands for the end of a line.
+
+pub const SEARCHES: &str = "\
+[--job find D0=r] 0001 > 0 >  > 1: 0|
+[--job find D1=s] 00 > 0 >  > 0: 0|
+[--job find D0=h]  > 0 >  > 
+[--job find D0=f] 01000100 > 0 >  > 1: 0|3: 0|
+[--job=find D7=e] 0080807f > 0 >  > 1: 0|3: 0|
+[--job find 3=r] 0008 > 0 >  > 1: 0|
+[--job find D0=r D1=h skip=2] 0001030302 > 0 >  > 1: 0,2|2: 1|3: 1|4: 1|
+[--job find --channels 9 D8=r] 0000010102 > 3 > ldecode: capture at 4: ShortUnit| > 1: 0|";
+
+// The second capture has a start again after seven bits, which give nothing; the next ones have a second
+// bus, one sample behind the first; the last one has a byte for nine channels too few.
+pub const DECODINGS: &str = "\
+[i2c:scl=D0:sda=D1] 0301020300010203000100010001000100010001000103 > 0 >  > 1-1 i2c-1: Start|3-17 i2c-1: Address write: 50|19-19 i2c-1: ACK|22-22 i2c-1: Stop|
+[--job=decode i2c:sda=1:scl=0] 0301020300010203000100010001000100010001000103 > 0 >  > 1-1 i2c-1: Start|3-17 i2c-1: Address write: 50|19-19 i2c-1: ACK|22-22 i2c-1: Stop|
+[i2c:scl=D0:sda=D1]  > 0 >  > 
+[i2c:scl=D0:sda=D1] 0301020300010203000100010001000100010001020301000100010001000100010001000103 > 0 >  > 1-1 i2c-1: Start|3-17 i2c-1: Address write: 50|19-19 i2c-1: ACK|22-22 i2c-1: Start repeat|37-37 i2c-1: Stop|
+[i2c:scl=D0:sda=D1 i2c:scl=D2:sda=D3] 0f0d060b0c01060b0c0104010401040104010401040107 0f > 0 >  > 1-1 i2c-1: Start|2-2 i2c-2: Start|3-17 i2c-1: Address write: 50|4-18 i2c-2: Address write: 50|19-19 i2c-1: ACK|20-20 i2c-2: ACK|22-22 i2c-1: Stop|23-23 i2c-2: Stop|
+[--show i2c-1 i2c:scl=D0:sda=D1 i2c:scl=D2:sda=D3] 0f0d060b0c01060b0c0104010401040104010401040107 0f > 0 >  > 1-1 i2c-1: Start|3-17 i2c-1: Address write: 50|19-19 i2c-1: ACK|22-22 i2c-1: Stop|
+[i2c:scl=D0:sda=D1 i2c:scl=D2:sda=D3 --show=i2c-2] 0f0d060b0c01060b0c0104010401040104010401040107 0f > 0 >  > 2-2 i2c-2: Start|4-18 i2c-2: Address write: 50|20-20 i2c-2: ACK|23-23 i2c-2: Stop|
+[i2c:scl=D0:sda=D1 --show all i2c:scl=D2:sda=D3 i2c:scl=D0:sda=D1] 0f0d060b0c01060b0c0104010401040104010401040107 0f > 0 >  > 1-1 i2c-1: Start|1-1 i2c-3: Start|2-2 i2c-2: Start|3-17 i2c-1: Address write: 50|3-17 i2c-3: Address write: 50|4-18 i2c-2: Address write: 50|19-19 i2c-1: ACK|19-19 i2c-3: ACK|20-20 i2c-2: ACK|22-22 i2c-1: Stop|22-22 i2c-3: Stop|23-23 i2c-2: Stop|
+[--show i2c-2,i2c-1 i2c:scl=D0:sda=D1 i2c:scl=D2:sda=D3 i2c:scl=D0:sda=D1] 0f0d060b0c01060b0c0104010401040104010401040107 0f > 0 >  > 1-1 i2c-1: Start|2-2 i2c-2: Start|3-17 i2c-1: Address write: 50|4-18 i2c-2: Address write: 50|19-19 i2c-1: ACK|20-20 i2c-2: ACK|22-22 i2c-1: Stop|23-23 i2c-2: Stop|
+[--channels 9 i2c:scl=D0:sda=D1] 03000100020003000000010002000300000001000000010000000100000001000000010000000100000001000300 03 > 3 > ldecode: capture at 46: ShortUnit| > 1-1 i2c-1: Start|3-17 i2c-1: Address write: 50|19-19 i2c-1: ACK|22-22 i2c-1: Stop|";
+
+// A byte is written to ten-bit address 150h; then one is read from it, behind a repeated start. A third line, D2,
+// stays high.
+pub const TEN_BIT_ADDRESSES: &str = "\
+[i2c:scl=D0:sda=D1] 070705050606070706060707060607070606070704040505040405050606070704040505040405050404050506060707040405050606070704040505040405050404050504040505040405050606070704040505060607070404050506060707040405050606070706060707040405050404050507070707 > 0 >  > 2-2 i2c-1: Start|6-34 i2c-1: Prefix write: 79|38-38 i2c-1: ACK|42-70 i2c-1: Address 10-bit write: 0150|74-74 i2c-1: ACK|78-106 i2c-1: Data write: AB|110-110 i2c-1: ACK|116-116 i2c-1: Stop|
+[i2c:scl=D0:sda=D1] 070705050606070706060707060607070606070704040505040405050606070704040505040405050404050506060707040405050606070704040505040405050404050504040505040405050606070705050606070706060707060607070606070704040505040405050606070706060707040405050606070704040505060607070404050506060707040405050606070706060707060607070404050507 > 0 >  > 2-2 i2c-1: Start|6-34 i2c-1: Prefix write: 79|38-38 i2c-1: ACK|42-70 i2c-1: Address 10-bit write: 0150|74-74 i2c-1: ACK|80-80 i2c-1: Start repeat|84-112 i2c-1: Address 10-bit read: 0150|116-116 i2c-1: ACK|120-148 i2c-1: Data read: AB|152-152 i2c-1: NACK|158-158 i2c-1: Stop|";
+
+// A general call that resets, and one by the hardware master with address 21h; data behind each.
+pub const GENERAL_CALLS: &str = "\
+[i2c:scl=D0:sda=D1] 070705050404050504040505040405050404050504040505040405050404050504040505040405050404050504040505040405050404050504040505060607070606070704040505040405050404050506060707040405050404050504040505040405050606070706060707040405050404050507070707 > 0 >  > 2-2 i2c-1: Start|6-34 i2c-1: General call|38-38 i2c-1: ACK|42-70 i2c-1: General call command: reset and write address|74-74 i2c-1: ACK|78-106 i2c-1: Data write: 43|110-110 i2c-1: ACK|116-116 i2c-1: Stop|
+[i2c:scl=D0:sda=D1] 070705050404050504040505040405050404050504040505040405050404050504040505040405050404050506060707040405050404050504040505040405050606070706060707040405050404050504040505040405050404050504040505060607070606070704040505040405050404050507070707 > 0 >  > 2-2 i2c-1: Start|6-34 i2c-1: General call|38-38 i2c-1: ACK|42-70 i2c-1: General call command: hardware master 21|74-74 i2c-1: ACK|78-106 i2c-1: Data write: 06|110-110 i2c-1: ACK|116-116 i2c-1: Stop|";
+
+// SPI and serial lines, at rates up to the bounds of what their options ask for.
+pub const LINES: &str = "\
+[uart:rx=D0]  > 0 >  > 
+[spi:sck=D0:mosi=D1:cs=D2:cpol=1:cpha=1] 05010203000100010203020302030203020300010001000105 > 0 >  > 1-1 spi-1: Select|3-17 spi-1: MOSI 9F|24-24 spi-1: Deselect|
+[spi:sck=D0:mosi=D1:miso=D2:cs=D3] 080000010001000100010001000102030203000100010001000100010001000100010001000100010001000100010001020300010001000100010001000100010001040500010405000104050001040500010001040500010405000104050001040508 > 0 >  > 1-1 spi-1: Select|3-17 spi-1: MOSI 03 MISO 00|19-33 spi-1: MOSI 00 MISO 00|35-49 spi-1: MOSI 01 MISO 00|51-65 spi-1: MOSI 00 MISO 00|67-81 spi-1: MOSI 00 MISO AA|83-97 spi-1: MOSI 00 MISO 55|98-98 spi-1: Deselect|
+[--rate 1000 uart:rx=D0:baud=300] 01010101000000010101000000000000000000000000000000000001010100000000010101010101 > 0 >  > 4-35 uart-1: 41|
+[--rate 1000 uart:rx=D0:baud=250:parity=odd] 010100000000000000000000000000000000000000000000000000000000000000000000000000000000010101010000000000000000000000000000000000000000000000000000000000000000000000000000000000000000000000000000000000000101 > 0 >  > 2-44 uart-1: 00|2-44 uart-1: Parity error|46-88 uart-1: 00|46-88 uart-1: Parity error|46-88 uart-1: Frame error|46-100 uart-1: Break|
+[--rate 1000 uart:rx=D0:baud=100] 010100000101010101010101010101010101010101 > 0 >  > 2-7 uart-1: False start|
+[--rate 1000000000000000 uart:rx=D0:baud=1] 010001 > 0 >  > 
+[--rate 20000000 uart:rx=D0:baud=10000000] 01 > 0 >  > 
+[--rate 1000000000000000/1000000000 uart:rx=D0:baud=500000] 01 > 0 >  > ";
+
+// Words, stacks and channels that are refused: nothing is read, though there are samples.
+pub const REFUSALS: &str = "\
+[--rat 5] 00 > 1 > ldecode: word 0 at 0: Unknown| > 
+[--ring 0 uart:rx=D0] 00 > 1 > ldecode: word 1 at 0: Range| > 
+[] 00 > 1 > ldecode: word 0 at 0: Few| > 
+[--job find D0=q] 00 > 1 > ldecode: word 2 at 3: Cond| > 
+[--job find D0=r,D1] 00 > 1 > ldecode: word 2 at 5: Cond| > 
+[--job find D0=r --job=find] 00 > 1 > ldecode: word 3 at 0: Repeat| > 
+[can:rx=D0] 00 > 1 > ldecode: stack word 0 at 0: Unknown| > 
+[spi:sck=D0:cs=D2] 00 > 1 > ldecode: stack word 0 at 0: Missing| > 
+[i2c:scl=D0:sda=D1,spi:sck=D0:mosi=D1] 00 > 1 > ldecode: stack word 0 at 18: Mismatch| > 
+[uart:rx=D0:parity=mark] 00 > 1 > ldecode: stack word 0 at 11: Value| > 
+[uart:rx=D0:bits=10] 00 > 1 > ldecode: stack word 0 at 11: Range| > 
+[--rate 1000 uart:rx=D0] 00 > 1 > ldecode: entry 0 item 0: Rate| > 
+[--rate 19999999 uart:rx=D0:baud=10000000] 00 > 1 > ldecode: entry 0 item 0: Rate| > 
+[--rate 1000000000000000/1000000000 uart:rx=D0:baud=500001] 00 > 1 > ldecode: entry 0 item 0: Rate| > 
+[spi:sck=D0:miso=D9] 00 > 1 > ldecode: entry 0 item 2: Unknown| > 
+[i2c:scl=D0:sda=D1 i2c:scl=D2:sda=D3,i2c:scl=D0:sda=D1] 00 > 1 > ldecode: stack word 1 at 18: Mismatch| > 
+[--show i2c-1,i2c-2 i2c:scl=D0:sda=D1] 00 > 1 > ldecode: stack word 1 at 6: Unknown| > 
+[i2c:scl=D0:sda=D9] 00 > 1 > ldecode: entry 0 item 1: Unknown| > 
+[i2c:scl=D0:sda=D1 i2c:scl=D8:sda=D9] 00 > 1 > ldecode: entry 1 item 0: Unknown| > 
+[--job find D9=h] 00 > 1 > ldecode: entry 0 item 0: Unknown| > 
+[--job find D0=r D1=h,skip=3,D8=l] 00 > 1 > ldecode: entry 1 item 2: Unknown| > ";
+
+// What a run of these words over these samples gives: the exit status, the notices and what is written.
+// Reads take `length` bytes and writes `most`; those of these numbers fail; there is room for so many bytes.
+fn run(
+    alloc: Global,
+    words: &str,
+    samples: &str,
+    length: usize,
+    read_fails: &[u64],
+    most: usize,
+    write_fails: &[u64],
+    room: usize,
+) -> Result<String, Fail>
+    requires { (1 ≤ length) × (1 ≤ most) }
+{
+    let mut texts = Vec::new(alloc);
+    for word in words.split_whitespace() {
+        texts.push(String::from_str(alloc, word)?)?;
+    }
+    let bytes = bytes_of(alloc, samples)?;
+    let mut source = source_of(alloc, &bytes, length, read_fails)?;
+    let mut sink = MemSink::new(alloc, most, write_fails.to_vec(alloc)?, room)?;
+    let mut notices = MemSink::new(alloc, AMPLE, Vec::new(alloc), AMPLE)?;
+    let status = run_here(alloc, &texts, &mut source, &mut sink, &mut notices);
+    told(alloc, exit_code(&status), notices.written(), sink.written())
+}
+
+fn told(alloc: Global, code: u8, notices: &[u8], written: &[u8]) -> Result<String, Fail> {
+    let notices = barred(alloc, notices)?;
+    let written = barred(alloc, written)?;
+    Ok(format!(in alloc; "{code} > {notices} > {written}")?)
+}
+
+/// Whether a run gives what its row says, where these reads fail.
+pub fn holds(alloc: Global, row: &str, read_fails: &[u64]) -> Result<bool, Fail> {
+    let (_, words, behind) = parts_of(row);
+    let (samples, want) = behind.split_once("> ").unwrap_or(("", ""));
+    let told = run(alloc, words, samples, AMPLE, read_fails, AMPLE, &[], AMPLE)?;
+    Ok(told.as_str() == want)
+}
+
+#[test]
+fn any_cut_of_the_input_gives_the_same(rt: HostRuntime) -> Result<(), Fail> {
+    let alloc = rt.alloc();
+    for length in 1..10 {
+        for most in 1..4 {
+            let rises = run(alloc, SEARCH, CAPTURE, length, &[], most, &[], AMPLE)?;
+            assert!(rt; is_front(rises.as_str(), "0 >  > ", RISES, 63));
+            let notes = run(alloc, BUS, WRITE_OF_50, length, &[], most, &[], AMPLE)?;
+            assert!(rt; is_front(notes.as_str(), "0 >  > ", LISTING, 82));
+        }
+    }
+    Ok(())
+}
+
+// A read that fails, in pieces of 1 to 9 bytes, the first to the one behind all.
+#[test]
+fn an_interrupted_source_loses_nothing(rt: HostRuntime) -> Result<(), Fail> {
+    let alloc = rt.alloc();
+    let head = "2 > ldecode: read fault| > ";
+    for length in 1..10 {
+        for number in 0..41 {
+            let before = number * length;
+            if before < 40 + length {
+                let gave = run(
+                    alloc,
+                    SEARCH,
+                    CAPTURE,
+                    length,
+                    &[number as u64],
+                    1,
+                    &[],
+                    AMPLE,
+                )?;
+                assert!(rt;
+                    is_front(gave.as_str(), head, RISES, settled(before)),
+                    "{before}"
+                );
+            }
+            if before < 23 + length {
+                let gave = run(
+                    alloc,
+                    BUS,
+                    WRITE_OF_50,
+                    length,
+                    &[number as u64],
+                    1,
+                    &[],
+                    AMPLE,
+                )?;
+                assert!(rt;
+                    is_front(gave.as_str(), head, LISTING, decoded(before)),
+                    "{before}"
+                );
+            }
+        }
+    }
+    Ok(())
+}
+
+#[test]
+fn a_failed_write_leaves_a_front(rt: HostRuntime) -> Result<(), Fail> {
+    let alloc = rt.alloc();
+    let head = "4 > ldecode: write fault| > ";
+    for number in 0..82 {
+        if number < 63 {
+            let gave = run(alloc, SEARCH, CAPTURE, 7, &[], 1, &[number as u64], AMPLE)?;
+            assert!(rt; is_front(gave.as_str(), head, RISES, number), "{number}");
+        }
+        let gave = run(alloc, BUS, WRITE_OF_50, 7, &[], 1, &[number as u64], AMPLE)?;
+        assert!(rt; is_front(gave.as_str(), head, LISTING, number), "{number}");
+    }
+    // No room for the last byte.
+    let gave = run(alloc, BUS, WRITE_OF_50, 7, &[], AMPLE, &[], 81)?;
+    assert!(rt; is_front(gave.as_str(), head, LISTING, 81));
+    Ok(())
+}
+
+#[test]
+fn tells_failures_of_source_and_sink(rt: HostRuntime) -> Result<(), Fail> {
+    let alloc = rt.alloc();
+    let row = "[--job find D0=h] 01 > 2 > ldecode: read fault| > ";
+    assert!(rt; holds(alloc, row, &[0])?);
+    let gave = run(alloc, "--job find D0=h", "01", 1, &[], AMPLE, &[0], AMPLE)?;
+    assert_eq!(rt; gave.as_str(), "4 > ldecode: write fault| > ");
+    let words = "--threads no i2c:scl=D0:sda=D1";
+    let gave = run(alloc, words, WRITE_OF_50, 1, &[10], AMPLE, &[], AMPLE)?;
+    assert_eq!(rt;
+        gave.as_str(),
+        "2 > ldecode: read fault| > 1-1 i2c-1: Start|"
+    );
+    let gave = run(alloc, BUS, WRITE_OF_50, AMPLE, &[], 1, &[5], AMPLE)?;
+    assert_eq!(rt; gave.as_str(), "4 > ldecode: write fault| > 1-1 i");
+    let fault = Status::Capture(CaptureFault::Bytes);
+    assert!(rt; exit_code(&fault) == 3 && exit_code(&Status::NoMemory) == 5);
+    Ok(())
+}

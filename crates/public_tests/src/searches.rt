@@ -1,0 +1,175 @@
+// Searches through the public calls, worked out by hand.
+ghost use Rattle.std.specs.Prelude.{◌≤◌, length};
+ghost use Rattle.wait_cond.specs.Binding.{AllBelow, Distinct};
+
+use crate::rows::{barred, is_front, parts_of, source_of};
+use capture_any::{Capture, Form};
+use find_job::{find, find_buffered};
+use la_base::{Names, Pins, Rate};
+use la_io::{MemSink, MemSource};
+use std::alloc::Global;
+use std::test::Fail;
+use wait_cond::{Alt, Cond, bind_alt, read_alt};
+
+// More than any test writes.
+const AMPLE: usize = 4096;
+
+// D0 rises at 1; D1 is high from 2 on.
+static SAMPLES: [u8; 5] = [0x00, 0x01, 0x03, 0x03, 0x02];
+
+const WORDS: &str = "D0=r D1=h skip=2";
+
+const LINES: &str = "1: 0,2|2: 1|3: 1|4: 1|";
+
+// What conditions give over these samples.
+pub const CONDITIONS: &str = "\
+[any] 0: 0|1: 0|2: 0|3: 0|4: 0|
+[skip=3] 2: 0|
+[D0=s] 0: 0|2: 0|3: 0|
+[D0=e D1=e] 1: 0|2: 1|4: 0|
+[D0=h,D1=h] 2: 0|3: 0|
+[D1=r,D0=r]
+[D1=l D1=l D0=f] 0: 0,1|1: 0,1|4: 2|
+[D0=h,skip=3 D7=l,skip=2] 1: 1|3: 1|";
+
+// How many bytes of the lines the first so many samples give.
+fn settled(samples: usize) -> usize {
+    match samples {
+        0..=1 => 0,
+        2 => 7,
+        3 => 12,
+        4 => 17,
+        _ => 22,
+    }
+}
+
+// One alternative, bound to channels.
+fn bound(alloc: Global, word: &str, names: &Names, pins: &mut Pins) -> Result<Alt, Fail>
+    requires { Distinct pins.old.items }
+    ensures distinct { Distinct pins.new.items }
+    ensures below { AllBelow (length names.now) pins.old.items → AllBelow (length names.now) pins.new.items }
+{
+    if word.len() > 4096 {
+        return Err("a long word".into());
+    }
+    let Ok(words) = read_alt(alloc, word) else {
+        return Err("a fault".into());
+    };
+    match bind_alt(&words, names, pins) {
+        Ok(alt) => Ok(alt),
+        Err(_) => Err("no channel".into()),
+    }
+}
+
+// A condition of these alternatives, between blanks.
+fn condition(alloc: Global, words: &str, names: &Names, pins: &mut Pins) -> Result<Cond, Fail>
+    requires distinct { Distinct pins.old.items }
+    requires below { AllBelow (length names.now) pins.old.items }
+    ensures { AllBelow (length names.now) pins.new.items }
+{
+    let mut words = words.split(' ');
+    let Some(first) = words.next() else {
+        return Err("no alternative".into());
+    };
+    let mut cond = Cond::one(bound(alloc, first, names, pins)?);
+    for word in words {
+        let alt = bound(alloc, word, names, pins)?;
+        if cond.count() < 8 {
+            cond.add(alt);
+        }
+    }
+    Ok(cond)
+}
+
+// How a search of a capture of so many channels ends, and what it writes.
+fn search(
+    alloc: Global,
+    words: &str,
+    channels: u32,
+    mut source: MemSource,
+    mut sink: MemSink,
+    buffered: bool,
+) -> Result<String, Fail>
+    requires { (1 ≤ channels) × (channels ≤ 64) }
+{
+    let rate = Rate {
+        num: 1_000_000,
+        den: 1,
+    };
+    let mut capture = Capture::open(alloc, Form::Raw { channels, rate }, &mut source)?;
+    let mut pins = Pins::new();
+    let cond = condition(alloc, words, capture.names(), &mut pins)?;
+    capture.select(pins);
+    let end = if buffered {
+        find_buffered(&mut capture, cond, &mut source, &mut sink)
+    } else {
+        find(&mut capture, cond, &mut source, &mut sink)
+    };
+    let written = barred(alloc, sink.written())?;
+    Ok(format!(in alloc; "{end:?} {written}")?)
+}
+
+// A search of the samples, in reads of `length` bytes and writes of `most`, where these calls fail.
+fn search_in_parts(
+    alloc: Global,
+    words: &str,
+    channels: u32,
+    length: usize,
+    read_fails: &[u64],
+    most: usize,
+    write_fails: &[u64],
+    buffered: bool,
+) -> Result<String, Fail>
+    requires channels { (1 ≤ channels) × (channels ≤ 64) }
+    requires parts { (1 ≤ length) × (1 ≤ most) }
+{
+    let source = source_of(alloc, &SAMPLES, length, read_fails)?;
+    let sink = MemSink::new(alloc, most, write_fails.to_vec(alloc)?, AMPLE)?;
+    search(alloc, words, channels, source, sink, buffered)
+}
+
+/// Whether a search gives what its row says.
+pub fn holds(alloc: Global, row: &str) -> Result<bool, Fail> {
+    let (_, words, want) = parts_of(row);
+    let told = search_in_parts(alloc, words, 8, 2, &[], AMPLE, &[], true)?;
+    Ok(told.as_str().strip_prefix("Done ") == Some(want))
+}
+
+#[test]
+fn the_lines_of_all_stops_however_the_capture_is_cut(rt: HostRuntime) -> Result<(), Fail> {
+    let alloc = rt.alloc();
+    for buffered in [true, false] {
+        for length in 1..7 {
+            for most in 1..4 {
+                let told = search_in_parts(alloc, WORDS, 8, length, &[], most, &[], buffered)?;
+                assert!(rt; is_front(told.as_str(), "Done ", LINES, 22));
+            }
+        }
+    }
+    Ok(())
+}
+
+#[test]
+fn a_failure_leaves_a_front(rt: HostRuntime) -> Result<(), Fail> {
+    let alloc = rt.alloc();
+    for buffered in [true, false] {
+        for number in 0..6 {
+            let told = search_in_parts(alloc, WORDS, 8, 1, &[number as u64], 2, &[], buffered)?;
+            assert!(rt;
+                is_front(told.as_str(), "Read ", LINES, settled(number)),
+                "{number}"
+            );
+        }
+        for number in 0..22 {
+            let told = search_in_parts(alloc, WORDS, 8, 2, &[], 1, &[number as u64], buffered)?;
+            assert!(rt;
+                is_front(told.as_str(), "Write ", LINES, number),
+                "{number}"
+            );
+        }
+        // Two whole units, and one byte of a third.
+        let told = search_in_parts(alloc, "D8=h", 16, 1, &[], 2, &[], buffered)?;
+        assert_eq!(rt; told.as_str(), "Fault(ShortUnit { at: 4 }) 0: 0|1: 0|");
+    }
+    Ok(())
+}
