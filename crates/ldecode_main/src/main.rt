@@ -4,19 +4,12 @@
 ghost use Rattle.std.specs.Prelude.{◌≡◌};
 ghost use Rattle.std.specs.Process.{exit_status};
 
-mod help;
-mod program;
-mod request;
-
 use la_io::{StdSink, StdSource};
-use program::program;
+use ldecode_program::program;
 use std::alloc::{AllocError, Global};
 use std::env::{self, Args};
 use std::io::Write;
 use std::process::ExitCode;
-
-#[cfg(test)]
-mod tests;
 
 /// The exit status where the system gives no words.
 const NO_WORDS: u8 = 6;

@@ -9,6 +9,8 @@ mod command_words;
 #[cfg(test)]
 mod lines;
 #[cfg(test)]
+mod programs;
+#[cfg(test)]
 mod rows;
 #[cfg(test)]
 mod runs;

@@ -4,10 +4,10 @@ use Rattle.decoder_set.specs.declared.kinds.Kind.TheVariants.{I2c}
 use Rattle.decoder_set.specs.declared.table.TheConstants.{KINDS}
 use Rattle.words.specs.declared.options.Name.TheVariants.{Job}
 use Rattle.words.specs.declared.options.TheConstants.{OPTIONS}
-use Rattle.ldecode_main.specs.declared.help.TheConstants.{DECODERS, EXAMPLES, USAGE}
-use Rattle.ldecode_main.specs.Help.{TellsEach, TellsKind, TellsOption}
-use Rattle.ldecode_main.proofs.Telling.{tells_next}
-use Rattle.ldecode_main.proofs.help.help_text.Goals as goal
+use Rattle.ldecode_program.specs.declared.help.TheConstants.{DECODERS, EXAMPLES, USAGE}
+use Rattle.ldecode_program.specs.Help.{TellsEach, TellsKind, TellsOption}
+use Rattle.ldecode_program.proofs.Telling.{tells_next}
+use Rattle.ldecode_program.proofs.help.help_text.Goals as goal
 
 pub loop-name-preserved : goal.loop-name-preserved
 loop-name-preserved c =

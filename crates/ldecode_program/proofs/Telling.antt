@@ -1,7 +1,7 @@
 -- One more that a text tells.
 use Rattle.std.proofs.Common.{ℕ, ◌+◌, ◌<◌, List, [], ◌∷◌, ◌++◌, length, take, get_or, Result, Ok, Err, refl, sym, ◌∙◌, ap, subst, append_assoc, IfOk}
 use Rattle.std.proofs.lemmas.List.{append-nil, take_more}
-use Rattle.ldecode_main.specs.Help.{TellsEach}
+use Rattle.ldecode_program.specs.Help.{TellsEach}
 
 tells_more : {A : Type 0} (Tells : A → List ℕ → Type 0) (xs : List A) (x : A) (told part : List ℕ) → TellsEach Tells xs told → Tells x part → TellsEach Tells (xs ++ x ∷ []) (told ++ part)
 tells_more Tells [] x told part none tells = (part, [], ap (λ (l : List ℕ). l ++ part) none ∙ sym (append-nil part), tells, refl)

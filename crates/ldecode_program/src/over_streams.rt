@@ -4,10 +4,10 @@ ghost use Rattle.std.specs.String.{string_bytes};
 ghost use Rattle.decoder_set.specs.declared.table.TheConstants.{KINDS};
 ghost use Rattle.words.specs.declared.options.TheConstants.{OPTIONS};
 ghost use Rattle.ldecode.specs.Headline.{stream};
-ghost use Rattle.ldecode_main.specs.Help.{IsHelp};
-ghost use Rattle.ldecode_main.specs.Programs.{Does, MadeWritten, TextWritten};
-ghost use Rattle.ldecode_main.specs.Requests.{requested};
-ghost use Rattle.ldecode_main.specs.declared.help.TheConstants.{DECODERS, EXAMPLES, USAGE, VERSION};
+ghost use Rattle.ldecode_program.specs.Help.{IsHelp};
+ghost use Rattle.ldecode_program.specs.Programs.{Does, MadeWritten, TextWritten};
+ghost use Rattle.ldecode_program.specs.Requests.{requested};
+ghost use Rattle.ldecode_program.specs.declared.help.TheConstants.{DECODERS, EXAMPLES, USAGE, VERSION};
 
 use crate::help::{VERSION, help_text};
 use crate::request::{Request, request_of};

@@ -4,8 +4,8 @@ ghost use Rattle.std.specs.String.{string_bytes};
 ghost use Rattle.decoder_set.specs.Kinds.{kind_row};
 ghost use Rattle.decoder_set.specs.declared.table.TheConstants.{KINDS};
 ghost use Rattle.words.specs.declared.options.TheConstants.{OPTIONS};
-ghost use Rattle.ldecode_main.specs.Help.{IsHelp, TellsKind, TellsOption, option_lines};
-ghost use Rattle.ldecode_main.specs.declared.help.TheConstants.{USAGE, DECODERS, EXAMPLES};
+ghost use Rattle.ldecode_program.specs.Help.{IsHelp, TellsKind, TellsOption, option_lines};
+ghost use Rattle.ldecode_program.specs.declared.help.TheConstants.{USAGE, DECODERS, EXAMPLES};
 
 use decoder_set::{KINDS, Kind, OptForm, kind_name, options_of};
 use std::alloc::{AllocError, Global};

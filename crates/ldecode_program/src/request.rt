@@ -1,7 +1,7 @@
 // What the words ask of the program.
 ghost use Rattle.std.specs.Prelude.{◌≡◌, map};
 ghost use Rattle.std.specs.String.{string_bytes};
-ghost use Rattle.ldecode_main.specs.Requests.{requested};
+ghost use Rattle.ldecode_program.specs.Requests.{requested};
 
 /// What the words ask of the program.
 #[derive(Clone, Copy, Debug, PartialEq, Eq)]

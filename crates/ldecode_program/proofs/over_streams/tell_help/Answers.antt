@@ -1,8 +1,8 @@
 use Rattle.std.proofs.Common.{ℕ, List, inl, subst}
 use Rattle.std.specs.String.{string_bytes}
 use Rattle.ldecode.specs.Headline.{stream}
-use Rattle.ldecode_main.specs.Programs.{TextWritten}
-use Rattle.ldecode_main.proofs.program.tell_help.Goals as goal
+use Rattle.ldecode_program.specs.Programs.{TextWritten}
+use Rattle.ldecode_program.proofs.over_streams.tell_help.Goals as goal
 
 pub returns-in-Ok : goal.returns-in-Ok
 returns-in-Ok g c = inl (

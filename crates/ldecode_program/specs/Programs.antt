@@ -6,8 +6,8 @@ use Rattle.ldecode.specs.Headline.{DidFail, Headline, Stream}
 use Rattle.ldecode.specs.Notices.{code_of}
 use Rattle.ldecode.specs.declared.status.Status.{Status}
 use Rattle.ldecode.specs.declared.status.Status.TheVariants as status
-use Rattle.ldecode_main.specs.declared.request.Request.{Request}
-use Rattle.ldecode_main.specs.declared.request.Request.TheVariants.{Help, Version, Run}
+use Rattle.ldecode_program.specs.declared.request.Request.{Request}
+use Rattle.ldecode_program.specs.declared.request.Request.TheVariants.{Help, Version, Run}
 
 -- a text was written whole; or the sink failed, and a front of it was
 abbrev pub TextWritten : List ℕ → Stream → ℕ → Type 0

@@ -1,0 +1,134 @@
+// The program through its public calls.
+use la_io::{MemSink, MemSource};
+use ldecode_program::{VERSION, help_text, program, request_of};
+use std::alloc::Global;
+use std::test::Fail;
+
+// Words, and what the first of them asks for.
+const REQUESTS: &str = "\
+--help > Help
+--help --job find D0=r > Help
+--version > Version
+ > Run
+--job find --help > Run
+i2c:scl=D0:sda=D1 --version > Run
+--helps > Run
+--help= > Run
+-help > Run";
+
+// Lines of the help.
+const HELP: &str = "  --job
+      values: decode, find; usual: decode
+  --format
+      values: raw; usual: raw
+  --channels
+      values: 1 to 64; usual: 8
+  --rate
+  --threads
+      values: yes, no; usual: yes
+  --ring
+      values: 1 to 16384; usual: 256
+  --show
+  i2c
+      scl: a channel, required
+      sda: a channel, required";
+
+// How a line of the help begins that is an example.
+const EXAMPLE: &str = "    ldecode ";
+
+// Words, the bytes of a capture, and what comes of them: the exit status, the notices, and what is written. A
+// semicolon stands between rows.
+const RUNS: &str = "\
+--version <  > 0 >  > ldecode 0.1.0
+;--job find D0=r < 01 > 0 >  > 1: 0
+;--rat 5 <  > 1 > ldecode: word 0 at 0: Unknown
+ > ;i2c-1 <  > 1 > ldecode: stack word 0 at 0: NoParent
+ > ;--job find D9=h < 0 > 1 > ldecode: entry 0 item 0: Unknown
+ > ;--job find --channels 9 D0=h < 111 > 3 > ldecode: capture at 2: ShortUnit
+ > 0: 0
+";
+
+// The same where the first write fails.
+const FAILURES: &str = "\
+--help <  > 4 >  > ;--version x <  > 4 >  > ;--job find D0=r < 01 > 4 > ldecode: write fault
+ > ";
+
+// The words of a text up to a `<`.
+fn words_of(alloc: Global, text: &str) -> Result<Vec<String>, Fail> {
+    let mut words = Vec::new(alloc);
+    for word in text.split_whitespace() {
+        if word == "<" {
+            break;
+        }
+        words.push(String::from_str(alloc, word)?)?;
+    }
+    Ok(words)
+}
+
+// What comes of the words of a text over a capture of these bytes, where these writes fail.
+fn run(alloc: Global, text: &str, bytes: &str, fails: &[u64]) -> Result<String, Fail> {
+    let mut pieces = Vec::new(alloc);
+    pieces.push(bytes.as_bytes().to_vec(alloc)?)?;
+    let mut source = MemSource::new(pieces, Vec::new(alloc));
+    let mut sink = MemSink::new(alloc, 4_096, fails.to_vec(alloc)?, 4_096)?;
+    let mut notices = MemSink::new(alloc, 256, Vec::new(alloc), 256)?;
+    let words = words_of(alloc, text)?;
+    let code = program(alloc, &words, &mut source, &mut sink, &mut notices);
+    let noticed = String::from_utf8_lossy(alloc, notices.written())?;
+    let wrote = String::from_utf8_lossy(alloc, sink.written())?;
+    Ok(format!(in alloc; "{code} > {noticed} > {wrote}")?)
+}
+
+// Whether a run gives what its row says, where these writes fail.
+fn holds(alloc: Global, row: &str, fails: &[u64]) -> Result<bool, Fail> {
+    let (words, rest) = row.split_once(" < ").unwrap_or(("", ""));
+    let (bytes, want) = rest.split_once(" > ").unwrap_or(("", ""));
+    Ok(run(alloc, words, bytes, fails)?.as_str() == want)
+}
+
+#[test]
+fn the_exit_status_is_that_of_the_run(rt: HostRuntime) -> Result<(), Fail> {
+    let alloc = rt.alloc();
+    for row in RUNS.split(';') {
+        assert!(rt; holds(alloc, row, &[])?, "{row}");
+    }
+    for row in FAILURES.split(';') {
+        assert!(rt; holds(alloc, row, &[0])?, "{row}");
+    }
+    Ok(())
+}
+
+#[test]
+fn the_first_word_alone_asks_for_help(rt: HostRuntime) -> Result<(), Fail> {
+    let alloc = rt.alloc();
+    for row in REQUESTS.split('\n') {
+        let (words, want) = row.split_once(" > ").unwrap_or(("", ""));
+        let asked = request_of(&words_of(alloc, words)?);
+        assert!(rt; format!(in alloc; "{asked:?}")?.as_str() == want, "{row}");
+    }
+    Ok(())
+}
+
+#[test]
+fn the_help_tells_options_decoders_and_examples_that_run(rt: HostRuntime) -> Result<(), Fail> {
+    let alloc = rt.alloc();
+    let text = help_text(alloc)?;
+    for row in HELP.split('\n') {
+        assert!(rt; text.as_str().split('\n').any(|line| line == row), "{row}");
+    }
+    let told = run(alloc, "--help", "", &[])?;
+    assert!(rt; told.as_str().strip_prefix("0 >  > ") == Some(text.as_str()));
+    let mut any = false;
+    for line in text.as_str().split('\n') {
+        if let Some(example) = line.strip_prefix(EXAMPLE) {
+            any = true;
+            assert!(rt;
+                run(alloc, example, "", &[])?.as_str() == "0 >  > ",
+                "{example}"
+            );
+        }
+    }
+    assert!(rt; any);
+    assert_eq!(rt; VERSION, "ldecode 0.1.0\n");
+    Ok(())
+}
