@@ -4,11 +4,7 @@
 mod held;
 mod machine;
 mod outputs;
-#[cfg(test)]
-mod plain;
 mod steps;
-#[cfg(test)]
-mod tests;
 mod texts;
 
 use held::{Role, Segment};

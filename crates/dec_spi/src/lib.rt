@@ -9,11 +9,7 @@ mod machine;
 mod opening;
 mod options;
 mod outputs;
-#[cfg(test)]
-mod plain;
 mod stops;
-#[cfg(test)]
-mod tests;
 mod texts;
 mod words;
 

@@ -7,12 +7,8 @@ mod machine;
 mod opening;
 mod options;
 mod outputs;
-#[cfg(test)]
-mod plain;
 mod points;
 mod steps;
-#[cfg(test)]
-mod tests;
 mod texts;
 
 use held::Held;

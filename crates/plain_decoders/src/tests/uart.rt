@@ -1,10 +1,10 @@
-// Lines whose outputs are worked by hand, and lines on which the decoder is compared with the plain program.
 ghost use Rattle.std.specs.Prelude.{◌≤◌, ◌^◌};
 
-use crate::plain::{Told, told_of};
-use crate::{Uart, UartOpts, text};
-use decoder_core::{Driver, Machine, OptFault, Outs};
-use la_base::{Feed, Note, Out, Rate, Run};
+use super::feeding::{Told, decoded, runs_of};
+use crate::uart::{near_of, outputs_of};
+use dec_uart::{Line, Uart, UartOpts, text};
+use decoder_core::OptFault;
+use la_base::{Note, Out, Rate, Run, Word};
 use line_text::LineBuf;
 use std::alloc::{AllocError, Global};
 use std::process::Abort;
@@ -24,79 +24,35 @@ fn line(baud: u64, bits: u64, parity: u64, stop: u64) -> UartOpts {
     }
 }
 
-// Feeds a driver with a run, and adds what it gives to `all`.
-fn feed(driver: &mut Driver<Uart>, run: Run, all: &mut Vec<Out>) -> Result<(), AllocError> {
-    let mut outs = Outs::new();
-    let mut left = Some(Feed::Run(run));
-    // each step takes a sample at least
-    for _ in 0..run.len {
-        match left {
-            Some(feed) => {
-                outs.clear();
-                left = driver.step(feed, &mut outs);
-                all.extend_from_slice(outs.list())?;
-            }
-            None => break,
-        }
-    }
-    Ok(())
-}
+fn is_send<T: Send>(_: &T) {}
 
-// All outputs of a line that is fed in runs of at most so many samples, and the floor behind it. The other lines of
-// a sample are high.
-fn decoded(
-    alloc: Global,
-    opts: UartOpts,
-    rate: Rate,
-    levels: &[bool],
-    most: u64,
-) -> Result<Told, Fail>
-    requires { rate.num ≤ 10 ^ 15 }
-{
-    let mut outs = Vec::new(alloc);
-    let mut driver = match Uart::open(opts, rate) {
-        Ok(machine) => Driver::new(machine),
-        Err(_) => return Err("not opened".into()),
-    };
-    let mut open: Option<Run> = None;
-    for level in levels {
-        let value = u64::MAX - u64::from(!*level);
-        let mut len = 1;
-        if let Some(run) = open {
-            if run.value == value && run.len < most {
-                len = run.len.saturating_add(1);
-            } else {
-                feed(&mut driver, run, &mut outs)?;
-            }
-        }
-        open = Some(Run { value, len });
-    }
-    if let Some(run) = open {
-        feed(&mut driver, run, &mut outs)?;
-    }
-    Ok(Told {
-        outs,
-        near: driver.floor(),
-    })
-}
-
-// Checks that the decoder gives what the plain program gives, however the line is cut into runs, and answers it.
+// What the decoder gives of samples, which has to be what the plain program gives, however they are cut into runs.
 fn check(
     rt: &impl Abort,
     alloc: Global,
     opts: UartOpts,
     rate: Rate,
-    levels: &[bool],
+    samples: &[Word],
 ) -> Result<Told, Fail>
     requires { rate.num ≤ 10 ^ 15 }
 {
-    let want = told_of(alloc, opts, rate, levels)?;
+    let mut last = Told {
+        outs: Vec::new(alloc),
+        near: 0,
+    };
     for most in [1, 3, u64::MAX] {
-        let told = decoded(alloc, opts, rate, levels, most)?;
-        assert!(rt; told.outs.as_slice() == want.outs.as_slice());
-        assert!(rt; told.near == want.near);
+        match Uart::open(opts, rate) {
+            Ok(machine) => {
+                is_send(&machine);
+                last = decoded(alloc, machine, &runs_of(alloc, samples, most)?)?;
+            }
+            Err(_) => return Err("not opened".into()),
+        }
+        let line = Line { opts, rate };
+        assert!(rt; last.outs.as_slice() == outputs_of(alloc, line, samples)?.as_slice());
+        assert!(rt; last.near == near_of(alloc, line, samples)?);
     }
-    Ok(want)
+    Ok(last)
 }
 
 // What a line says: the span and the text of each note, each piece behind a point, the values of each packet behind a
@@ -197,29 +153,34 @@ fn numbers_of(settings: &str) -> [u64; 5] {
     numbers
 }
 
-// The levels of a row, each so many times.
-fn levels_of(alloc: Global, wave: &str, times: u64) -> Result<Vec<bool>, AllocError> {
-    let mut levels = Vec::new(alloc);
+// A sample in which line 0 has a level and the other lines are high.
+fn sample(level: bool) -> Word {
+    if level { u64::MAX } else { u64::MAX - 1 }
+}
+
+// The samples of a row, each level so many times.
+fn samples_of(alloc: Global, wave: &str, times: u64) -> Result<Vec<Word>, AllocError> {
+    let mut samples = Vec::new(alloc);
     for letter in wave.bytes() {
         if letter != b' ' {
             for _ in 0..times {
-                levels.push(letter == b'1')?;
+                samples.push(sample(letter == b'1'))?;
             }
         }
     }
-    Ok(levels)
+    Ok(samples)
 }
 
 // What a row's line says, as the decoder and the plain program have it.
 fn row_says(rt: &impl Abort, alloc: Global, settings: &str, wave: &str) -> Result<Vec<u8>, Fail> {
     let [baud, bits, parity, stop, times] = numbers_of(settings);
-    let levels = levels_of(alloc, wave, times)?;
+    let samples = samples_of(alloc, wave, times)?;
     let told = check(
         rt,
         alloc,
         line(baud, bits, parity, stop),
         KILOHERTZ,
-        &levels,
+        &samples,
     )?;
     Ok(said(alloc, &told)?)
 }
@@ -248,93 +209,81 @@ fn a_bit_a_second_at_the_highest_rate(rt: HostRuntime) -> Result<(), Fail> {
         num: second,
         den: 1,
     };
-    let mut told = Told {
-        outs: Vec::new(rt.alloc()),
-        near: 0,
-    };
-    if let Ok(machine) = Uart::open(line(1, 8, 0, 1), rate) {
-        let mut driver = Driver::new(machine);
-        for (value, len) in [(1, 10), (0, 10 * second), (1, 7)] {
-            feed(&mut driver, Run { value, len }, &mut told.outs)?;
-        }
-        told.near = driver.floor();
-    }
+    let runs = [
+        Run { value: 1, len: 10 },
+        Run {
+            value: 0,
+            len: 10 * second,
+        },
+        Run { value: 1, len: 7 },
+    ];
     let want =
         " 10-9500000000000010 00 10-9500000000000010 Frame error .00 #0/2 10-10000000000000010 Break #0/0 @10000000000000017";
-    assert_eq!(rt; said(rt.alloc(), &told)?.as_slice(), want.as_bytes());
+    match Uart::open(line(1, 8, 0, 1), rate) {
+        Ok(machine) => {
+            let told = decoded(rt.alloc(), machine, &runs)?;
+            assert_eq!(rt; said(rt.alloc(), &told)?.as_slice(), want.as_bytes());
+        }
+        Err(_) => return Err("not opened".into()),
+    }
     Ok(())
 }
 
-fn fault_of(opts: UartOpts, rate: Rate) -> Option<OptFault>
+// Settings, and what becomes of them: the bit of the line, bits a second, data bits, parity, stop bits, hundredths, and
+// the two numbers of the rate. First each option at the ends of its range and behind them; then rates that are just high
+// enough and just not, among them a million samples a second as a fraction whose parts are as large as they can be.
+const SETTINGS: &str = "\
+63 500 9 4 2 50 1000 1 opens
+64 500 8 0 1 50 1000 1 Range
+0 0 8 0 1 50 1000 1 Range
+0 10000001 8 0 1 50 1000 1 Range
+0 500 4 0 1 50 1000 1 Range
+0 500 10 0 1 50 1000 1 Range
+0 500 8 5 1 50 1000 1 Range
+0 500 8 0 0 50 1000 1 Range
+0 500 8 0 3 50 1000 1 Range
+0 500 8 0 1 0 1000 1 Range
+0 500 8 0 1 100 1000 1 Range
+0 501 8 0 1 50 1000 1 Rate
+0 9600 8 0 1 50 1000 1 Rate
+0 10000000 8 0 1 50 20000000 1 opens
+0 10000000 8 0 1 50 19999999 1 Rate
+0 500000 8 0 1 50 1000000000000000 1000000000 opens
+0 500001 8 0 1 50 1000000000000000 1000000000 Rate
+0 990000 8 0 1 99 1000000000000000 1000000000 opens
+0 990001 8 0 1 99 1000000000000000 1000000000 Rate
+0 10000000 8 0 1 99 1 18446744073709551615 Rate";
+
+// The word for what becomes of options at a rate.
+fn opened(opts: UartOpts, rate: Rate) -> &'static str
     requires { rate.num ≤ 10 ^ 15 }
 {
-    Uart::open(opts, rate).err()
-}
-
-#[test]
-fn options_out_of_range(rt: HostRuntime) {
-    // the bit of the line, bits a second, data bits, parity, stop bits, hundredths
-    for (rx, baud, bits, parity, stop, sp, want) in [
-        (63, 500, 9, 4, 2, 50, None),
-        (64, 500, 8, 0, 1, 50, Some(OptFault::Range)),
-        (0, 0, 8, 0, 1, 50, Some(OptFault::Range)),
-        (0, 10_000_001, 8, 0, 1, 50, Some(OptFault::Range)),
-        (0, 500, 4, 0, 1, 50, Some(OptFault::Range)),
-        (0, 500, 10, 0, 1, 50, Some(OptFault::Range)),
-        (0, 500, 8, 5, 1, 50, Some(OptFault::Range)),
-        (0, 500, 8, 0, 0, 50, Some(OptFault::Range)),
-        (0, 500, 8, 0, 3, 50, Some(OptFault::Range)),
-        (0, 500, 8, 0, 1, 0, Some(OptFault::Range)),
-        (0, 500, 8, 0, 1, 100, Some(OptFault::Range)),
-        (0, 501, 8, 0, 1, 50, Some(OptFault::Rate)),
-        (0, 9600, 8, 0, 1, 50, Some(OptFault::Rate)),
-    ] {
-        let opts = UartOpts {
-            rx,
-            baud,
-            bits,
-            parity,
-            stop,
-            sp,
-        };
-        assert!(rt; fault_of(opts, KILOHERTZ) == want);
+    match Uart::open(opts, rate) {
+        Ok(_) => "opens",
+        Err(OptFault::Range) => "Range",
+        Err(OptFault::Rate) => "Rate",
     }
 }
 
-// A million samples a second, as a fraction whose parts are as large as they can be.
-const MEGAHERTZ: Rate = Rate {
-    num: 1_000_000_000_000_000,
-    den: 1_000_000_000,
-};
-
 #[test]
-fn rates_that_are_just_high_enough(rt: HostRuntime) {
-    let just = Rate {
-        num: 20_000_000,
-        den: 1,
-    };
-    let below = Rate {
-        num: 19_999_999,
-        den: 1,
-    };
-    let lowest = Rate {
-        num: 1,
-        den: u64::MAX,
-    };
-    for (baud, sp, rate, opens) in [
-        (10_000_000, 50, just, true),
-        (10_000_000, 50, below, false),
-        (500_000, 50, MEGAHERTZ, true),
-        (500_001, 50, MEGAHERTZ, false),
-        (990_000, 99, MEGAHERTZ, true),
-        (990_001, 99, MEGAHERTZ, false),
-        (10_000_000, 99, lowest, false),
-    ] {
+fn settings_and_rates(rt: HostRuntime) {
+    for row in SETTINGS.split('\n') {
+        let mut words = row.split(' ');
         let opts = UartOpts {
-            sp,
-            ..line(baud, 8, 0, 1)
+            rx: words.next().unwrap_or("").parse().unwrap_or(0),
+            baud: words.next().unwrap_or("").parse().unwrap_or(0),
+            bits: words.next().unwrap_or("").parse().unwrap_or(0),
+            parity: words.next().unwrap_or("").parse().unwrap_or(0),
+            stop: words.next().unwrap_or("").parse().unwrap_or(0),
+            sp: words.next().unwrap_or("").parse().unwrap_or(0),
         };
-        assert!(rt; fault_of(opts, rate).is_none() == opens);
+        let num: u64 = words.next().unwrap_or("").parse().unwrap_or(0);
+        let den: u64 = words.next().unwrap_or("").parse().unwrap_or(0);
+        let rate = Rate {
+            num: num.clamp(1, 1_000_000_000_000_000),
+            den: den.max(1),
+        };
+        assert!(rt; opened(opts, rate) == words.next().unwrap_or("?"), "{row}");
     }
 }
 
@@ -352,30 +301,20 @@ fn a_class_without_a_text(rt: HostRuntime) {
     assert!(rt; buf.bytes().is_empty());
 }
 
-fn is_send<T: Send>(_: &T) {}
-
-#[test]
-fn a_decoder_can_move_to_another_thread(_rt: HostRuntime) {
-    match Uart::open(line(500, 8, 0, 1), KILOHERTZ) {
-        Ok(machine) => is_send(&machine),
-        Err(_) => {}
-    }
-}
-
 // A sample a bit and a little more, and three samples for two bits.
 const ONE: Rate = Rate { num: 102, den: 100 };
 
 const THREE_FOR_TWO: Rate = Rate { num: 3, den: 2 };
 
 // The binary digits of a number below its highest one, the lowest first: each list of up to 12 levels has its number.
-fn short_line(alloc: Global, number: u32) -> Result<Vec<bool>, AllocError> {
-    let mut levels = Vec::new(alloc);
+fn short_line(alloc: Global, number: u32) -> Result<Vec<Word>, AllocError> {
+    let mut samples = Vec::new(alloc);
     for place in 0..12_u32 {
         if number >> place > 1 {
-            levels.push((number >> place) & 1 == 1)?;
+            samples.push(sample((number >> place) & 1 == 1))?;
         }
     }
-    Ok(levels)
+    Ok(samples)
 }
 
 #[test]
@@ -386,8 +325,8 @@ fn all_short_lists_by_the_plain_program(rt: HostRuntime) -> Result<(), Fail> {
             ..line(1, 5, parity, stop)
         };
         for number in 1..8192 {
-            let levels = short_line(rt.alloc(), number)?;
-            check(&rt, rt.alloc(), opts, rate, &levels)?;
+            let samples = short_line(rt.alloc(), number)?;
+            check(&rt, rt.alloc(), opts, rate, &samples)?;
         }
     }
     Ok(())
@@ -395,17 +334,17 @@ fn all_short_lists_by_the_plain_program(rt: HostRuntime) -> Result<(), Fail> {
 
 // A line whose levels stand for up to two bits of four samples, and at times for a frame and more: numbers that look
 // like chance, from a seed.
-fn line_by_chance(alloc: Global, seed: u32) -> Result<Vec<bool>, AllocError> {
-    let mut levels = Vec::new(alloc);
+fn line_by_chance(alloc: Global, seed: u32) -> Result<Vec<Word>, AllocError> {
+    let mut samples = Vec::new(alloc);
     let mut number = seed;
     for place in 0..60 {
         number = number.wrapping_mul(1_103_515_245).wrapping_add(12345);
         let most = if number & 7 == 0 { 63 } else { 7 };
         for _ in 0..(number >> 16) & most {
-            levels.push(place % 2 == 0)?;
+            samples.push(sample(place % 2 == 0))?;
         }
     }
-    Ok(levels)
+    Ok(samples)
 }
 
 // The classes of notes, each as a bit.
@@ -432,8 +371,8 @@ fn long_lists_by_the_plain_program(rt: HostRuntime) -> Result<(), Fail> {
             sp,
             ..line(baud, 5 + seed % 5, seed / 5 % 5, stop)
         };
-        let levels = line_by_chance(rt.alloc(), seed as u32)?;
-        seen |= classes_of(&check(&rt, rt.alloc(), opts, rate, &levels)?);
+        let samples = line_by_chance(rt.alloc(), seed as u32)?;
+        seen |= classes_of(&check(&rt, rt.alloc(), opts, rate, &samples)?);
     }
     // each class came
     assert_eq!(rt; seen, 31);

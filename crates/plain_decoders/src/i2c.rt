@@ -1,7 +1,7 @@
-// The notes of samples by the standard: a plain program, for tests, that makes the whole list of events, cuts it into
-// segments and these into bytes. Bit 0 of a sample is SCL, bit 1 is SDA.
+// I2C: the whole list of events, cut into parts, and these into bytes. Bit 0 of a sample is SCL, bit 1 is SDA.
 ghost use Rattle.std.specs.Prelude.{is_some};
 
+use la_base::Word;
 use list_cuts::{Test, parts_of};
 use std::alloc::{AllocError, Global};
 
@@ -40,7 +40,7 @@ impl Test<Event> for IsMark {
 }
 
 // The event at a sample, by the one before it.
-fn event_at(place: u64, before: u8, now: u8) -> Option<Event> {
+fn event_at(place: u64, before: Word, now: Word) -> Option<Event> {
     let level = now & 2 == 2;
     let mark = match (before & 1 == 1, now & 1 == 1) {
         (true, true) => match (before & 2 == 2, level) {
@@ -54,7 +54,7 @@ fn event_at(place: u64, before: u8, now: u8) -> Option<Event> {
     Some(Event { place, mark, level })
 }
 
-fn events_of(alloc: Global, samples: &[u8]) -> Result<Vec<Event>, AllocError> {
+fn events_of(alloc: Global, samples: &[Word]) -> Result<Vec<Event>, AllocError> {
     let mut events = Vec::new(alloc);
     let mut before = None;
     for (place, now) in samples.iter().enumerate() {
@@ -216,7 +216,7 @@ fn add_part(known: &mut Known, mark: Event, clocks: &[Event]) -> Result<(), Allo
 }
 
 /// The notes of samples.
-pub fn notes_of(alloc: Global, samples: &[u8]) -> Result<Vec<Told>, AllocError> {
+pub fn notes_of(alloc: Global, samples: &[Word]) -> Result<Vec<Told>, AllocError> {
     let mut known = Known {
         notes: Vec::new(alloc),
         pasts: Vec::new(alloc),

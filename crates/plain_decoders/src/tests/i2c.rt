@@ -1,10 +1,10 @@
 // Samples are scripts of a bus. 0 and 1 are a bit: SCL is low, then high. Behind a 1 or at the front, S is SDA
 // falling while SCL stays high: a START. Behind a 0, P is SDA rising so: a STOP. What is wanted is worked by hand
 // from where they change; at the end the decoder is compared with a plain program. Tables are texts, a row a line.
-use crate::plain::{Told, notes_of};
-use crate::{I2c, I2cOpts, text};
+use crate::i2c::{Told, notes_of};
+use dec_i2c::{I2c, I2cOpts, text};
 use decoder_core::{Driver, Machine, OptFault, Outs};
-use la_base::{Feed, Note, Out, Rate, Run};
+use la_base::{Feed, Note, Out, Rate, Run, Word};
 use line_text::LineBuf;
 use std::alloc::{AllocError, Global};
 use std::process::Abort;
@@ -16,7 +16,7 @@ const RATE: Rate = Rate {
 };
 
 // The samples of a script: line 0 is SCL, line 1 is SDA.
-fn waves_of(alloc: Global, script: &str) -> Result<Vec<u8>, AllocError> {
+fn waves_of(alloc: Global, script: &str) -> Result<Vec<Word>, AllocError> {
     let mut samples = Vec::new(alloc);
     for letter in script.bytes() {
         let (first, second) = match letter {
@@ -39,11 +39,8 @@ fn opened() -> Result<Driver<I2c>, Fail> {
     }
 }
 
-fn sample(value: u8) -> Feed {
-    Feed::Run(Run {
-        value: u64::from(value),
-        len: 1,
-    })
+fn sample(value: Word) -> Feed {
+    Feed::Run(Run { value, len: 1 })
 }
 
 // After each sample: the clock of a byte that isn't given yet, or the number of samples.
@@ -134,7 +131,7 @@ fn texts_of_notes(rt: HostRuntime) -> Result<(), Fail> {
 }
 
 // The decoder's notes of samples, which are given one by one.
-fn decoded(alloc: Global, samples: &[u8]) -> Result<Vec<Told>, Fail> {
+fn decoded(alloc: Global, samples: &[Word]) -> Result<Vec<Told>, Fail> {
     let mut notes = Vec::new(alloc);
     let mut driver = opened()?;
     let mut outs = Outs::new();
@@ -161,7 +158,7 @@ fn add_notes(outs: &[Out], notes: &mut Vec<Told>) -> Result<(), AllocError> {
 }
 
 // Checks that the decoder gives the notes that the plain program gives.
-fn check_notes(rt: &impl Abort, alloc: Global, samples: &[u8]) -> Result<(), Fail> {
+fn check_notes(rt: &impl Abort, alloc: Global, samples: &[Word]) -> Result<(), Fail> {
     let notes = decoded(alloc, samples)?;
     let want = notes_of(alloc, samples)?;
     assert_eq!(rt; notes.as_slice(), want.as_slice(), "{samples:?}");
@@ -185,7 +182,7 @@ fn all_short_lists_by_the_plain_program(rt: HostRuntime) -> Result<(), Fail> {
             let mut samples = Vec::new(rt.alloc());
             let mut rest: u32 = number;
             for _ in 0..len {
-                samples.push((rest % 4) as u8)?;
+                samples.push(Word::from(rest % 4))?;
                 rest /= 4;
             }
             check_notes(&rt, rt.alloc(), &samples)?;
@@ -237,7 +234,7 @@ fn classes_of(alloc: Global, notes: &[Told]) -> Result<String, AllocError> {
 }
 
 // Checks the notes of samples, and of those that are left where one of them is lost.
-fn check_losses(rt: &impl Abort, alloc: Global, samples: &[u8]) -> Result<(), Fail> {
+fn check_losses(rt: &impl Abort, alloc: Global, samples: &[Word]) -> Result<(), Fail> {
     check_notes(rt, alloc, samples)?;
     for lost in 0..samples.len() {
         let mut others = Vec::from_slice(alloc, samples)?;

@@ -1,0 +1,56 @@
+// Decoders that are fed with samples.
+ghost use Rattle.std.specs.Prelude.{[]};
+
+use decoder_core::{Driver, LogicMachine, Machine, Outs};
+use la_base::{Feed, Out, Run, Word};
+use std::alloc::{AllocError, Global};
+
+/// All outputs of some samples, and the floor behind them.
+#[derive(Drop)]
+pub struct Told {
+    pub outs: Vec<Out>,
+    pub near: u64,
+}
+
+/// Samples as runs of at most so many: equal neighbours are one.
+pub fn runs_of(alloc: Global, samples: &[Word], most: u64) -> Result<Vec<Run>, AllocError> {
+    let mut runs: Vec<Run> = Vec::new(alloc);
+    for sample in samples {
+        let value = *sample;
+        match runs.last_mut() {
+            Some(run) if run.value == value && run.len < most => run.len += 1,
+            _ => runs.push(Run { value, len: 1 })?,
+        }
+    }
+    Ok(runs)
+}
+
+/// What a decoder that stands for no samples gives of some runs.
+pub fn decoded<L: LogicMachine + Drop>(
+    alloc: Global,
+    machine: L,
+    runs: &[Run],
+) -> Result<Told, AllocError>
+    requires { L.stands machine [] }
+{
+    let mut all = Vec::new(alloc);
+    let mut driver = Driver::new(machine);
+    let mut outs = Outs::new();
+    for run in runs {
+        let mut feed = Feed::Run(*run);
+        // each step takes a sample at least
+        for _ in 0..run.len {
+            outs.clear();
+            let rest = driver.step(feed, &mut outs);
+            all.extend_from_slice(outs.list())?;
+            match rest {
+                Some(rest) => feed = rest,
+                None => break,
+            }
+        }
+    }
+    Ok(Told {
+        outs: all,
+        near: driver.floor(),
+    })
+}
