@@ -1,0 +1,5 @@
+pub mod Moving
+pub mod TokenLaws
+pub mod Standing
+pub mod Answering
+pub mod Longer
