@@ -39,6 +39,8 @@ impl Tokens {
     }
 
     /// The place of the next token's first byte, or `None` at the end. After a fault there is none.
+    // Inlined, since most tokens are a few bytes that are held.
+    #[inline(always)]
     pub fn next<S: Source>(&mut self, source: &mut S) -> Result<Option<u64>, FeedFault>
         ensures next { Next self.old self.new (S.left source.old) (S.left source.new) result }
         ensures spent { is_spent self.old ≡ true → result ≡ Err Spent }
@@ -77,6 +79,7 @@ impl Tokens {
     }
 
     /// The bytes of the token that the last call of `next` gave.
+    #[inline(always)]
     pub fn text(&self) -> &[u8]
         ensures { result.now ≡ text_of self.now }
     {

@@ -1,0 +1,15 @@
+pub mod Headers
+pub mod Fronts
+pub mod Bodies
+pub mod Longer
+pub mod Stretches
+pub mod Following
+pub mod Levels
+pub mod Running
+pub mod Reading
+pub mod Stepping
+pub mod Declaring
+pub mod Gathering
+pub mod Heads
+pub mod Choosing
+pub mod Given

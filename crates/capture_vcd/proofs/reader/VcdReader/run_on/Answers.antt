@@ -1,0 +1,71 @@
+use Rattle.std.proofs.Common.{◌∙◌, subst, refl, sym, ℕ, List, [], ◌++◌, Ok, Err}
+use Rattle.std.proofs.KnownBytes.{Consumes-trans}
+use Rattle.std.proofs.lemmas.List.{append-nil}
+use Rattle.la_io.specs.Capture.{Told}
+use Rattle.capture_vcd.specs.Reader.{Going, StepAnswers}
+use Rattle.capture_vcd.specs.declared.reader.Step.TheVariants.{Gave, Over}
+use Rattle.capture_vcd.proofs.Stepping.{chained, consumes_none, same_on}
+use Rattle.capture_vcd.proofs.reader.VcdReader.run_on.Goals as goal
+
+pub body-init : goal.body-init
+body-init g c = record {
+  ended = c.requires.going;
+  is_open = c.requires.open;
+  form = record { names = refl; rate = refl; pins = refl; down = refl };
+  count = refl;
+  faults = refl;
+  took = (
+    [],
+    consumes_none (g.S.Source.left c.args.source.now),
+    λ before early given left going.
+        record { told = early; none = λ e. refl; still = λ e. e; at_end = left; says = subst (λ (b : List ℕ). Going c.args.self.now b early given) (sym (append-nil before)) going },
+  );
+}
+
+pub body-preserved : goal.body-preserved
+body-preserved g c =
+    let inv = c.body.invariant.took in
+    let steps = rw c.in-Ok-Went.field-0-is at c.in-Ok-Went.ensures.steps in
+    let went = rw c.in-Ok-Went.field-0-is at c.in-Ok-Went.ensures.went in
+    record {
+      ended = went.0;
+      is_open = went.1;
+      form = same_on _ _ _ c.body.invariant.form c.in-Ok-Went.ensures.form;
+      count = went.3 ∙ c.body.invariant.count;
+      faults = c.in-Ok-Went.ensures.cause ∙ c.body.invariant.faults;
+      took = (
+        inv.0 ++ steps.bytes,
+        Consumes-trans _ _ _ _ _ inv.1 steps.consumed,
+        λ before early given left going. chained _ _ before inv.0 steps.bytes early given c.body.self (λ (b : List ℕ) (t : Told) (s : List ℕ). Going c.step.new.self b t s) (inv.2 before early given left going) steps.answers,
+      );
+    }
+
+pub returns-in-Ok-Gave-clause-next : goal.returns-in-Ok-Gave-clause-next
+returns-in-Ok-Gave-clause-next g c =
+    let inv = c.body.invariant.took in
+    let steps = rw c.in-Ok-Gave.field-0-is at c.in-Ok-Gave.ensures.steps in
+    record {
+      bytes = inv.0 ++ steps.bytes;
+      consumed = Consumes-trans _ _ _ _ _ inv.1 steps.consumed;
+      answers = λ before early given left going. chained _ _ before inv.0 steps.bytes early given c.body.self (λ (b : List ℕ) (t : Told) (s : List ℕ). StepAnswers c.step.new.self b t s (Ok (Gave c.in-Ok-Gave.run'))) (inv.2 before early given left going) steps.answers;
+    }
+
+pub returns-in-Ok-Over-clause-next : goal.returns-in-Ok-Over-clause-next
+returns-in-Ok-Over-clause-next g c =
+    let inv = c.body.invariant.took in
+    let steps = rw c.in-Ok-Over.field-0-is at c.in-Ok-Over.ensures.steps in
+    record {
+      bytes = inv.0 ++ steps.bytes;
+      consumed = Consumes-trans _ _ _ _ _ inv.1 steps.consumed;
+      answers = λ before early given left going. chained _ _ before inv.0 steps.bytes early given c.body.self (λ (b : List ℕ) (t : Told) (s : List ℕ). StepAnswers c.step.new.self b t s (Ok Over)) (inv.2 before early given left going) steps.answers;
+    }
+
+pub returns-in-Err-clause-next : goal.returns-in-Err-clause-next
+returns-in-Err-clause-next g c =
+    let inv = c.body.invariant.took in
+    let steps = c.in-Err.ensures.steps in
+    record {
+      bytes = inv.0 ++ steps.bytes;
+      consumed = Consumes-trans _ _ _ _ _ inv.1 steps.consumed;
+      answers = λ before early given left going. chained _ _ before inv.0 steps.bytes early given c.body.self (λ (b : List ℕ) (t : Told) (s : List ℕ). StepAnswers c.step.new.self b t s (Err c.in-Err.error)) (inv.2 before early given left going) steps.answers;
+    }

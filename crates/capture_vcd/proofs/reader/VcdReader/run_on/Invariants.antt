@@ -1,0 +1,20 @@
+use Rattle.std.proofs.Common.{◌≡◌, ℕ, List, false, true}
+use Rattle.std.specs.Io.KnownBytes.{Consumes, IsAtEnd}
+use Rattle.la_io.specs.Capture.{Told, AtEnd}
+use Rattle.byte_feed.specs.Reader.{left_of}
+use Rattle.capture_vcd.specs.Reader.{Behind, Going, SameReader, vcd_given, vcd_open}
+use Rattle.capture_vcd.proofs.reader.VcdReader.run_on.Given as goal
+
+abbrev pub invariant-body : goal.invariant-body
+invariant-body g l = record {
+  ended : l.self.ended ≡ false;
+  is_open : vcd_open l.self ≡ true;
+  form : SameReader l.fn.self l.self;
+  count : vcd_given l.self ≡ vcd_given l.fn.self;
+  faults : g.S.Source.faults l.source ≡ g.S.Source.faults l.fn.source;
+  took : (bytes : List ℕ) × Consumes (g.S.Source.left l.fn.source) (g.S.Source.left l.source) bytes × ((before : List ℕ) (early : Told) (given : List ℕ) → (early ≡ AtEnd → IsAtEnd (g.S.Source.left l.fn.source)) → Going l.fn.self before early given
+      → Behind (g.S.Source.left l.source) before early bytes (λ all told. Going l.self all told given));
+}
+
+abbrev pub decreases-body : goal.decreases-body
+decreases-body g l = left_of l.self.tokens

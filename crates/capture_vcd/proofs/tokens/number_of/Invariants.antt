@@ -1,0 +1,11 @@
+use Rattle.std.proofs.Common.{◌≡◌, ◌^◌, ◌≤◌, drop, min}
+use Rattle.std.specs.Str.{all_ascii_digits}
+use Rattle.text_parts.specs.Numbers.{number_after}
+use Rattle.capture_vcd.proofs.tokens.number_of.Given as goal
+
+abbrev pub invariant-loop-byte : goal.invariant-loop-byte
+invariant-loop-byte l = record {
+  small : l.number ≤ 2 ^ 60;
+  digits : all_ascii_digits (drop l.byte-index l.text) ≡ all_ascii_digits l.text;
+  number : min (number_after l.number (drop l.byte-index l.text)) (2 ^ 60) ≡ min (number_after 0 l.text) (2 ^ 60);
+}

@@ -1,0 +1,16 @@
+pub mod Header
+pub mod Body
+pub mod Vcd
+pub mod Worked
+pub mod Laws
+pub mod Stretches
+pub mod Following
+pub mod Slots
+pub mod Begun
+pub mod Running
+pub mod Reader
+pub mod Gathered
+pub mod Errors
+pub mod Places
+pub mod Gathering
+pub mod Opening

@@ -1,0 +1,228 @@
+-- What a reader of VCD captures stands for behind its header, and what its answers mean.
+use Rattle.std.specs.Prelude.{ℕ, ◌≡◌, ◌+◌, ◌*◌, ◌^◌, ◌<◌, ◌≤◌, Bool, true, false, List, [], ◌++◌, length, slice_get, map, Option, Some, None, Result, Ok, Err}
+use Rattle.std.specs.Io.KnownBytes.{Consumes, IsAtEnd}
+use Rattle.text_parts.specs.Places.{Placed}
+use Rattle.la_base.specs.Samples.{samples}
+use Rattle.la_base.specs.declared.samples.Run.{Run}
+use Rattle.la_io.specs.declared.fault.CaptureError.{CaptureError}
+use Rattle.la_io.specs.declared.fault.CaptureError.TheVariants as error
+use Rattle.la_io.specs.Capture.{Told, AtEnd, Cut, Good, Bad, Unread, Clean, Faulty, Open, Captured, Ends}
+use Rattle.byte_feed.specs.Reader.{Stands, is_spent, left_of, taken_of}
+use Rattle.std.specs.declared.vec.Vec.{Vec}
+use Rattle.std.specs.declared.alloc.Global.{Global}
+use Rattle.la_base.specs.declared.samples.Rate.{Rate}
+use Rattle.la_io.specs.Causes.{Rose}
+use Rattle.capture_vcd.specs.Header.{Declared, Section, channels_of, declared_by, header_from}
+use Rattle.capture_vcd.specs.Body.{Channel}
+use Rattle.capture_vcd.specs.Vcd.{bits_in, chosen, read_front, scale_in, vcd_capture}
+use Rattle.capture_vcd.specs.Running.{BodyStands, all_in, channels_in, down_in, given_in}
+use Rattle.la_io.specs.declared.fault.CaptureFault.TheVariants.{NoTimescale}
+use Rattle.byte_feed.specs.declared.tokens.Tokens.{Tokens}
+use Rattle.capture_vcd.specs.declared.header.Header.{Header}
+use Rattle.capture_vcd.specs.declared.scale.Scale.{Scale}
+use Rattle.capture_vcd.specs.declared.slots.Slot.{Slot}
+use Rattle.capture_vcd.specs.declared.body.Body.{Body}
+use Rattle.capture_vcd.specs.declared.place.Place.{Place}
+use Rattle.capture_vcd.specs.Places.{channel_at}
+use Rattle.capture_vcd.specs.declared.reader.VcdReader.{VcdReader}
+use Rattle.capture_vcd.specs.declared.reader.Step.{Step}
+use Rattle.capture_vcd.specs.declared.reader.Step.TheVariants.{Went, Gave, Over}
+
+-- what is kept of a header: the names of its channels, each a bit of a code, and the rate
+pub record Kept : Type 0 where
+  pub names : List (List ℕ)
+  pub bits : List Channel
+  pub num : ℕ
+  pub den : ℕ
+
+-- these tokens are a whole header, this is kept of it, and these are the channels of it that are selected
+pub record HeadRead (down : ℕ) (pins : List ℕ) (channels : List Channel) (kept : Kept) (head : List Placed) : Type 0 where
+  pub sections : List Section
+  pub whole : header_from None head ≡ record { sections = sections; body = Some [] }
+  pub declared : List Declared
+  pub read : read_front declared_by [] sections ≡ (declared, None)
+  pub scale : ℕ × ℕ
+  pub scale_is : scale_in None declared ≡ Some scale
+  pub channels_are : channels ≡ chosen (bits_in declared) pins
+  pub names_are : kept.names ≡ channels_of declared
+  pub bits_are : kept.bits ≡ bits_in declared
+  pub num_is : kept.num ≡ scale.1
+  pub den_is : kept.den ≡ scale.0 * down
+
+abbrev pub kept_by : List (List ℕ) → List Place → Rate → List (Vec ℕ Global) → Kept
+kept_by names places rate codes = record { names = names; bits = map (channel_at codes) places; num = rate.num; den = rate.den }
+
+abbrev pub kept_in : VcdReader → Kept
+kept_in reader = kept_by reader.names reader.places.items reader.rate reader.body.codes.items
+
+-- the channels that are the bits of its samples; none before `select`
+abbrev pub pins_in : VcdReader → List ℕ
+pins_in reader = reader.pins.items
+
+-- the names of its channels, and the rate of its samples
+abbrev pub vcd_names : VcdReader → List (List ℕ)
+vcd_names reader = reader.names
+
+abbrev pub vcd_rate : VcdReader → Rate
+vcd_rate reader = reader.rate
+
+-- how many units a sample has
+abbrev pub vcd_down : VcdReader → ℕ
+vcd_down reader = down_in reader.body
+
+-- whether there may be more to come
+abbrev pub vcd_open : VcdReader → Bool
+vcd_open reader = reader.is_open
+
+-- how many samples it gave
+abbrev pub given_at : Bool → Body → ℕ
+given_at false body = given_in body
+given_at true body = all_in body
+
+abbrev pub vcd_given : VcdReader → ℕ
+vcd_given reader = given_at reader.ended reader.body
+
+-- what these bytes give, with its channels and its rate
+abbrev pub vcd_by : VcdReader → List ℕ → Told → Captured
+vcd_by reader bytes told = vcd_capture (vcd_down reader) (pins_in reader) bytes told
+
+-- it reads the body
+pub record Going (reader : VcdReader) (bytes : List ℕ) (told : Told) (given : List ℕ) : Type 0 where
+  pub head : List Placed
+  pub items : List Placed
+  pub header : HeadRead (vcd_down reader) (pins_in reader) (channels_in reader.body) (kept_in reader) head
+  pub fresh : is_spent reader.tokens ≡ false
+  pub tokens : Stands reader.tokens bytes told (head ++ items)
+  pub few : taken_of reader.tokens ≤ 2 ^ 60
+  pub body : BodyStands reader.body items given
+
+-- the same between two calls: where no sample was given, nothing of the body was read
+pub record Reading (reader : VcdReader) (bytes : List ℕ) (told : Told) (given : List ℕ) : Type 0 where
+  pub going : Going reader bytes told given
+  pub unread : given ≡ [] → going.items ≡ []
+
+-- it has given all, and some
+pub record Done (reader : VcdReader) (bytes : List ℕ) (told : Told) (given : List ℕ) : Type 0 where
+  pub told_end : told ≡ AtEnd
+  pub ends : Ends (vcd_by reader bytes told) given Clean
+  pub some : 0 < length given
+
+abbrev pub StandsAs : Bool → VcdReader → List ℕ → Told → List ℕ → Type 0
+StandsAs false reader bytes told given = Reading reader bytes told given
+StandsAs true reader bytes told given = Done reader bytes told given
+
+-- it took these bytes, whose end the source told or not, and gave these samples
+abbrev pub VcdStands : VcdReader → List ℕ → Told → List ℕ → Type 0
+VcdStands reader bytes told given = StandsAs reader.ended reader bytes told given
+
+-- what an answer says of all bytes taken
+abbrev pub StepAnswers : VcdReader → List ℕ → Told → List ℕ → Result Step CaptureError → Type 0
+StepAnswers reader bytes told given (Ok Went) = Going reader bytes told given
+StepAnswers reader bytes told given (Ok (Gave run)) = VcdStands reader bytes told (given ++ samples run)
+StepAnswers reader bytes told given (Ok Over) = (told ≡ AtEnd) × Ends (vcd_by reader bytes told) given Clean
+StepAnswers reader bytes told given (Err (error.Fault fault)) = Ends (vcd_by reader bytes told) given (Faulty fault)
+StepAnswers reader bytes told given (Err error.Read) = (told ≡ Cut) × Ends (vcd_by reader bytes told) given Open
+StepAnswers reader bytes told given (Err error.NoMemory) = ⊥
+
+-- what is said behind bytes that were taken, none where the end was told before, and it stays told
+pub record Behind (left : Option (List ℕ)) (before : List ℕ) (early : Told) (bytes : List ℕ) (Says : List ℕ → Told → Type 0) : Type 0 where
+  pub told : Told
+  pub none : early ≡ AtEnd → bytes ≡ []
+  pub still : early ≡ AtEnd → told ≡ AtEnd
+  pub at_end : told ≡ AtEnd → IsAtEnd left
+  pub says : Says (before ++ bytes) told
+
+-- one token: the bytes that it took, and what the answer means behind them
+pub record Steps (old new : VcdReader) (left_old left_new : Option (List ℕ)) (result : Result Step CaptureError) : Type 0 where
+  pub bytes : List ℕ
+  pub consumed : Consumes left_old left_new bytes
+  pub answers : (before : List ℕ) (early : Told) (given : List ℕ) → (early ≡ AtEnd → IsAtEnd left_old) → Going old before early given
+      → Behind left_new before early bytes (λ all told. StepAnswers new all told given result)
+
+-- the source failed where the answer is Read, and only there; nothing was read behind a failure
+abbrev pub VcdCause : {T : Type 0} → ℕ → ℕ → Result T CaptureError → Type 0
+VcdCause before now (Ok x) = now ≡ before
+VcdCause before now (Err (error.Fault fault)) = now ≡ before
+VcdCause before now (Err error.Read) = (before ≤ now) × Rose before now
+VcdCause before now (Err error.NoMemory) = now ≡ before
+
+-- its channels and its rate stay, and the places of the file's channels
+pub record SameReader (old new : VcdReader) : Type 0 where
+  pub names : vcd_names new ≡ vcd_names old
+  pub rate : vcd_rate new ≡ vcd_rate old
+  pub pins : pins_in new ≡ pins_in old
+  pub down : vcd_down new ≡ vcd_down old
+
+-- behind a token that gave no samples it reads on, and less is left; behind a run it is open; else it is closed
+abbrev pub WentOn : VcdReader → VcdReader → Result Step CaptureError → Type 0
+WentOn old new (Ok Went) = (new.ended ≡ false) × (vcd_open new ≡ true) × (left_of new.tokens < left_of old.tokens) × (vcd_given new ≡ vcd_given old)
+WentOn old new (Ok (Gave run)) = (vcd_open new ≡ true) × (vcd_given old + run.len ≡ vcd_given new)
+WentOn old new (Ok Over) = vcd_open new ≡ false
+WentOn old new (Err why) = vcd_open new ≡ false
+
+-- an answer as that of a step
+abbrev pub step_of : Result (Option Run) CaptureError → Result Step CaptureError
+step_of (Ok (Some run)) = Ok (Gave run)
+step_of (Ok None) = Ok Over
+step_of (Err why) = Err why
+
+-- whether it is open behind an answer
+abbrev pub stays_open : Result (Option Run) CaptureError → Bool
+stays_open (Ok (Some run)) = true
+stays_open (Ok None) = false
+stays_open (Err why) = false
+
+-- the same for the tokens up to a run, or the end
+abbrev pub Nexts : VcdReader → VcdReader → Option (List ℕ) → Option (List ℕ) → Result (Option Run) CaptureError → Type 0
+Nexts old new left_old left_new result = Steps old new left_old left_new (step_of result)
+
+-- one call: the bytes that it took, and what its answer means behind them
+pub record Gives (old new : VcdReader) (left_old left_new : Option (List ℕ)) (result : Result (Option Run) CaptureError) : Type 0 where
+  pub bytes : List ℕ
+  pub consumed : Consumes left_old left_new bytes
+  pub answers : (before : List ℕ) (early : Told) (given : List ℕ) → (early ≡ AtEnd → IsAtEnd left_old) → VcdStands old before early given
+      → Behind left_new before early bytes (λ all told. StepAnswers new all told given (step_of result))
+
+-- a run more
+abbrev pub MoreGiven : VcdReader → VcdReader → Result (Option Run) CaptureError → Type 0
+MoreGiven old new (Ok (Some run)) = vcd_given old + run.len ≡ vcd_given new
+MoreGiven old new (Ok None) = Unit {0}
+MoreGiven old new (Err why) = Unit {0}
+
+-- what it has given is a front of what the bytes that it took settle
+abbrev pub GivenIsFront : Type 0
+GivenIsFront = (reader : VcdReader) (bytes : List ℕ) (told : Told) (given : List ℕ) → VcdStands reader bytes told given → (rest : List ℕ) × ((vcd_by reader bytes told).settled ≡ given ++ rest)
+
+-- what opening means, where these bytes were taken: the head is whole, or it has a fault, or the source failed in it
+abbrev pub Opened : ℕ → List ℕ → Option (List ℕ) → Result VcdReader CaptureError → Type 0
+Opened down bytes left (Ok reader) = (told : Told) × (told ≡ AtEnd → IsAtEnd left) × VcdStands reader bytes told [] × ((vcd_capture down [] bytes told).head ≡ Good (vcd_names reader) (vcd_rate reader).num (vcd_rate reader).den)
+Opened down bytes left (Err (error.Fault fault)) = (told : Told) × (told ≡ AtEnd → IsAtEnd left) × ((vcd_capture down [] bytes told).head ≡ Bad fault)
+Opened down bytes left (Err error.Read) = (vcd_capture down [] bytes Cut).head ≡ Unread
+Opened down bytes left (Err error.NoMemory) = Unit {0}
+
+-- a call of `open`: the bytes that it took, and what its answer means behind them
+pub record Opens (down : ℕ) (left_old left_new : Option (List ℕ)) (result : Result VcdReader CaptureError) : Type 0 where
+  pub bytes : List ℕ
+  pub consumed : Consumes left_old left_new bytes
+  pub opened : Opened down bytes left_new result
+
+-- the reader of such a header that has given nothing
+pub record IsNew (down : ℕ) (reader : VcdReader) : Type 0 where
+  pub down_is : vcd_down reader ≡ down
+  pub no_pins : pins_in reader ≡ []
+  pub is_open : vcd_open reader ≡ true
+  pub few : (vcd_rate reader).num ≤ 10 ^ 15
+
+-- a channel of the file as one that is selected, low
+abbrev pub slot_by : ℕ → Option Place → Slot
+slot_by none None = record { variable = none; bit = 0; level = false; value = false }
+slot_by none (Some place) = record { variable = place.variable; bit = place.bit; level = false; value = false }
+
+abbrev pub slot_at : List Place → ℕ → ℕ → Slot
+slot_at places none pin = slot_by none (slice_get places pin)
+
+-- a reader behind a whole header, or the fault that no time scale came
+abbrev pub Makes : Tokens → Header → ℕ → Result VcdReader CaptureError → Type 0
+Makes tokens header down (Ok reader) = (scale : Scale) × (header.scale ≡ Some scale) × (reader.tokens ≡ tokens) × BodyStands reader.body [] [] × (reader.body.codes ≡ header.codes) × (channels_in reader.body ≡ [])
+    × (reader.names ≡ header.names) × (reader.places ≡ header.places) × (reader.rate.num ≡ scale.a_second) × (reader.rate.den ≡ scale.count * down) × (reader.ended ≡ false) × IsNew down reader
+Makes tokens header down (Err why) = (header.scale ≡ None) × (why ≡ error.Fault NoTimescale)

@@ -1,0 +1,240 @@
+// The body of a VCD file, token by token.
+ghost use Rattle.std.specs.Prelude.{◌≡◌, ◌+◌, ◌-◌, ◌*◌, ◌^◌, ◌≤◌, ◌<◌, length, vec_len};
+ghost use Rattle.capture_vcd.specs.Body.{samples_before};
+
+use crate::slots::{Slot, assign, set_values, word_of};
+use crate::tokens::{Begun, begin};
+use arrayvec::ArrayVec;
+use la_base::Run;
+use la_io::CaptureFault;
+
+/// What the next token belongs to.
+#[derive(Clone, Copy, Debug, PartialEq, Eq)]
+pub enum Pending {
+    /// Nothing.
+    Free,
+    /// A value that was noted, whose code it is.
+    Value(u64),
+    /// A value that is skipped.
+    Skip(u64),
+    /// A comment.
+    Comment,
+}
+
+/// The first and the last time.
+#[derive(Clone, Copy, Debug, PartialEq, Eq)]
+pub struct Span {
+    pub start: u64,
+    pub last: u64,
+    ghost in_order: { start ≤ last },
+    ghost few: { last < 2 ^ 60 },
+}
+
+/// What was read of the body of a VCD file.
+#[derive(Drop)]
+pub struct Body {
+    // the code of each variable
+    codes: Vec<Vec<u8>>,
+    slots: ArrayVec<Slot, 64>,
+    pending: Pending,
+    span: Option<Span>,
+    down: u64,
+    ghost down_fits: { (1 ≤ down) × (down ≤ 1000000000) },
+}
+
+// How many samples have a time before the last one.
+fn samples_before(span: u64, down: u64) -> u64
+    requires some { 1 ≤ down }
+    requires few { down ≤ 1000000000 }
+    requires span { span < 2 ^ 60 }
+    ensures { result ≡ samples_before span down }
+{
+    (span + down - 1) / down
+}
+
+impl Body {
+    ghost use Rattle.std.specs.Prelude.{[], ◌∷◌, None};
+    ghost use Rattle.capture_vcd.specs.Running.{BodyStands, Counts, channels_in, down_in, given_in, all_in, SameForm, TokenGives, EndGives, Reaches, hanging_of, pending_in};
+    ghost use Rattle.capture_vcd.specs.declared.body.Pending.TheVariants.{Free};
+
+    /// Nothing was read, and no channel is selected.
+    pub fn new(codes: Vec<Vec<u8>>, down: u64) -> Body
+        requires some { 1 ≤ down }
+        requires few { down ≤ 1000000000 }
+        ensures fresh { BodyStands result [] [] }
+        ensures codes { result.codes ≡ codes }
+        ensures down { down_in result ≡ down }
+        ensures channels { channels_in result ≡ [] }
+    {
+        Body {
+            codes,
+            slots: ArrayVec::new(),
+            pending: Pending::Free,
+            span: None,
+            down,
+        }
+    }
+
+    /// How many variables there are.
+    pub fn variables(&self) -> usize
+        ensures { result ≡ length self.now.codes.items }
+    {
+        self.codes.len()
+    }
+
+    /// These channels are the bits of the samples, all low, and nothing was read.
+    pub fn select(&mut self, slots: ArrayVec<Slot, 64>)
+        ensures slots { self.new.slots.items ≡ slots.items }
+        ensures codes { self.new.codes ≡ self.old.codes }
+        ensures down { down_in self.new ≡ down_in self.old }
+        ensures free { pending_in self.new ≡ Free }
+        ensures span { self.new.span ≡ None }
+    {
+        self.slots = slots;
+        self.pending = Pending::Free;
+        self.span = None;
+    }
+
+    // A time.
+    #[inline(always)]
+    fn reach(&mut self, at: u64, time: u64) -> Result<Option<Run>, CaptureFault>
+        requires few { time < 2 ^ 60 }
+        ensures reaches { Reaches self.old self.new at time result }
+        ensures form { SameForm self.old self.new }
+        ensures counts { Counts (given_in self.old) (given_in self.new) result }
+    {
+        let span = match self.span {
+            Some(span) => span,
+            None => {
+                self.span = Some(Span {
+                    start: time,
+                    last: time,
+                });
+                return Ok(None);
+            }
+        };
+        if time < span.last {
+            return Err(CaptureFault::TimeBack {
+                at,
+                was: i128::from(span.last),
+                now: i128::from(time),
+            });
+        }
+        let len = samples_before(time - span.start, self.down)
+            - samples_before(span.last - span.start, self.down);
+        self.span = Some(Span {
+            start: span.start,
+            last: time,
+        });
+        if len == 0 {
+            return Ok(None);
+        }
+        Ok(Some(Run {
+            value: word_of(&self.slots),
+            len,
+        }))
+    }
+
+    // A token that belongs to nothing before it.
+    #[inline(always)]
+    fn free_token(&mut self, at: u64, first: u8, rest: &[u8]) -> Result<Option<Run>, CaptureFault>
+        requires { pending_in self.old ≡ Free }
+        ensures gives { TokenGives self.old self.new (at, first ∷ rest.now) result }
+        ensures form { SameForm self.old self.new }
+        ensures counts { Counts (given_in self.old) (given_in self.new) result }
+    {
+        match begin(first, rest) {
+            Begun::Time(time) => self.reach(at, time),
+            Begun::Large => Err(CaptureFault::TimeLarge { at }),
+            Begun::Scalar => {
+                set_values(&mut self.slots, &[first]);
+                assign(&self.codes, &mut self.slots, rest);
+                Ok(None)
+            }
+            Begun::Vector => {
+                set_values(&mut self.slots, rest);
+                self.pending = Pending::Value(at);
+                Ok(None)
+            }
+            Begun::Skip => {
+                self.pending = Pending::Skip(at);
+                Ok(None)
+            }
+            Begun::Comment => {
+                self.pending = Pending::Comment;
+                Ok(None)
+            }
+            Begun::Passed => Ok(None),
+            Begun::Wrong => Err(CaptureFault::Token { at }),
+        }
+    }
+
+    /// Reads one more token. A new time gives the samples from the last one on.
+    #[inline(always)]
+    pub fn token(&mut self, at: u64, text: &[u8]) -> Result<Option<Run>, CaptureFault>
+        ensures gives { TokenGives self.old self.new (at, text.now) result }
+        ensures form { SameForm self.old self.new }
+        ensures counts { Counts (given_in self.old) (given_in self.new) result }
+    {
+        match self.pending {
+            Pending::Free => {
+                if text.is_empty() {
+                    return Err(CaptureFault::Token { at });
+                }
+                self.free_token(at, text[0], &text[1..])
+            }
+            Pending::Value(_) => {
+                assign(&self.codes, &mut self.slots, text);
+                self.pending = Pending::Free;
+                Ok(None)
+            }
+            Pending::Skip(_) => {
+                self.pending = Pending::Free;
+                Ok(None)
+            }
+            Pending::Comment => {
+                if b"$end".as_slice() == text {
+                    self.pending = Pending::Free;
+                    return Ok(None);
+                }
+                Ok(None)
+            }
+        }
+    }
+
+    // The place of a value that lacks its second token.
+    fn hanging(&self) -> Option<u64>
+        ensures { result ≡ hanging_of (pending_in self.now) }
+    {
+        match self.pending {
+            Pending::Value(at) => Some(at),
+            Pending::Skip(at) => Some(at),
+            Pending::Free => None,
+            Pending::Comment => None,
+        }
+    }
+
+    /// The tokens end clean: the last sample, where there is one at the last time.
+    pub fn end(&self) -> Result<Option<Run>, CaptureFault>
+        ensures gives { EndGives self.now result }
+        ensures counts { Counts (given_in self.now) (all_in self.now) result }
+    {
+        match self.hanging() {
+            Some(at) => return Err(CaptureFault::Token { at }),
+            None => {}
+        }
+        let span = match self.span {
+            Some(span) => span,
+            None => return Ok(None),
+        };
+        let len = (span.last - span.start) / self.down + 1
+            - samples_before(span.last - span.start, self.down);
+        if len == 0 {
+            return Ok(None);
+        }
+        Ok(Some(Run {
+            value: word_of(&self.slots),
+            len,
+        }))
+    }
+}

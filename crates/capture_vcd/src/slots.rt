@@ -1,0 +1,85 @@
+// The channels that are selected, and their levels.
+ghost use Rattle.std.specs.Prelude.{◌≡◌, ◌≤◌, length, map};
+ghost use Rattle.la_base.specs.Naming.{same_name};
+ghost use Rattle.capture_vcd.specs.Following.{is_one, level_bit, word_bits};
+ghost use Rattle.capture_vcd.specs.Slots.{assigned, code_at, level_of, valued};
+
+use la_base::Word;
+
+/// A channel that is selected: the number of its variable, its bit there, its level, and what the
+/// value that was read last would make of it.
+#[derive(Clone, Copy, Debug, Default)]
+pub struct Slot {
+    pub variable: usize,
+    pub bit: usize,
+    pub level: bool,
+    pub value: bool,
+}
+
+// Whether a bit of a value is 1. The digits of a value begin with the highest.
+fn is_one(bit: usize, digits: &[u8]) -> bool
+    ensures { result ≡ is_one bit digits.now }
+{
+    bit < digits.len() && digits[digits.len() - 1 - bit] == 49
+}
+
+// Whether the code of a variable is this one.
+fn has_code(codes: &[Vec<u8>], variable: usize, code: &[u8]) -> bool
+    ensures { result ≡ same_name (code_at codes.now variable) code.now }
+{
+    match codes.get(variable) {
+        Some(own) => own.as_slice() == code,
+        None => code.is_empty(),
+    }
+}
+
+/// Notes what a value makes of each channel.
+pub fn set_values(slots: &mut [Slot], digits: &[u8])
+    ensures { slots.new ≡ map (valued digits.now) slots.old }
+{
+    for slot in slots.iter_mut() {
+        slot.value = is_one(slot.bit, digits);
+    }
+}
+
+// The level of a channel behind a change of a code.
+fn level_behind(codes: &[Vec<u8>], slot: Slot, code: &[u8]) -> bool
+    ensures { result ≡ level_of (assigned codes.now code.now slot) }
+{
+    if has_code(codes, slot.variable, code) {
+        slot.value
+    } else {
+        slot.level
+    }
+}
+
+/// Gives the channels of a code the value that was noted.
+pub fn assign(codes: &[Vec<u8>], slots: &mut [Slot], code: &[u8])
+    ensures { slots.new ≡ map (assigned codes.now code.now) slots.old }
+{
+    for slot in slots.iter_mut() {
+        slot.level = level_behind(codes, *slot, code);
+    }
+}
+
+// A level as a number.
+fn level_bit(level: bool) -> u64
+    ensures bit { result ≡ level_bit level }
+    ensures small { result ≤ 1 }
+{
+    if level { 1 } else { 0 }
+}
+
+/// The word of the levels.
+pub fn word_of(slots: &[Slot]) -> Word
+    requires { length slots.now ≤ 64 }
+    ensures { result ≡ word_bits (map level_of slots.now) }
+{
+    let mut word = 0;
+    let mut left = slots.len();
+    while left > 0 {
+        left -= 1;
+        word = 2 * word + level_bit(slots[left].level);
+    }
+    word
+}
