@@ -27,6 +27,10 @@ pub fn write_stops<K: Sink>(
 {
     let mut rest = Some(run);
     while let Some(run) = rest {
+        if waiter.passes(run) {
+            waiter.pass(run);
+            return Ok(());
+        }
         match waiter.scan(run) {
             Scan::Met {
                 at,

@@ -4,7 +4,7 @@ use Rattle.la_base.specs.Samples.{samples}
 use Rattle.la_base.specs.declared.samples.Run.{Run}
 use Rattle.la_io.specs.Causes.{AppendsFront}
 use Rattle.wait_cond.specs.Waiting.{alts_of, rest_len}
-use Rattle.find_job.proofs.Going.{Going, going_starts, going_met, going_cut}
+use Rattle.find_job.proofs.Going.{Going, going_starts, going_met, going_cut, going_through, going_ends}
 use Rattle.find_job.proofs.stops.write_stops.Goals as goal
 
 pub loop-rest-init : goal.loop-rest-init
@@ -43,3 +43,15 @@ loop-rest-preserved-in-Ok g c =
       faults = c.in-Ok.ensures.cause.kept ∙ c.loop-rest.invariant.faults;
       goes_on = g.met.K.Sink.goes_on_further _ _ _ c.loop-rest.invariant.goes_on c.in-Ok.ensures.goes_on;
     }
+
+pub returns-then-passes-clause-written : goal.returns-then-passes-clause-written
+returns-then-passes-clause-written g c = λ list stops w chain.
+    let k = g.K.Sink in
+    let alts = alts_of c.args.waiter.now in
+    let all = list ++ samples c.args.run in
+    let old = k.written c.args.sink.now in
+    let now = k.written c.loop-rest.sink in
+    let going = subst (λ (o : Option Run). Going alts all stops c.loop-rest.waiter o old now) c.in-Some.is (c.loop-rest.invariant.going list stops w chain) in
+    going_ends alts all stops c.pass.new.self old now
+    (going_through alts all stops c.loop-rest.waiter c.in-Some.run' old now going c.loop-rest.invariant.alts c.pass.new.self
+    (λ samples waits. (c.pass.ensures.waits samples waits (c.if-passes.ensures.none refl samples waits), c.pass.ensures.counts.from)))
