@@ -59,13 +59,13 @@ pub group_more : (entries grouped new : List Entry) (n : ℕ) → new ≡ groupe
     → ((i : ℕ) → i < n → filter (is_of i) grouped ≡ filter (is_of i) entries) → ((i : ℕ) → n ≤ i → filter (is_of i) grouped ≡ [])
     → ((i : ℕ) → i < n + 1 → filter (is_of i) new ≡ filter (is_of i) entries) × ((i : ℕ) → n + 1 ≤ i → filter (is_of i) new ≡ [])
 group_more entries grouped new n is done none = (
-    λ i below. elim (cases_eq i n) [
-      | inl same ↦ parts i ∙ ap (λ (l : List Entry). l ++ filter (is_of i) (filter (is_of n) entries)) (none i (omega (arith, same)))
-          ∙ subst (λ (k : ℕ). filter (is_of i) (filter (is_of k) entries) ≡ filter (is_of i) entries) same (of_same entries i)
-      | inr differ ↦ parts i ∙ (λ j. done i (omega (arith, below, differ)) j ++ of_other entries i n differ j) ∙ append-nil (filter (is_of i) entries)
-    ],
-    λ i above. parts i ∙ (λ j. none i (omega (arith, above)) j ++ of_other entries i n (λ same. omega (arith, same, above)) j),
-  )
+  λ i below. elim (cases_eq i n) [
+    | inl same ↦ parts i ∙ ap (λ (l : List Entry). l ++ filter (is_of i) (filter (is_of n) entries)) (none i (omega (arith, same)))
+        ∙ subst (λ (k : ℕ). filter (is_of i) (filter (is_of k) entries) ≡ filter (is_of i) entries) same (of_same entries i)
+    | inr differ ↦ parts i ∙ (λ j. done i (omega (arith, below, differ)) j ++ of_other entries i n differ j) ∙ append-nil (filter (is_of i) entries)
+  ],
+  λ i above. parts i ∙ (λ j. none i (omega (arith, above)) j ++ of_other entries i n (λ same. omega (arith, same, above)) j),
+)
   where
     parts : (i : ℕ) → filter (is_of i) new ≡ filter (is_of i) grouped ++ filter (is_of i) (filter (is_of n) entries)
     parts i = ap (filter (is_of i)) is ∙ filter-append (is_of i) grouped (filter (is_of n) entries)

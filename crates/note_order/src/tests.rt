@@ -42,7 +42,12 @@ fn entries_stand_by_start_then_instance_then_as_given(rt: HostRuntime) -> Result
         ),
         // also of more instances than are grouped
         (
-            &[entry(70, 4, 1), entry(0, 9, 2), entry(0, 4, 3), entry(70, 2, 4)],
+            &[
+                entry(70, 4, 1),
+                entry(0, 9, 2),
+                entry(0, 4, 3),
+                entry(70, 2, 4),
+            ],
             &[4, 3, 1, 2],
         ),
         // one instance keeps its order where starts are alike

@@ -1,10 +1,10 @@
 // The wait itself.
 ghost use Rattle.std.specs.Prelude.{◌≡◌, ◌≤◌, ◌^◌, length};
 
-use crate::{Alt, Cond};
 use crate::behind::behind;
 use crate::met::met_set;
 use crate::standing::first_standing;
+use crate::{Alt, Cond};
 use la_base::{Run, Word};
 
 /// Waits for the next sample that meets a condition. It stands for the samples that it has consumed,

@@ -9,5 +9,5 @@ loop-instance-preserved c =
     record { done = more.0; none = more.1 }
 
 pub returns : goal.returns
-returns c = let i = c.loop-instance.invariant in 
+returns c = let i = c.loop-instance.invariant in
     all_grouped c.args.entries.now c.loop-instance.grouped.items c.loop-instance.instance (λ k d within. omega (arith, c.requires k d within, c.loop-instance-test.false)) i.done i.none
