@@ -13,3 +13,4 @@ pub mod Gathering
 pub mod Heads
 pub mod Choosing
 pub mod Given
+pub mod Marking

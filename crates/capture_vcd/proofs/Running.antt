@@ -10,6 +10,8 @@ use Rattle.la_io.specs.declared.fault.CaptureFault.TheVariants as fault
 use Rattle.capture_vcd.specs.Body.{Channel, Event, Sets, Statement, Time, Change, Wrong, Within, event_of, hanging, last_time, samples_before, samples_to, time_behind, token_gives}
 use Rattle.capture_vcd.specs.Body as within
 use Rattle.capture_vcd.specs.Following.{BodyAt, is_one, word_bits}
+use Rattle.capture_vcd.specs.Marks.{NoneHas}
+use Rattle.capture_vcd.proofs.Marking.{levels_left}
 use Rattle.capture_vcd.specs.Slots.{assigned, channel_of, level_of, value_of, valued}
 use Rattle.capture_vcd.specs.Running.{BodyFaulty, BodyEnds, OpenAt, PartsStand, hanging_of}
 use Rattle.la_io.specs.Capture.{Clean, Ends, Faulty, Open}
@@ -205,3 +207,17 @@ module _ (down : ℕ) (some : 0 < down) (codes : List (Vec ℕ Global)) where
   pub channels_scalar : (slots mid new : List Slot) (code digits : List ℕ) → mid ≡ map (valued digits) slots → new ≡ map (assigned codes code) mid → map (channel_of codes) new ≡ map (channel_of codes) slots
   channels_scalar slots mid new code digits mid_is new_is =
       ap (λ (l : List Slot). map (channel_of codes) l) new_is ∙ channels_assigned codes code mid ∙ ap (λ (l : List Slot). map (channel_of codes) l) mid_is ∙ channels_valued codes digits slots
+
+  -- a change of a code that none of the channels has
+  pub parts_left : (start last : Option ℕ) (items : List Placed) (given : List ℕ) (token : Placed) (slots : List Slot) (pending : Pending) (code digits : List ℕ) → NoneHas codes code slots → pending ≡ Free
+      → token_gives within.Free token ≡ (Change code digits ∷ [], within.Free) → Stand slots pending start last items given → Stand slots pending start last (items ++ token ∷ []) given
+  parts_left start last items given token slots pending code digits none free gives st =
+      let mid = map (valued digits) slots in
+      let new = map (assigned codes code) mid in
+      let p = parts_scalar start last items given token slots mid new pending code digits refl refl free gives st in
+      record {
+        open_is = p.open_is;
+        opened = subst (λ (q : Pending). OpenAt q slots p.open_is) (sym free) (subst (λ (q : Pending). OpenAt q new p.open_is) free p.opened);
+        stands = subst (λ (ch : List Channel). BodyAt down ch (map level_of slots) p.open_is start last (items ++ token ∷ []) given) (channels_scalar slots mid new code digits refl refl)
+            (subst (λ (bs : List Bool). BodyAt down (map (channel_of codes) new) bs p.open_is start last (items ++ token ∷ []) given) (levels_left codes code digits slots none) p.stands);
+      }

@@ -14,3 +14,4 @@ pub mod Errors
 pub mod Places
 pub mod Gathering
 pub mod Opening
+pub mod Marks

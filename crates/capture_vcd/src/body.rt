@@ -1,7 +1,9 @@
 // The body of a VCD file, token by token.
 ghost use Rattle.std.specs.Prelude.{◌≡◌, ◌+◌, ◌-◌, ◌*◌, ◌^◌, ◌≤◌, ◌<◌, length, vec_len};
 ghost use Rattle.capture_vcd.specs.Body.{samples_before};
+ghost use Rattle.capture_vcd.specs.Marks.{Marked, NoneHas};
 
+use crate::marks::{BYTES, marks_of};
 use crate::slots::{Slot, assign, set_values, word_of};
 use crate::tokens::{Begun, begin};
 use arrayvec::ArrayVec;
@@ -36,10 +38,13 @@ pub struct Body {
     // the code of each variable
     codes: Vec<Vec<u8>>,
     slots: ArrayVec<Slot, 64>,
+    // the last bytes of their codes
+    marks: [bool; BYTES],
     pending: Pending,
     span: Option<Span>,
     down: u64,
     ghost down_fits: { (1 ≤ down) × (down ≤ 1000000000) },
+    ghost marked: { Marked marks codes.items slots.items },
 }
 
 // How many samples have a time before the last one.
@@ -53,7 +58,7 @@ fn samples_before(span: u64, down: u64) -> u64
 }
 
 impl Body {
-    ghost use Rattle.std.specs.Prelude.{[], ◌∷◌, None};
+    ghost use Rattle.std.specs.Prelude.{[], ◌∷◌, None, false};
     ghost use Rattle.capture_vcd.specs.Running.{BodyStands, Counts, channels_in, down_in, given_in, all_in, SameForm, TokenGives, EndGives, Reaches, hanging_of, pending_in};
     ghost use Rattle.capture_vcd.specs.declared.body.Pending.TheVariants.{Free};
 
@@ -69,6 +74,7 @@ impl Body {
         Body {
             codes,
             slots: ArrayVec::new(),
+            marks: [false; BYTES],
             pending: Pending::Free,
             span: None,
             down,
@@ -90,7 +96,9 @@ impl Body {
         ensures free { pending_in self.new ≡ Free }
         ensures span { self.new.span ≡ None }
     {
+        let marks = marks_of(&self.codes, &slots);
         self.slots = slots;
+        self.marks = marks;
         self.pending = Pending::Free;
         self.span = None;
     }
@@ -135,6 +143,17 @@ impl Body {
         }))
     }
 
+    // Whether a change of a code may change a channel that is selected.
+    #[inline(always)]
+    fn may_change(&self, code: &[u8]) -> bool
+        ensures { result ≡ false → NoneHas self.now.codes.items code.now self.now.slots.items }
+    {
+        if code.is_empty() {
+            return true;
+        }
+        self.marks[code[code.len() - 1] as usize]
+    }
+
     // A token that belongs to nothing before it.
     #[inline(always)]
     fn free_token(&mut self, at: u64, first: u8, rest: &[u8]) -> Result<Option<Run>, CaptureFault>
@@ -147,6 +166,9 @@ impl Body {
             Begun::Time(time) => self.reach(at, time),
             Begun::Large => Err(CaptureFault::TimeLarge { at }),
             Begun::Scalar => {
+                if !self.may_change(rest) {
+                    return Ok(None);
+                }
                 set_values(&mut self.slots, &[first]);
                 assign(&self.codes, &mut self.slots, rest);
                 Ok(None)

@@ -9,6 +9,7 @@ mod body;
 mod errors;
 mod header;
 mod laws;
+mod marks;
 mod opening;
 mod place;
 mod reader;

@@ -11,6 +11,8 @@ use Rattle.capture_vcd.specs.declared.slots.Slot.{Slot}
 use Rattle.capture_vcd.specs.declared.body.Pending.{Pending}
 use Rattle.capture_vcd.specs.declared.body.Pending.TheVariants.{Free}
 use Rattle.capture_vcd.proofs.Levels.{channels_assigned, refilled, split_text}
+use Rattle.capture_vcd.specs.Marks.{Marked}
+use Rattle.capture_vcd.proofs.Marking.{marked_assigned}
 use Rattle.capture_vcd.proofs.Running.{parts_close, parts_code, parts_fault}
 use Rattle.capture_vcd.proofs.body.Body.token.Goals as goal
 
@@ -56,3 +58,9 @@ returns-else-eq-clause-gives c = λ items given st.
     let e = sym c.if-eq.false ∙ c.eq.ensures ∙ ap (λ (l : List ℕ). same_name l c.args.text.now) c.as_slice.ensures in
     parts_close s.down (omega (arith, s.down_fits.0)) s.codes.items _ _ items given (c.args.at, c.args.text.now) s.slots.items s.pending s.pending within.Comment within.Comment
     (λ w o. subst (λ (p : Pending). OpenAt p s.slots.items w) c.in-Comment.is o) (cond-false (same_name (codes "$end") c.args.text.now) _ _ (sym e)) (subst (λ (p : Pending). OpenAt p s.slots.items within.Comment) (sym c.in-Comment.is) refl) st
+
+pub invariant_of-self : goal.invariant_of-self
+invariant_of-self c =
+    let s = c.args.self.now in
+    let new_is = refilled _ s.slots.items c.assign.new.slots (omega (arith, c.assign.auto.slots, ap length c.deref_mut.ensures.value)) ∙ c.assign.ensures ∙ (λ i. map (assigned (c.deref.ensures.value i) c.args.text.now) (c.deref_mut.ensures.value i)) in
+    record { down_fits = s.down_fits; marked = subst (λ (l : List Slot). Marked s.marks s.codes.items l) (sym new_is) (marked_assigned s.marks s.codes.items c.args.text.now s.slots.items s.marked) }
