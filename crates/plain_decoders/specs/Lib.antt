@@ -1,2 +1,3 @@
 pub mod Happenings
+pub mod I2cHappenings
 pub mod Looking

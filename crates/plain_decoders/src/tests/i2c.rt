@@ -1,7 +1,8 @@
 // Samples are scripts of a bus. 0 and 1 are a bit: SCL is low, then high. Behind a 1 or at the front, S is SDA
 // falling while SCL stays high: a START. Behind a 0, P is SDA rising so: a STOP. What is wanted is worked by hand
 // from where they change; at the end the decoder is compared with a plain program. Tables are texts, a row a line.
-use crate::i2c::{Told, notes_of};
+use super::feeding::{decoded, runs_of};
+use crate::i2c::outputs_of;
 use dec_i2c::{I2c, I2cOpts, text};
 use decoder_core::{Driver, Machine, OptFault, Outs};
 use la_base::{Feed, Note, Out, Rate, Run, Word};
@@ -14,6 +15,9 @@ const RATE: Rate = Rate {
     num: 1_000_000,
     den: 1,
 };
+
+// The lines of all samples.
+const LINES: I2cOpts = I2cOpts { scl: 0, sda: 1 };
 
 // The samples of a script: line 0 is SCL, line 1 is SDA.
 fn waves_of(alloc: Global, script: &str) -> Result<Vec<Word>, AllocError> {
@@ -33,7 +37,7 @@ fn waves_of(alloc: Global, script: &str) -> Result<Vec<Word>, AllocError> {
 }
 
 fn opened() -> Result<Driver<I2c>, Fail> {
-    match I2c::open(I2cOpts { scl: 0, sda: 1 }, RATE) {
+    match I2c::open(LINES, RATE) {
         Ok(machine) => Ok(Driver::new(machine)),
         Err(_) => Err("not opened".into()),
     }
@@ -130,39 +134,17 @@ fn texts_of_notes(rt: HostRuntime) -> Result<(), Fail> {
     Ok(())
 }
 
-// The decoder's notes of samples, which are given one by one.
-fn decoded(alloc: Global, samples: &[Word]) -> Result<Vec<Told>, Fail> {
-    let mut notes = Vec::new(alloc);
-    let mut driver = opened()?;
-    let mut outs = Outs::new();
-    for value in samples {
-        outs.clear();
-        driver.step(sample(*value), &mut outs);
-        add_notes(outs.list(), &mut notes)?;
-    }
-    Ok(notes)
-}
-
-fn add_notes(outs: &[Out], notes: &mut Vec<Told>) -> Result<(), AllocError> {
-    for out in outs {
-        if let Out::Note(note) = out {
-            notes.push(Told {
-                class: note.class,
-                start: note.start,
-                end: note.end,
-                value: note.a,
-            })?;
+// What the decoder gives of samples, which has to be what the plain program gives.
+fn check(rt: &impl Abort, alloc: Global, samples: &[Word]) -> Result<Vec<Out>, Fail> {
+    match I2c::open(LINES, RATE) {
+        Ok(machine) => {
+            let want = outputs_of(alloc, LINES, samples)?;
+            let told = decoded(alloc, machine, &runs_of(alloc, samples, 1)?)?;
+            assert!(rt; told.outs.as_slice() == want.as_slice(), "{samples:?}");
+            Ok(want)
         }
+        Err(_) => Err("not opened".into()),
     }
-    Ok(())
-}
-
-// Checks that the decoder gives the notes that the plain program gives.
-fn check_notes(rt: &impl Abort, alloc: Global, samples: &[Word]) -> Result<(), Fail> {
-    let notes = decoded(alloc, samples)?;
-    let want = notes_of(alloc, samples)?;
-    assert_eq!(rt; notes.as_slice(), want.as_slice(), "{samples:?}");
-    Ok(())
 }
 
 #[test]
@@ -185,7 +167,7 @@ fn all_short_lists_by_the_plain_program(rt: HostRuntime) -> Result<(), Fail> {
                 samples.push(Word::from(rest % 4))?;
                 rest /= 4;
             }
-            check_notes(&rt, rt.alloc(), &samples)?;
+            check(&rt, rt.alloc(), &samples)?;
         }
     }
     Ok(())
@@ -225,21 +207,22 @@ S 10100001 0 00110010 P > 0 4 7 6 2
 S 10100000 0 0P 10100001 0 11110000 0 0P > 0 3 7 2 2";
 
 // The classes of notes, as a text.
-fn classes_of(alloc: Global, notes: &[Told]) -> Result<String, AllocError> {
+fn classes_of(alloc: Global, outs: &[Out]) -> Result<String, AllocError> {
     let mut classes = String::new(alloc);
-    for note in notes {
-        write!(classes, " {}", note.class)?;
+    for out in outs {
+        if let Out::Note(note) = out {
+            write!(classes, " {}", note.class)?;
+        }
     }
     Ok(classes)
 }
 
-// Checks the notes of samples, and of those that are left where one of them is lost.
+// Checks the samples that are left where one of them is lost.
 fn check_losses(rt: &impl Abort, alloc: Global, samples: &[Word]) -> Result<(), Fail> {
-    check_notes(rt, alloc, samples)?;
     for lost in 0..samples.len() {
         let mut others = Vec::from_slice(alloc, samples)?;
         others.remove(lost);
-        check_notes(rt, alloc, &others)?;
+        check(rt, alloc, &others)?;
     }
     Ok(())
 }
@@ -250,7 +233,7 @@ fn long_lists_by_the_plain_program(rt: HostRuntime) -> Result<(), Fail> {
     for row in SCRIPTS.split('\n') {
         if let Some((script, want)) = row.split_once('>') {
             let samples = waves_of(alloc, script)?;
-            let classes = classes_of(alloc, &notes_of(alloc, &samples)?)?;
+            let classes = classes_of(alloc, &check(&rt, alloc, &samples)?)?;
             assert!(rt; classes.as_str() == want, "{script}");
             check_losses(&rt, alloc, &samples)?;
         }

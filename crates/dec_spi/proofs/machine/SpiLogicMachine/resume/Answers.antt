@@ -1,4 +1,4 @@
-use Rattle.std.proofs.Common.{List, ◌∙◌, ap, sym}
+use Rattle.std.proofs.Common.{◌∙◌, ap, sym}
 use Rattle.dec_spi.specs.declared.held.Held.{Held}
 use Rattle.dec_spi.specs.laws.Machine.{event_of, spi_alts}
 use Rattle.dec_spi.specs.laws.MachineLaws.{loud_is, stands_there, waits_on}
