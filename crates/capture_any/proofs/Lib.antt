@@ -3,3 +3,4 @@ mod Answering
 pub mod Telling
 pub mod CaptureLaws
 pub mod ListingLemmas
+pub mod Taking

@@ -14,6 +14,7 @@ use Rattle.capture_any.specs.Listings.{SettledFront, OfAll, OfFewer, Says, Lists
 use Rattle.std.proofs.Math.Path.{transport}
 use Rattle.capture_any.specs.declared.form.Form.{Form}
 use Rattle.capture_any.specs.Reading.{Stands, Next, form_of, pins_of, capture_by}
+use Rattle.capture_any.specs.Taking.{GaveMore}
 use Rattle.capture_any.specs.declared.capture.Capture.{Capture}
 use Rattle.capture_any.specs.declared.end.ListingEnd.{ListingEnd}
 use Rattle.capture_any.specs.declared.end.ListingEnd.TheVariants.{Done, Read, Write, Fault, NoMemory}
@@ -51,6 +52,20 @@ gave_run old new before then left_old left_now left_new given run so_far next =
       taken = Consumes-trans left_old left_now left_new so_far.bytes next.bytes so_far.taken next.consumed;
       at_end = answer.at_end;
       stands = subst (λ (l : List ℕ). Stands new l answer.told (given ++ samples run)) (append_assoc before so_far.bytes next.bytes) answer.answers;
+    }
+
+-- samples were given
+pub gave_more : (old new : Capture) (before : List ℕ) (then : Told) (left_old left_now left_new : Option (List ℕ)) (given more : List ℕ) → Gave old before then left_old left_now given
+    → GaveMore old new left_now left_new more → Gave new before then left_old left_new (given ++ more)
+gave_more old new before then left_old left_now left_new given more so_far next =
+    let answer = next.answers (before ++ so_far.bytes) so_far.told given so_far.at_end so_far.stands in
+    record {
+      bytes = so_far.bytes ++ next.bytes;
+      told = answer.0;
+      later = later_on then so_far.told answer.0 so_far.bytes next.bytes so_far.later answer.1;
+      taken = Consumes-trans left_old left_now left_new so_far.bytes next.bytes so_far.taken next.consumed;
+      at_end = answer.2;
+      stands = subst (λ (l : List ℕ). Stands new l answer.0 (given ++ more)) (append_assoc before so_far.bytes next.bytes) answer.3;
     }
 
 -- form and pins are the same

@@ -1,6 +1,7 @@
 pub mod Captures
 pub mod Listings
 pub mod Reading
+pub mod Taking
 pub mod Answers
 pub mod Naming
 pub mod Laws

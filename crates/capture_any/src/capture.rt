@@ -6,6 +6,7 @@ use crate::Form;
 use crate::answer::answer_of;
 use crate::names::channel_names;
 use crate::reader::Reader;
+use crate::runs::Runs;
 use capture_raw::RawReader;
 use la_base::{Names, NoMemory, Pins, Rate, Run};
 use la_io::{CaptureError, Source};
@@ -21,7 +22,10 @@ pub struct Capture {
 }
 
 impl Capture {
-    ghost use Rattle.std.specs.Prelude.{◌≡◌, ◌≢◌, ◌+◌, ◌^◌, ◌<◌, ◌≤◌, ℕ, List, [], length, slice_index, true, IfOk, IfSome};
+    ghost use Rattle.std.specs.Prelude.{◌≡◌, ◌≢◌, ◌+◌, ◌^◌, ◌<◌, ◌≤◌, ℕ, List, [], ◌++◌, length, slice_index, true, Bool, None, Ok, IfOk, IfSome};
+    ghost use Rattle.la_base.specs.Samples.{samples};
+    ghost use Rattle.la_base.specs.declared.samples.Run.{Run};
+    ghost use Rattle.capture_any.specs.Taking.{GaveHeld, Gives, open_behind, samples_of};
     ghost use Rattle.la_io.specs.Capture.{Told};
     ghost use Rattle.capture_any.specs.Captures.{IsForm, HasNoHead, TakesNoMemory};
     ghost use Rattle.capture_any.specs.Reading.{Stands, Next, Opens, CaptureCause, stays_open, form_of, pins_of, names_of, rate_of, is_open_of, given_by};
@@ -115,6 +119,74 @@ impl Capture {
     {
         match &mut self.reader {
             Reader::Raw(reader) => answer_of(reader.next(source)),
+        }
+    }
+
+    // The next run of what was read already, if there is one. Nothing is read.
+    #[inline(always)]
+    fn held_run(&mut self) -> Option<Run>
+        ensures gave { IfSome result (λ run. GaveHeld self.old self.new (samples run)) }
+        ensures kept { result ≡ None → self.new ≡ self.old }
+        ensures is_open { is_open_of self.new ≡ is_open_of self.old }
+        ensures form { form_of self.new ≡ form_of self.old }
+        ensures pins { pins_of self.new ≡ pins_of self.old }
+        ensures names { names_of self.new ≡ names_of self.old }
+        ensures rate { rate_of self.new ≡ rate_of self.old }
+        ensures progress { IfSome result (λ run. given_by self.old + run.len ≤ given_by self.new) }
+        ensures few { IfSome result (λ run. given_by self.new ≤ 2 ^ 60) }
+    {
+        match &mut self.reader {
+            Reader::Raw(reader) => reader.held_run(),
+        }
+    }
+
+    // Appends the runs of what was read already, as far as there is room.
+    fn take_held(&mut self, into: &mut Runs)
+        ensures gave { (new : List Run) × (into.new ≡ into.old ++ new) × GaveHeld self.old self.new (samples_of new) }
+        ensures is_open { is_open_of self.new ≡ is_open_of self.old }
+        ensures form { form_of self.new ≡ form_of self.old }
+        ensures pins { pins_of self.new ≡ pins_of self.old }
+        ensures names { names_of self.new ≡ names_of self.old }
+        ensures rate { rate_of self.new ≡ rate_of self.old }
+        ensures progress { given_by self.old ≤ given_by self.new }
+        ensures few { given_by self.old ≤ 2 ^ 60 → given_by self.new ≤ 2 ^ 60 }
+    {
+        while !into.is_full() {
+            match self.held_run() {
+                Some(run) => into.push(run),
+                None => return,
+            }
+        }
+    }
+
+    /// As `next`, but gives as many runs as are read already and there is room for, one at least: `true`.
+    /// `false` is the clean end. What `into` held before is let go.
+    pub fn next_runs<S: Source>(
+        &mut self,
+        source: &mut S,
+        into: &mut Runs,
+    ) -> Result<bool, CaptureError>
+        requires { is_open_of self.old ≡ true }
+        ensures gives { Gives self.old self.new (S.left source.old) (S.left source.new) into.new result }
+        ensures is_open { is_open_of self.new ≡ open_behind result }
+        ensures form { form_of self.new ≡ form_of self.old }
+        ensures pins { pins_of self.new ≡ pins_of self.old }
+        ensures names { names_of self.new ≡ names_of self.old }
+        ensures rate { rate_of self.new ≡ rate_of self.old }
+        ensures progress { result ≡ Ok true → given_by self.old < given_by self.new }
+        ensures few { given_by self.new ≤ 2 ^ 60 }
+        ensures memory { TakesNoMemory (form_of self.old) → result ≢ Err CaptureError.NoMemory }
+        ensures cause { CaptureCause (S.faults source.old) (S.faults source.new) result }
+    {
+        into.clear();
+        match self.next(source) {
+            Ok(Some(run)) => {
+                into.push(run);
+                self.take_held(into);
+                Ok(true)
+            }
+            Ok(None) => Ok(false),
+            Err(error) => Err(error),
         }
     }
 }

@@ -8,6 +8,7 @@ mod form;
 mod laws;
 mod names;
 mod reader;
+mod runs;
 
 pub use capture::Capture;
 pub use end::ListingEnd;
@@ -16,3 +17,4 @@ pub use laws::{
     fault_stays, given_is_front, head_stays, longer_extends, pins_leave_the_ending,
     pins_leave_the_head,
 };
+pub use runs::Runs;

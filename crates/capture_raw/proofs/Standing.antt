@@ -104,6 +104,13 @@ more_given unit count old held new left_old left_new bytes some takes few within
     let enough : count ≤ count * unit = grind arith in
     omega (arith, enough, ap length let_go, length-drop (count * unit) held.bytes, takes.taken, ap length takes.held, length-append old.bytes bytes)
 
+-- the same where no byte was taken
+pub more_given_held : (unit count : ℕ) (old new : Front) → 0 < unit → length old.bytes ≤ old.taken → count * unit ≤ length old.bytes → new.bytes ≡ drop (count * unit) old.bytes → new.taken ≡ old.taken
+    → old.taken - length old.bytes + count ≤ new.taken - length new.bytes
+more_given_held unit count old new some few within let_go same =
+    let enough : count ≤ count * unit = grind arith in
+    omega (arith, enough, ap length let_go, length-drop (count * unit) old.bytes, same, few)
+
 pub samples_len : (run : Run) → length (samples run) ≡ run.len
 unfolding samples
 samples_len run = length-replicate run.len run.value

@@ -89,9 +89,9 @@ fn equal_front(a: &[u8], b: &[u8]) -> usize
     done
 }
 
-// How many units of one byte give the same sample. It isn't inlined, so that its loop has the registers
-// that it needs.
-#[inline(never)]
+// How many units of one byte give the same sample. Most runs are the shortest that there are, and are seen
+// at once.
+#[inline(always)]
 fn alike_bytes(bytes: &[u8], mask: u8) -> usize
     requires { 1 ≤ length bytes.now }
     ensures some { 1 ≤ result }
@@ -99,7 +99,6 @@ fn alike_bytes(bytes: &[u8], mask: u8) -> usize
     ensures alike { AllAgree mask (slice_index bytes.now 0) bytes.now result }
 {
     let first = bytes[0];
-    // Most runs are the shortest that there are.
     if bytes.len() > 2 {
         if (bytes[1] ^ first) & mask != 0 {
             return 1;
@@ -108,6 +107,18 @@ fn alike_bytes(bytes: &[u8], mask: u8) -> usize
             return 2;
         }
     }
+    alike_near(bytes, mask)
+}
+
+// The same, byte by byte at first. It isn't inlined, so that its loop has the registers that it needs.
+#[inline(never)]
+fn alike_near(bytes: &[u8], mask: u8) -> usize
+    requires { 1 ≤ length bytes.now }
+    ensures some { 1 ≤ result }
+    ensures within { result ≤ length bytes.now }
+    ensures alike { AllAgree mask (slice_index bytes.now 0) bytes.now result }
+{
+    let first = bytes[0];
     let near = bytes.len().min(NEAR);
     let count = agreeing_bytes(bytes, first, mask, 1, near);
     if count < near {

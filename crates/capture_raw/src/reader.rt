@@ -36,7 +36,8 @@ pub struct RawReader {
 }
 
 impl RawReader {
-    ghost use Rattle.std.specs.Prelude.{◌≡◌, ◌+◌, ◌-◌, ◌==◌, ◌^◌, if◌then◌else◌, List, [], take, true};
+    ghost use Rattle.std.specs.Prelude.{◌≡◌, ◌+◌, ◌++◌, ◌-◌, ◌==◌, ◌^◌, if◌then◌else◌, List, [], None, IfSome, take, true};
+    ghost use Rattle.la_base.specs.Samples.{samples};
     ghost use Rattle.capture_raw.specs.Raw.{word_of};
     ghost use Rattle.la_io.specs.Causes.{HasCause};
     ghost use Rattle.capture_raw.specs.Reader.{Stands, Next, Gives, SameForm, IfRun, stays_open, raw_channels, raw_rate, raw_pins, raw_open, raw_unit, raw_held, raw_given};
@@ -136,6 +137,25 @@ impl RawReader {
             value,
             len: count as u64,
         }
+    }
+
+    /// The next run of what is held, as `next` gives it. `None` comes exactly where less than a unit is
+    /// held; then nothing changes. Nothing is read.
+    #[inline(always)]
+    pub fn held_run(&mut self) -> Option<Run>
+        ensures given { IfSome result (λ run. (bytes given : List ℕ) → Stands self.old bytes given → Stands self.new bytes (given ++ samples run)) }
+        ensures none { result ≡ None → length (raw_held self.old) < raw_unit self.old }
+        ensures kept { result ≡ None → self.new ≡ self.old }
+        ensures is_open { raw_open self.new ≡ raw_open self.old }
+        ensures form { SameForm self.old self.new }
+        ensures progress { IfSome result (λ run. raw_given self.old + run.len ≤ raw_given self.new) }
+        ensures few { raw_given self.new ≤ 2 ^ 60 }
+    {
+        let unit = self.unit();
+        if self.held.bytes().len() < unit {
+            return None;
+        }
+        Some(self.run(unit))
     }
 
     /// The next run, or the end and how it came. It reads only where less than a unit is held, and

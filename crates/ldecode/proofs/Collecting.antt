@@ -13,9 +13,10 @@ use Rattle.decoder_core.specs.Inputs.{Item, Sample}
 use Rattle.note_order.specs.Order.{entries_from, entry_of, in_order, is_of}
 use Rattle.note_order.specs.declared.entry.Entry.{Entry}
 use Rattle.capture_any.specs.Captures.{ToldAt}
-use Rattle.capture_any.specs.Reading.{Stands, Next}
+use Rattle.capture_any.specs.Reading.{Stands}
+use Rattle.capture_any.specs.Taking.{GaveMore}
 use Rattle.capture_any.specs.declared.capture.Capture.{Capture}
-use Rattle.capture_any.proofs.ListingLemmas.{Gave, gave_nothing, gave_run}
+use Rattle.capture_any.proofs.ListingLemmas.{Gave, gave_nothing, gave_more}
 use Rattle.la_io.specs.Grown.{appends_nothing}
 use Rattle.la_io.specs.Capture.{Told}
 use Rattle.capture_any.specs.Listings.{Lists, OfAll, Says}
@@ -154,16 +155,16 @@ module _ {M S : Type 0} (setup : M → S) (consumed : M → List Item → Type 0
     gathered = λ i. ap (filter (is_of i)) empty ∙ nothing_yet shown 0 i machines nothing;
   }
 
-  pub collecting_on : (old new : Capture) (setups : List S) (shown : ℕ → Bool) (olds news : List M) (before : List ℕ) (then : Told) (left_old left_now left_new : Option (List ℕ)) (entries more : List Entry) (run : Run)
-      → Collecting old setups shown olds before then left_old left_now entries → Next old new left_now left_new (Ok (Some run)) → FedAll setup consumed outputs (map Sample (samples run)) shown olds news entries more
-      → Collecting new setups shown news before then left_old left_new more
-  collecting_on old new setups shown olds news before then left_old left_now left_new entries more run so_far next fed = record {
-    given = so_far.given ++ samples run;
-    gave = gave_run old new before then left_old left_now left_new so_far.given run so_far.gave next;
-    same = setups_stay (map Sample (samples run)) olds news fed.added fed.each ∙ so_far.same;
-    stand = consumed_on so_far.given (samples run) olds news fed.added fed.each so_far.stand;
-    gathered = subst (λ (l : List S). Gathered outputs l shown more (so_far.given ++ samples run)) so_far.same
-        (gathered_on so_far.given (samples run) shown olds news entries more fed so_far.stand (subst (λ (l : List S). Gathered outputs l shown entries so_far.given) (sym so_far.same) so_far.gathered));
+  pub collecting_on : (old new : Capture) (setups : List S) (shown : ℕ → Bool) (olds news : List M) (before : List ℕ) (then : Told) (left_old left_now left_new : Option (List ℕ)) (entries added : List Entry) (more : List ℕ)
+      → Collecting old setups shown olds before then left_old left_now entries → GaveMore old new left_now left_new more → FedAll setup consumed outputs (map Sample more) shown olds news entries added
+      → Collecting new setups shown news before then left_old left_new added
+  collecting_on old new setups shown olds news before then left_old left_now left_new entries added more so_far gave fed = record {
+    given = so_far.given ++ more;
+    gave = gave_more old new before then left_old left_now left_new so_far.given more so_far.gave gave;
+    same = setups_stay (map Sample more) olds news fed.added fed.each ∙ so_far.same;
+    stand = consumed_on so_far.given more olds news fed.added fed.each so_far.stand;
+    gathered = subst (λ (l : List S). Gathered outputs l shown added (so_far.given ++ more)) so_far.same
+        (gathered_on so_far.given more shown olds news entries added fed so_far.stand (subst (λ (l : List S). Gathered outputs l shown entries so_far.given) (sym so_far.same) so_far.gathered));
   }
 
 -- want of memory leaves what a failed write leaves: a front

@@ -9,3 +9,4 @@ pub mod Stacked
 pub mod Running
 pub mod Exact
 pub mod Headlines
+mod FeedingRuns

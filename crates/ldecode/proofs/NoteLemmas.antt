@@ -23,6 +23,10 @@ pub none_shown : (shown : Bool) → where_shown shown [] ≡ []
 none_shown true = refl
 none_shown false = refl
 
+pub none_put : (outs : List Out) → length outs ≡ 0 → outs ≡ []
+none_put [] none = refl
+none_put (out ∷ outs) none = absurd (omega (arith, none))
+
 -- no outputs have no notes
 pub no_outs : (instance : ℕ) (shown : Bool) (outs : List Out) (old : List Entry) → length outs ≡ 0 → old ≡ old ++ map (entry_of instance) (where_shown shown (notes_of outs))
 no_outs instance shown [] old none = sym (ap (λ (l : List Note). old ++ map (entry_of instance) l) (none_shown shown) ∙ append-nil old)

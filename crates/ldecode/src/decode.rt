@@ -13,7 +13,7 @@ ghost use Rattle.ldecode.specs.Feeding.{Consumed, Gathered, samples_listing};
 
 use crate::feed_all::feed_all;
 use crate::note_lines::write_notes;
-use capture_any::{Capture, ListingEnd};
+use capture_any::{Capture, ListingEnd, Runs};
 use decoder_core::{Machine, Outs};
 use la_base::NoMemory;
 use la_io::{Buffered, CaptureError, Failed, Sink, Source};
@@ -21,7 +21,8 @@ use note_order::{Entry, sort_entries};
 use stack_spec::Stack;
 use std::alloc::Global;
 
-// Reads the capture to its end, and gathers the notes that the machines give.
+// Reads the capture to its end, and gathers the notes that the machines give. It takes many runs at once,
+// so that the loop over them has little else to do.
 fn collect<S: Source, M: Machine>(
     stack: &Stack,
     capture: &mut Capture,
@@ -39,13 +40,14 @@ fn collect<S: Source, M: Machine>(
 {
     // One for all steps, since to make it fills it with default values.
     let mut outs = Outs::new();
+    let mut runs = Runs::new();
     loop {
-        match capture.next(source) {
-            Ok(Some(run)) => match feed_all(stack, machines, run, &mut outs, entries) {
+        match capture.next_runs(source, &mut runs) {
+            Ok(true) => match feed_all(stack, machines, runs.list(), &mut outs, entries) {
                 Ok(()) => {}
                 Err(NoMemory) => return ListingEnd::NoMemory,
             },
-            Ok(None) => return ListingEnd::Done,
+            Ok(false) => return ListingEnd::Done,
             Err(CaptureError::Fault(fault)) => return ListingEnd::Fault(fault),
             Err(CaptureError::Read) => return ListingEnd::Read,
             Err(CaptureError::NoMemory) => return ListingEnd::NoMemory,

@@ -1,6 +1,7 @@
 // Feeding a decoder, and gathering its notes.
-ghost use Rattle.std.specs.Prelude.{◌≡◌, ◌<◌, ◌++◌, length, map, OnOk};
+ghost use Rattle.std.specs.Prelude.{◌≡◌, ◌<◌, ◌++◌, [], length, map, OnOk};
 ghost use Rattle.la_base.specs.Samples.{samples};
+ghost use Rattle.capture_any.specs.Taking.{samples_of};
 ghost use Rattle.decoder_core.specs.Inputs.{Sample};
 ghost use Rattle.note_order.specs.Order.{entry_of};
 ghost use Rattle.stack_spec.specs.Accepting.{is_shown};
@@ -13,23 +14,35 @@ use la_base::{NoMemory, Out, Run};
 use note_order::Entry;
 use stack_spec::Stack;
 
-// Appends the notes among outputs as those of this instance, where it is shown. Most steps put out
-// nothing, so that is looked at first.
+// Appends the notes among outputs as those of this instance, where it is shown, and lets the outputs go.
+// Most steps put out nothing, so that is looked at first.
+#[inline(always)]
 fn gather(
-    outs: &[Out],
+    outs: &mut Outs,
     stack: &Stack,
     instance: u32,
     entries: &mut Vec<Entry>,
 ) -> Result<(), NoMemory>
     requires { instance < length (instances_in stack.now) }
-    ensures { OnOk result (entries.new.items ≡ entries.old.items ++ map (entry_of instance) (where_shown (is_shown (stack_meaning stack.now).shown instance) (notes_of outs.now))) }
+    ensures notes { OnOk result (entries.new.items ≡ entries.old.items ++ map (entry_of instance) (where_shown (is_shown (stack_meaning stack.now).shown instance) (notes_of outs.old))) }
+    ensures empty { OnOk result (outs.new ≡ []) }
 {
-    if outs.is_empty() {
+    if outs.list().is_empty() {
         return Ok(());
     }
     if !stack.shown(instance) {
+        outs.clear();
         return Ok(());
     }
+    push_notes(outs.list(), instance, entries)?;
+    outs.clear();
+    Ok(())
+}
+
+// Appends the notes among outputs as those of this instance.
+fn push_notes(outs: &[Out], instance: u32, entries: &mut Vec<Entry>) -> Result<(), NoMemory>
+    ensures { OnOk result (entries.new.items ≡ entries.old.items ++ map (entry_of instance) (notes_of outs.now)) }
+{
     for out in outs {
         if let Out::Note(note) = out {
             entries.push(Entry {
@@ -41,9 +54,10 @@ fn gather(
     Ok(())
 }
 
-/// Feeds a run to a machine, and appends the notes that it gives as those of this instance, where the
-/// stack shows it. `outs` is room for the outputs of a step.
-pub fn feed<M: Machine>(
+// Feeds a run to a machine, and appends the notes that it gives as those of this instance, where the
+// stack shows it. `outs` is room for the outputs of a step, and has none before and behind.
+#[inline(always)]
+fn feed<M: Machine>(
     machine: &mut M,
     stack: &Stack,
     instance: u32,
@@ -51,15 +65,38 @@ pub fn feed<M: Machine>(
     outs: &mut Outs,
     entries: &mut Vec<Entry>,
 ) -> Result<(), NoMemory>
-    requires { instance < length (instances_in stack.now) }
+    requires instance { instance < length (instances_in stack.now) }
+    requires empty { outs.old ≡ [] }
     ensures setup { M.setup machine.new ≡ M.setup machine.old }
+    ensures empty { OnOk result (outs.new ≡ []) }
     ensures fed { OnOk result (Fed (M.consumed machine.old) (M.consumed machine.new) (M.outputs (M.setup machine.old)) instance (is_shown (stack_meaning stack.now).shown instance) (map Sample (samples run)) entries.old.items entries.new.items) }
 {
     let mut rest = Some(run);
     while let Some(run) = rest {
-        outs.clear();
         rest = machine.step_run(run, outs);
-        gather(outs.list(), stack, instance, entries)?;
+        gather(outs, stack, instance, entries)?;
+    }
+    Ok(())
+}
+
+/// Feeds runs to a machine, and appends the notes that it gives as those of this instance, where the stack
+/// shows it. `outs` is room for the outputs of a step, and has none before and behind.
+pub fn feed_runs<M: Machine>(
+    machine: &mut M,
+    stack: &Stack,
+    instance: u32,
+    runs: &[Run],
+    outs: &mut Outs,
+    entries: &mut Vec<Entry>,
+) -> Result<(), NoMemory>
+    requires instance { instance < length (instances_in stack.now) }
+    requires empty { outs.old ≡ [] }
+    ensures setup { M.setup machine.new ≡ M.setup machine.old }
+    ensures empty { OnOk result (outs.new ≡ []) }
+    ensures fed { OnOk result (Fed (M.consumed machine.old) (M.consumed machine.new) (M.outputs (M.setup machine.old)) instance (is_shown (stack_meaning stack.now).shown instance) (map Sample (samples_of runs.now)) entries.old.items entries.new.items) }
+{
+    for run in runs {
+        feed(machine, stack, instance, *run, outs, entries)?;
     }
     Ok(())
 }

@@ -132,11 +132,13 @@ impl Waiter {
         requires { self.now.consumed < 2 ^ 60 }
         ensures { MetSet self.now.cond.alts.items (if self.now.consumed == 0 then None else Some self.now.last) value self.now.from self.now.consumed result }
     {
-        let before = self.before();
-        if self.cond.is_still(before, value) {
-            return 0;
-        }
-        met_set(self.cond.alts(), before, value, self.from, self.consumed)
+        met_set(
+            self.cond.alts(),
+            self.before(),
+            value,
+            self.from,
+            self.consumed,
+        )
     }
 
     // The first sample of a run behind its first one that meets the condition, by its place among all

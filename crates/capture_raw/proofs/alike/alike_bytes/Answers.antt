@@ -9,6 +9,3 @@ returns-then-bytes-first-ne0-2-clause-alike c =
     let first = get_or bytes 0 0 in
     let same : bit_and (bit_xor (get_or bytes 1 0) first) c.args.mask ≡ 0 = grind (c.if-bytes-first-ne0.false, arith, nat_tests) in
     all_more c.args.mask first bytes 1 (all_first c.args.mask bytes) (agree_from c.args.mask (get_or bytes 1 0) first same)
-
-pub agreeing_bytes-count-requires-clause-agree : goal.agreeing_bytes-count-requires-clause-agree
-agreeing_bytes-count-requires-clause-agree c = all_first c.args.mask c.args.bytes.now

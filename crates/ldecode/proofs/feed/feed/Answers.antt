@@ -17,6 +17,7 @@ loop-rest-init g c =
     record {
       feeding = feeding_starts (machine.consumed c.args.machine.now) (machine.outputs (machine.setup c.args.machine.now)) c.args.instance (is_shown (stack_meaning c.args.stack.now).shown c.args.instance) (map Sample (samples c.args.run)) c.args.entries.now.items (RunFeed c.args.run) refl (run_has_items c.args.run);
       setup = refl;
+      empty = c.requires.empty;
     }
 
 pub loop-rest-preserved : goal.loop-rest-preserved
@@ -27,10 +28,10 @@ loop-rest-preserved g c =
     let so_far = c.loop-rest.invariant.feeding in
     record {
       feeding = feeding_on (machine.consumed c.args.machine.now) (machine.outputs (machine.setup c.args.machine.now)) c.args.instance (is_shown (stack_meaning c.args.stack.now).shown c.args.instance) (map Sample (samples c.args.run)) c.args.entries.now.items
-          (machine.consumed c.loop-rest.machine) (machine.consumed c.step_run-rest.new.self) (RunFeed c.in-Some.run') (left_feed c.step_run-rest.result) c.list.result.now c.loop-rest.entries.items c.gather.new.entries.items
+          (machine.consumed c.loop-rest.machine) (machine.consumed c.step_run-rest.new.self) (RunFeed c.in-Some.run') (left_feed c.step_run-rest.result) c.step_run-rest.new.into c.loop-rest.entries.items c.gather.new.entries.items
           (subst (λ (rest : Option Run). Feeding (machine.consumed c.args.machine.now) (machine.consumed c.loop-rest.machine) outputs c.args.instance (is_shown (stack_meaning c.args.stack.now).shown c.args.instance) (map Sample (samples c.args.run)) (left_feed rest) c.args.entries.now.items c.loop-rest.entries.items) c.in-Some.is so_far)
-          (subst (λ (out : List Out). Steps (machine.consumed c.loop-rest.machine) (machine.consumed c.step_run-rest.new.self) outputs (RunFeed c.in-Some.run') (left_feed c.step_run-rest.result) out) (sym c.list.ensures.list)
-          (subst (λ (f : List Item → List Out). Steps (machine.consumed c.loop-rest.machine) (machine.consumed c.step_run-rest.new.self) f (RunFeed c.in-Some.run') (left_feed c.step_run-rest.result) c.step_run-rest.new.into) same c.step_run-rest.ensures.step))
-          c.in_ok-gather.ensures;
+          (subst (λ (f : List Item → List Out). Steps (machine.consumed c.loop-rest.machine) (machine.consumed c.step_run-rest.new.self) f (RunFeed c.in-Some.run') (left_feed c.step_run-rest.result) c.step_run-rest.new.into) same c.step_run-rest.ensures.step)
+          c.in_ok-gather.ensures.notes;
       setup = c.step_run-rest.ensures.setup ∙ c.loop-rest.invariant.setup;
+      empty = c.in_ok-gather.ensures.empty;
     }

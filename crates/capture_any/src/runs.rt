@@ -1,0 +1,69 @@
+// Several runs at once.
+ghost use Rattle.std.specs.Prelude.{◌≡◌, ◌≤◌, ◌<◌, ◌∷◌, ◌++◌, [], List, length, take, true, false};
+ghost use Rattle.la_base.specs.declared.samples.Run.{Run};
+
+use la_base::Run;
+use std::marker::Model;
+
+/// How many runs are given at once.
+pub const MOST_RUNS: usize = 64;
+
+/// At most `MOST_RUNS` runs, in their order: room that is used again and again. Contracts see the list of
+/// runs.
+#[derive(Drop)]
+pub struct Runs {
+    // the runs, and what doesn't count behind them
+    room: [Run; MOST_RUNS],
+    count: usize,
+}
+
+impl Model for Runs {
+    ghost Value = { List Run };
+
+    ghost view = { λ s. take s.count s.room };
+
+    ghost invariant = { λ s. s.count ≤ 64 };
+}
+
+impl Runs {
+    /// No runs.
+    pub fn new() -> Runs
+        ensures { result ≡ [] }
+    {
+        Runs {
+            room: [Run { value: 0, len: 1 }; MOST_RUNS],
+            count: 0,
+        }
+    }
+
+    /// The runs.
+    pub fn list(&self) -> &[Run]
+        ensures { result.now ≡ self.now }
+    {
+        &self.room[..self.count]
+    }
+
+    /// Whether there is no room for another.
+    pub fn is_full(&self) -> bool
+        ensures room { result ≡ false → length self.now < 64 }
+        ensures full { result ≡ true → 64 ≤ length self.now }
+    {
+        self.list().len() >= MOST_RUNS
+    }
+
+    /// Lets all of them go.
+    pub fn clear(&mut self)
+        ensures { self.new ≡ [] }
+    {
+        self.count = 0;
+    }
+
+    /// Appends a run.
+    pub fn push(&mut self, run: Run)
+        requires { length self.old < 64 }
+        ensures { self.new ≡ self.old ++ run ∷ [] }
+    {
+        self.room[self.count] = run;
+        self.count += 1;
+    }
+}
