@@ -57,7 +57,10 @@ impl<L: LogicMachine> Driver<L> {
             (λ input. L.outs (L.setup self.old.machine) (counted_samples input)) (Feed.Run run) (left_feed result) into.new }
         ensures stops { ReachesStop (Drives L.stands L.alts self.old.machine self.old.waiter) (Sleeps L.alts self.old.machine self.old.waiter) (Feed.Run run) (left_feed result) }
     {
-        match self.look(run, into) {
+        if run.len > MOST_SAMPLES - self.waiter.consumed() {
+            return self.look(run, into);
+        }
+        match self.stop_in(run, run, into) {
             Some(rest) => {
                 if self.pass(rest) {
                     return None;
@@ -80,7 +83,22 @@ impl<L: LogicMachine> Driver<L> {
         if before >= MOST_SAMPLES {
             return None;
         }
-        match self.waiter.scan(part_of(run, MOST_SAMPLES - before)) {
+        self.stop_in(run, part_of(run, MOST_SAMPLES - before), into)
+    }
+
+    // The same, where this part of a run counts.
+    #[inline(always)]
+    fn stop_in(&mut self, run: Run, part: Run, into: &mut Outs) -> Option<Run>
+        requires empty { into.old ≡ [] }
+        requires value { part.value ≡ run.value }
+        requires len { part.len ≡ min run.len (2 ^ 60 - consumed_by self.old.waiter) }
+        ensures setup { L.setup self.new.machine ≡ L.setup self.old.machine }
+        ensures step { Steps (Drives L.stands L.alts self.old.machine self.old.waiter) (Drives L.stands L.alts self.new.machine self.new.waiter)
+            (λ input. L.outs (L.setup self.old.machine) (counted_samples input)) (Feed.Run run) (left_feed result) into.new }
+        ensures stops { StopsFirst (Drives L.stands L.alts self.old.machine self.old.waiter) (Sleeps L.alts self.old.machine self.old.waiter) (Feed.Run run) (left_feed result) }
+    {
+        let before = self.waiter.consumed();
+        match self.waiter.scan(part) {
             Scan::Through => None,
             Scan::Met { at, value, met, .. } => {
                 let anew = self.machine.resume(at, value, met, into);

@@ -17,6 +17,6 @@ none_changes cond (Some before) now = if cond.watched == 0 then false else bit_a
 abbrev pub is_still : Cond → Option ℕ → ℕ → Bool
 is_still cond before now = if bit_and cond.high now == cond.high then none_changes cond before now else true
 
--- each alternative skips more samples than there are behind the last stop at the end of a run; or nothing is met at its value
+-- nothing is met at the value of a run; or each alternative skips more samples than there are behind the last stop at its end
 abbrev pub is_plain : Waiter → Run → Bool
-is_plain w run = if nat_lt (w.consumed + run.len - w.from) w.cond.skip then true else is_still w.cond (before_next w) run.value
+is_plain w run = if is_still w.cond (before_next w) run.value then true else nat_lt (w.consumed + run.len - w.from) w.cond.skip

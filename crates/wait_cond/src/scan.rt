@@ -100,18 +100,18 @@ impl Waiter {
     }
 
     /// Whether it is plain that no sample of a run meets the condition, without a look at each
-    /// alternative: each skips more samples than there are up to the end of the run, or each asks one line
-    /// to be high that is low, or each asks an edge and none of these lines changes.
+    /// alternative: each asks one line to be high that is low, or each asks an edge and none of these lines
+    /// changes, or each skips more samples than there are up to the end of the run.
     #[inline]
     pub fn passes(&self, run: Run) -> bool
         requires { consumed_by self.now + run.len ≤ 2 ^ 60 }
         ensures plain { result ≡ is_plain self.now run }
         ensures none { result ≡ true → (list : List ℕ) → Waits self.now list → NoneMet (list ++ samples run) (alts_of self.now) (wait_from self.now) (length list + run.len) }
     {
-        if self.cond.skips_more(self.consumed + run.len - self.from) {
+        if self.cond.is_still(self.before(), run.value) {
             return true;
         }
-        self.cond.is_still(self.before(), run.value)
+        self.cond.skips_more(self.consumed + run.len - self.from)
     }
 
     /// Consumes a run no sample of which meets the condition.

@@ -11,12 +11,12 @@ pub returns-then-pass-clause-step : goal.returns-then-pass-clause-step
 returns-then-pass-clause-step g c =
     let m = g.L.LogicMachine in
     let s = c.args.self.now in
-    let mid = c.look.new.self in
+    let mid = c.stop_in.new.self in
     let new = c.pass.new.self in
-    steps_on (Drives m.stands m.alts s.machine s.waiter) (Drives m.stands m.alts mid.machine mid.waiter) (Drives m.stands m.alts new.machine new.waiter) (λ input. m.outs (m.setup s.machine) (counted_samples input)) (RunFeed c.args.run) c.in-Some.rest c.look.new.into
+    steps_on (Drives m.stands m.alts s.machine s.waiter) (Drives m.stands m.alts mid.machine mid.waiter) (Drives m.stands m.alts new.machine new.waiter) (λ input. m.outs (m.setup s.machine) (counted_samples input)) (RunFeed c.args.run) c.in-Some.rest c.stop_in.new.into
     c.in-Some.ensures.step
     (subst (λ (outputs : List Item → List Out). Passes (Drives m.stands m.alts mid.machine mid.waiter) (Drives m.stands m.alts new.machine new.waiter) outputs c.in-Some.rest)
-    (ap (λ setup input. m.outs setup (counted_samples input)) c.look.ensures.setup) (c.if-pass.ensures.passes refl))
+    (ap (λ setup input. m.outs setup (counted_samples input)) c.stop_in.ensures.setup) (c.if-pass.ensures.passes refl))
 
 pub returns-then-pass-clause-stops : goal.returns-then-pass-clause-stops
 returns-then-pass-clause-stops g c =
