@@ -3,3 +3,4 @@ pub mod TokenLaws
 pub mod Standing
 pub mod Answering
 pub mod Longer
+pub mod Held

@@ -60,6 +60,14 @@ pub record Stands (tokens : Tokens) (bytes : List ℕ) (told : Told) (given : Li
   pub told_is : told ≡ told_of (ended_of tokens)
   pub stands : StandsAt (front_of tokens) tokens.len tokens.ended bytes given
 
+-- one more token was given, and no byte was taken
+abbrev pub GaveToken : Tokens → Tokens → ℕ → Type 0
+GaveToken old new at = (bytes : List ℕ) (told : Told) (given : List Placed) → Stands old bytes told given → Stands new bytes told (given ++ (at, text_of new) ∷ [])
+
+-- no token with a blank behind it is left in what is held
+abbrev pub HoldsNone : Tokens → Type 0
+HoldsNone t = (tokens_from 0 Open (drop t.len (front_of t).bytes)).items ≡ []
+
 -- what an answer means, where these bytes were taken and these tokens were given before it
 abbrev pub Answers : Tokens → Option (List ℕ) → List ℕ → List Placed → Result (Option ℕ) FeedFault → Type 0
 Answers tokens left bytes given (Ok (Some at)) = (told : Told) × (told ≡ AtEnd → IsAtEnd left) × Stands tokens bytes told (given ++ (at, text_of tokens) ∷ [])

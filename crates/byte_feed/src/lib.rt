@@ -5,8 +5,6 @@ mod blanks;
 mod fault;
 mod filling;
 mod laws;
-#[cfg(test)]
-mod tests;
 mod tokens;
 
 pub use fault::FeedFault;

@@ -2,6 +2,7 @@
 ghost use Rattle.std.specs.Prelude.{◌≤◌, length};
 
 use crate::FeedFault;
+use crate::blanks::{blanks_at, plain_at};
 use crate::filling::{LONG, skip_blanks, token_len};
 use la_base::NoMemory;
 use la_io::{Intake, Source};
@@ -19,10 +20,10 @@ pub struct Tokens {
 }
 
 impl Tokens {
-    ghost use Rattle.std.specs.Prelude.{◌≡◌, ◌≢◌, ◌<◌, ◌≤◌, ◌^◌, [], IfOk, IfSome, Err, true, false};
+    ghost use Rattle.std.specs.Prelude.{◌≡◌, ◌≢◌, ◌<◌, ◌≤◌, ◌^◌, [], IfOk, IfSome, None, Err, true, false};
     ghost use Rattle.la_io.specs.Capture.{Cut};
     ghost use Rattle.byte_feed.specs.Moving.{FeedCause};
-    ghost use Rattle.byte_feed.specs.Reader.{Stands, Next, is_spent, ended_of, text_of, left_of, taken_of, spent_by};
+    ghost use Rattle.byte_feed.specs.Reader.{Stands, Next, GaveToken, HoldsNone, is_spent, ended_of, text_of, left_of, taken_of, spent_by};
     ghost use Rattle.byte_feed.specs.declared.fault.FeedFault.TheVariants.{Spent};
 
     /// A reader that has taken nothing. This takes the memory for its buffer.
@@ -78,7 +79,33 @@ impl Tokens {
         }
     }
 
-    /// The bytes of the token that the last call of `next` gave.
+    /// The place of the next token's first byte, where that token and a blank behind it are held. Where
+    /// they aren't, it is `None`, nothing changes, and `next` gives it. Nothing is read.
+    #[inline(always)]
+    pub fn held(&mut self) -> Option<u64>
+        requires { is_spent self.old ≡ false }
+        ensures gave { IfSome result (λ at. GaveToken self.old self.new at) }
+        ensures none { result ≡ None → HoldsNone self.old }
+        ensures kept { result ≡ None → self.new ≡ self.old }
+        ensures ended { ended_of self.new ≡ ended_of self.old }
+        ensures spent { is_spent self.new ≡ false }
+        ensures taken { taken_of self.new ≡ taken_of self.old }
+        ensures progress { IfSome result (λ _. left_of self.new < left_of self.old) }
+    {
+        let rest = &self.intake.bytes()[self.len..];
+        let blanks = blanks_at(rest);
+        let behind = &rest[blanks..];
+        let count = plain_at(behind, 0);
+        let left = behind.len();
+        if count == left {
+            return None;
+        }
+        self.intake.advance(self.len + blanks);
+        self.len = count;
+        Some(self.intake.taken() - left as u64)
+    }
+
+    /// The bytes of the token that was given last.
     #[inline(always)]
     pub fn text(&self) -> &[u8]
         ensures { result.now ≡ text_of self.now }

@@ -1,5 +1,5 @@
 -- Channels of a file, selected.
-use Rattle.std.proofs.Common.{◌≡◌, ℕ, zero, suc, ◌*◌, List, [], ◌∷◌, map, length, get_or, refl, sym, ◌∙◌, ap, subst, arith, Option, Some, None, Bool, true, false}
+use Rattle.std.proofs.Common.{◌≡◌, ℕ, zero, suc, ◌*◌, List, [], ◌∷◌, map, length, get_or, refl, sym, ◌∙◌, ap, subst, arith, Option, Some, None, false}
 use Rattle.std.specs.List.{slice_get}
 use Rattle.std.specs.declared.vec.Vec.{Vec}
 use Rattle.std.specs.declared.alloc.Global.{Global}
@@ -13,6 +13,8 @@ use Rattle.capture_vcd.specs.Slots.{channel_of, code_at, level_of}
 use Rattle.capture_vcd.specs.Following.{levels_now}
 use Rattle.capture_vcd.specs.Places.{channel_at}
 use Rattle.capture_vcd.specs.Running.{OpenAt, PartsStand, last_of, start_of}
+use Rattle.capture_vcd.specs.declared.reader.Phase.{Phase}
+use Rattle.capture_vcd.specs.declared.reader.Phase.TheVariants.{Fresh, Running, Ended, Refused}
 use Rattle.capture_vcd.specs.Reader.{HeadRead, StandsAs, kept_by, slot_at, slot_by}
 use Rattle.capture_vcd.specs.declared.body.Pending.{Pending}
 use Rattle.capture_vcd.specs.declared.body.Pending.TheVariants.{Free}
@@ -77,7 +79,9 @@ body_selected down channels slots pending span free nothing low = record {
   };
 }
 
--- it hasn't given all where it has given nothing
-pub not_done : (ended : Bool) (reader : VcdReader) (bytes : List ℕ) (told : Told) → StandsAs ended reader bytes told [] → ended ≡ false
-not_done false reader bytes told st = refl
-not_done true reader bytes told st = absurd (omega (arith, st.some))
+-- where it has given nothing, it has read nothing of the body
+pub is_fresh : (phase : Phase) (reader : VcdReader) (bytes : List ℕ) (told : Told) → StandsAs phase reader bytes told [] → phase ≡ Fresh
+is_fresh Fresh reader bytes told st = refl
+is_fresh Running reader bytes told st = absurd (omega (arith, st.some))
+is_fresh Ended reader bytes told st = absurd (omega (arith, st.some))
+is_fresh (Refused fault) reader bytes told st = absurd (omega (arith, st.some))

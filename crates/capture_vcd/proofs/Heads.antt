@@ -21,6 +21,7 @@ use Rattle.capture_vcd.specs.Vcd.{bits_in, capture_by, chosen, cut_head, declare
 use Rattle.capture_vcd.specs.Errors.{error_of}
 use Rattle.capture_vcd.specs.Gathering.{HeaderFaulty, PartsAt, PartsDone, TokenSays, scale_pair}
 use Rattle.capture_vcd.specs.Opening.{HeadSays, Whole}
+use Rattle.capture_vcd.specs.declared.reader.Phase.{Phase}
 use Rattle.capture_vcd.specs.Reader.{HeadRead, Makes, Opened, StandsAs, VcdCause, kept_in, pins_in, vcd_down}
 use Rattle.capture_vcd.specs.Running.{channels_in}
 use Rattle.capture_vcd.specs.Places.{channel_at}
@@ -120,7 +121,7 @@ opening_goes down tokens header left bytes (Err why) makes fresh whole =
       whole_head_is down [] bytes whole.told header.names header.places.items header.codes.items header.scale whole.items done first.0 first.1
           ∙ ap (λ (s : Option (ℕ × ℕ)). whole_head down (channels_of done.declared) s) (sym done.kept.scale_is ∙ ap scale_pair makes.0),
     )
-opening_goes down tokens header left bytes (Ok reader) (scale, scale_is, tokens_is, body, codes_is, no_channels, names_is, places_is, num_is, den_is, ended_is, new) fresh whole =
+opening_goes down tokens header left bytes (Ok reader) (scale, scale_is, tokens_is, body, codes_is, no_channels, names_is, places_is, num_is, den_is, phase_is, new) fresh whole =
     let first = given_first tokens bytes whole.told whole.items whole.stands whole.few in
     let done = whole.done in
     let is : scale_in None done.declared ≡ Some (scale.count, scale.a_second) = sym done.kept.scale_is ∙ ap scale_pair scale_is in
@@ -140,7 +141,7 @@ opening_goes down tokens header left bytes (Ok reader) (scale, scale_is, tokens_
     } in (
       whole.told,
       whole.at_end,
-      subst (λ (b : Bool). StandsAs b reader bytes whole.told []) (sym ended_is) (record {
+      subst (λ (p : Phase). StandsAs p reader bytes whole.told []) (sym phase_is) (record {
         going = record {
           head = whole.items;
           items = [];
@@ -150,7 +151,8 @@ opening_goes down tokens header left bytes (Ok reader) (scale, scale_is, tokens_
           few = subst (λ (t : Tokens). taken_of t ≤ 2 ^ 60) (sym tokens_is) whole.few;
           body = body;
         };
-        unread = λ e. refl;
+        none = refl;
+        unread = refl;
       }),
       whole_head_is down [] bytes whole.told header.names header.places.items header.codes.items header.scale whole.items done first.0 first.1
           ∙ ap (λ (s : Option (ℕ × ℕ)). whole_head down (channels_of done.declared) s) is

@@ -9,7 +9,7 @@ use Rattle.la_base.specs.Naming.{same_name}
 use Rattle.capture_vcd.specs.Body.{Event, Sets}
 use Rattle.capture_vcd.specs.Stretches.{digits_now}
 use Rattle.capture_vcd.specs.Following.{is_one, level_bit, levels_now, word_bits}
-use Rattle.capture_vcd.specs.Slots.{assigned, channel_of, code_at, level_of, value_of, valued}
+use Rattle.capture_vcd.specs.Slots.{assigned, changed, channel_of, code_at, level_of, value_of, valued}
 use Rattle.capture_vcd.specs.declared.slots.Slot.{Slot}
 use Rattle.capture_vcd.proofs.Following.{digits_set}
 
@@ -49,6 +49,19 @@ module _ (codes : List (Vec ℕ Global)) where
   pub channels_assigned : (code : List ℕ) (slots : List Slot) → map (channel_of codes) (map (assigned codes code) slots) ≡ map (channel_of codes) slots
   channels_assigned code [] = refl
   channels_assigned code (slot ∷ slots) = ap (λ (l : List (List ℕ × ℕ)). channel_of codes slot ∷ l) (channels_assigned code slots)
+
+  -- one look at a channel in place of two
+  pub levels_changed : (first : ℕ) (code : List ℕ) (slots : List Slot) → map level_of (map (assigned codes code) (map (valued (first ∷ [])) slots)) ≡ map level_of (map (changed codes first code) slots)
+  levels_changed first code [] = refl
+  levels_changed first code (slot ∷ slots) = ap (λ (l : List Bool). level_of (changed codes first code slot) ∷ l) (levels_changed first code slots)
+
+  pub channels_changed : (first : ℕ) (code : List ℕ) (slots : List Slot) → map (channel_of codes) (map (assigned codes code) (map (valued (first ∷ [])) slots)) ≡ map (channel_of codes) (map (changed codes first code) slots)
+  channels_changed first code [] = refl
+  channels_changed first code (slot ∷ slots) = ap (λ (l : List (List ℕ × ℕ)). channel_of codes slot ∷ l) (channels_changed first code slots)
+
+  pub channels_keep : (first : ℕ) (code : List ℕ) (slots : List Slot) → map (channel_of codes) (map (changed codes first code) slots) ≡ map (channel_of codes) slots
+  channels_keep first code [] = refl
+  channels_keep first code (slot ∷ slots) = ap (λ (l : List (List ℕ × ℕ)). channel_of codes slot ∷ l) (channels_keep first code slots)
 
   head_is : (a b : Bool) (rest bs : List Bool) → a ∷ rest ≡ b ∷ bs → a ≡ b
   head_is a b rest bs e = cc

@@ -14,3 +14,4 @@ pub mod Heads
 pub mod Choosing
 pub mod Given
 pub mod Marking
+pub mod Waiting

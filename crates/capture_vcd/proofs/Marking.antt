@@ -6,7 +6,7 @@ use Rattle.std.proofs.lemmas.Slice.Eq.{bytes_eq-Decides}
 use Rattle.std.specs.declared.vec.Vec.{Vec}
 use Rattle.std.specs.declared.alloc.Global.{Global}
 use Rattle.la_base.specs.Naming.{same_name}
-use Rattle.capture_vcd.specs.Slots.{assigned, code_at, level_of, valued}
+use Rattle.capture_vcd.specs.Slots.{assigned, changed, code_at, level_of, valued}
 use Rattle.capture_vcd.specs.Marks.{IsMarked, Marked, MarkedTo, NoneHas, last_byte, variable_at}
 use Rattle.capture_vcd.specs.declared.slots.Slot.{Slot}
 
@@ -40,9 +40,13 @@ none_has marks codes code (slot ∷ slots) marked some unmarked = (by_test (same
       absurd (false≢true (sym unmarked ∙ sym (ap (λ (c : List ℕ). get_or marks (last_byte c) false) same) ∙ marked 0 (omega arith) (omega (arith, some, ap length same))))
 
 -- such a change leaves the levels
-pub levels_left : (codes : List (Vec ℕ Global)) (code digits : List ℕ) (slots : List Slot) → NoneHas codes code slots → map level_of (map (assigned codes code) (map (valued digits) slots)) ≡ map level_of slots
-levels_left codes code digits [] none = refl
-levels_left codes code digits (slot ∷ slots) none = λ i. cond-false (same_name (code_at codes slot.variable) code) (valued digits slot).value slot.level none.0 i ∷ levels_left codes code digits slots none.1 i
+pub levels_left : (codes : List (Vec ℕ Global)) (code : List ℕ) (slots : List Slot) → NoneHas codes code slots → map level_of (map (assigned codes code) slots) ≡ map level_of slots
+levels_left codes code [] none = refl
+levels_left codes code (slot ∷ slots) none = λ i. cond-false (same_name (code_at codes slot.variable) code) slot.value slot.level none.0 i ∷ levels_left codes code slots none.1 i
+
+pub none_valued : (codes : List (Vec ℕ Global)) (code digits : List ℕ) (slots : List Slot) → NoneHas codes code slots → NoneHas codes code (map (valued digits) slots)
+none_valued codes code digits [] none = tt
+none_valued codes code digits (slot ∷ slots) none = (none.0, none_valued codes code digits slots none.1)
 
 -- marks stay where a value is noted or taken
 variable_valued : (digits : List ℕ) (slots : List Slot) (k : ℕ) → variable_at (map (valued digits) slots) k ≡ variable_at slots k
@@ -62,3 +66,12 @@ marked_valued marks codes digits slots marked k less =
 pub marked_assigned : (marks : List Bool) (codes : List (Vec ℕ Global)) (code : List ℕ) (slots : List Slot) → Marked marks codes slots → Marked marks codes (map (assigned codes code) slots)
 marked_assigned marks codes code slots marked k less =
     subst (λ (v : ℕ). IsMarked marks (code_at codes v)) (sym (variable_assigned codes code slots k)) (marked k (omega (arith, less, length-map slots (assigned codes code))))
+
+variable_changed : (codes : List (Vec ℕ Global)) (first : ℕ) (code : List ℕ) (slots : List Slot) (k : ℕ) → variable_at (map (changed codes first code) slots) k ≡ variable_at slots k
+variable_changed codes first code [] k = refl
+variable_changed codes first code (slot ∷ slots) zero = refl
+variable_changed codes first code (slot ∷ slots) (suc k) = variable_changed codes first code slots k
+
+pub marked_changed : (marks : List Bool) (codes : List (Vec ℕ Global)) (first : ℕ) (code : List ℕ) (slots : List Slot) → Marked marks codes slots → Marked marks codes (map (changed codes first code) slots)
+marked_changed marks codes first code slots marked k less =
+    subst (λ (v : ℕ). IsMarked marks (code_at codes v)) (sym (variable_changed codes first code slots k)) (marked k (omega (arith, less, length-map slots (changed codes first code))))

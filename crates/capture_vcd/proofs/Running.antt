@@ -1,5 +1,5 @@
 -- How the parts of a body's reader go on.
-use Rattle.std.proofs.Common.{◌≡◌, ℕ, ◌+◌, ◌-◌, ◌^◌, ◌≤◌, ◌<◌, List, [], ◌∷◌, ◌++◌, map, replicate, refl, sym, ◌∙◌, ap, subst, arith, Bool, nat_le, nat_lt, Option, Some, None, Err, ℤ, pos}
+use Rattle.std.proofs.Common.{◌≡◌, ℕ, ◌+◌, ◌-◌, ◌^◌, ◌≤◌, ◌<◌, List, [], ◌∷◌, ◌++◌, map, replicate, refl, sym, ◌∙◌, ap, subst, Bool, nat_le, nat_lt, Option, Some, None, Err, ℤ, pos}
 use Rattle.std.proofs.lemmas.Bool.{cond-true, cond-false, lt-ltb, lt-leb}
 use Rattle.std.proofs.lemmas.List.{append-nil}
 use Rattle.text_parts.specs.Places.{Placed}
@@ -11,8 +11,8 @@ use Rattle.capture_vcd.specs.Body.{Channel, Event, Sets, Statement, Time, Change
 use Rattle.capture_vcd.specs.Body as within
 use Rattle.capture_vcd.specs.Following.{BodyAt, is_one, word_bits}
 use Rattle.capture_vcd.specs.Marks.{NoneHas}
-use Rattle.capture_vcd.proofs.Marking.{levels_left}
-use Rattle.capture_vcd.specs.Slots.{assigned, channel_of, level_of, value_of, valued}
+use Rattle.capture_vcd.proofs.Marking.{levels_left, none_valued}
+use Rattle.capture_vcd.specs.Slots.{assigned, changed, channel_of, level_of, value_of, valued}
 use Rattle.capture_vcd.specs.Running.{BodyFaulty, BodyEnds, OpenAt, PartsStand, hanging_of}
 use Rattle.la_io.specs.Capture.{Clean, Ends, Faulty, Open}
 use Rattle.capture_vcd.specs.Vcd.{body_by, read_front, settled_by, statements_at}
@@ -21,18 +21,12 @@ use Rattle.capture_vcd.specs.declared.body.Pending.{Pending}
 use Rattle.capture_vcd.specs.declared.body.Pending.TheVariants.{Free, Value, Skip, Comment}
 use Rattle.std.specs.declared.vec.Vec.{Vec}
 use Rattle.std.specs.declared.alloc.Global.{Global}
-use Rattle.capture_vcd.proofs.Levels.{bits_keep, channels_assigned, channels_valued, levels_assigned, levels_keep, values_are}
+use Rattle.capture_vcd.proofs.Levels.{bits_keep, channels_assigned, channels_changed, channels_valued, levels_assigned, levels_changed, levels_keep, values_are}
 use Rattle.capture_vcd.proofs.Following.{body_changes, body_ends, body_fault, body_hangs, body_last, body_on, body_reaches, body_starts}
 
 pub samples_are : (run : Run) → samples run ≡ replicate run.len run.value
 unfolding samples
 samples_are run = refl
-
-pub counted : (a b x y : ℕ) → x ≡ b → y ≡ a → a ≤ b → a + (x - y) ≡ b
-counted a b x y x_is y_is order = omega (arith, x_is, y_is, order)
-
-pub none_counted : (a b x y : ℕ) → x ≡ b → y ≡ a → a ≤ b → x - y ≡ 0 → a ≡ b
-none_counted a b x y x_is y_is order none = omega (arith, x_is, y_is, order, none)
 
 module _ (down : ℕ) (some : 0 < down) (channels : List Channel) (slots : List Slot) where
   abbrev Parts : Pending → Option ℕ → Option ℕ → List Placed → List ℕ → Type 0
@@ -69,15 +63,6 @@ module _ (down : ℕ) (some : 0 < down) (channels : List Channel) (slots : List 
     parts_reach s l count start_is last_is order total =
         at_free pending (Some s) (Some time) (items ++ token ∷ []) _ free
         (body_reaches down some channels (map level_of slots) within.Free items given token within.Free at time small gives s l count order total (moved (Some s) (Some l) start_is last_is))
-
-    pub parts_stay : (s l : ℕ) → start ≡ Some s → last ≡ Some l → l ≤ time → samples_before (l - s) down ≡ samples_before (time - s) down → Parts pending (Some s) (Some time) (items ++ token ∷ []) given
-    parts_stay s l start_is last_is order total =
-        subst (λ (g : List ℕ). Parts pending (Some s) (Some time) (items ++ token ∷ []) g) (append-nil given) (parts_reach s l 0 start_is last_is order (omega (arith, total)))
-
-    pub parts_run : (s l : ℕ) (run : Run) → start ≡ Some s → last ≡ Some l → l ≤ time → samples_before (l - s) down + run.len ≡ samples_before (time - s) down → run.value ≡ word_bits (map level_of slots)
-        → Parts pending (Some s) (Some time) (items ++ token ∷ []) (given ++ samples run)
-    parts_run s l run start_is last_is order total value =
-        subst (λ (g : List ℕ). Parts pending (Some s) (Some time) (items ++ token ∷ []) (given ++ g)) (sym (samples_are run ∙ ap (λ (v : ℕ). replicate run.len v) value)) (parts_reach s l run.len start_is last_is order total)
 
     back_is : (l : ℕ) → last ≡ Some l → time < l → BodyFaulty down channels (items ++ token ∷ []) given (fault.TimeBack at (pos l) (pos time))
     back_is l last_is less =
@@ -126,17 +111,10 @@ module _ (down : ℕ) (some : 0 < down) (channels : List Channel) (slots : List 
       at : BodyAt down channels (map level_of slots) st.open_is (Some s) (Some l) items given
       at = subst (λ (o : Option ℕ). BodyAt down channels (map level_of slots) st.open_is (Some s) o items given) last_is (subst (λ (o : Option ℕ). BodyAt down channels (map level_of slots) st.open_is o last items given) start_is st.stands)
 
-      parts_count : (count : ℕ) → samples_before (l - s) down + count ≡ samples_to (l - s) down → BodyEnds down channels items (given ++ replicate count (word_bits (map level_of slots))) Clean
+      pub parts_count : (count : ℕ) → samples_before (l - s) down + count ≡ samples_to (l - s) down → BodyEnds down channels items (given ++ replicate count (word_bits (map level_of slots))) Clean
       parts_count count total = λ head.
           body_ends down some channels (map level_of slots) st.open_is (Some s) (Some l) items given at head (replicate count (word_bits (map level_of slots))) (none_hangs pending st.open_is none st.opened)
           (body_last down some channels (map level_of slots) st.open_is s l count items given at total)
-
-      pub parts_end : samples_before (l - s) down ≡ samples_to (l - s) down → BodyEnds down channels items given Clean
-      parts_end total = subst (λ (g : List ℕ). BodyEnds down channels items g Clean) (append-nil given) (parts_count 0 (omega (arith, total)))
-
-      pub parts_last : (run : Run) → samples_before (l - s) down + run.len ≡ samples_to (l - s) down → run.value ≡ word_bits (map level_of slots) → BodyEnds down channels items (given ++ samples run) Clean
-      parts_last run total value =
-          subst (λ (g : List ℕ). BodyEnds down channels items (given ++ g) Clean) (sym (samples_are run ∙ ap (λ (v : ℕ). replicate run.len v) value)) (parts_count run.len total)
 
 -- what slots make of a token
 module _ (down : ℕ) (some : 0 < down) (codes : List (Vec ℕ Global)) where
@@ -204,20 +182,39 @@ module _ (down : ℕ) (some : 0 < down) (codes : List (Vec ℕ Global)) where
         subst (λ (p : Pending). Stand new p start last (items ++ token ∷ []) given) (sym free)
         (parts_set (map (valued digits) slots) new within.Free code digits same (values_are digits slots ∙ sym (bits_keep digits slots)) (new_is ∙ ap (λ (l : List Slot). map (assigned codes code) l) mid_is) gives)
 
-  pub channels_scalar : (slots mid new : List Slot) (code digits : List ℕ) → mid ≡ map (valued digits) slots → new ≡ map (assigned codes code) mid → map (channel_of codes) new ≡ map (channel_of codes) slots
-  channels_scalar slots mid new code digits mid_is new_is =
-      ap (λ (l : List Slot). map (channel_of codes) l) new_is ∙ channels_assigned codes code mid ∙ ap (λ (l : List Slot). map (channel_of codes) l) mid_is ∙ channels_valued codes digits slots
+  -- channels of the same levels
+  parts_like : (start last : Option ℕ) (items : List Placed) (given : List ℕ) (slots new : List Slot) → map level_of new ≡ map level_of slots → map (channel_of codes) new ≡ map (channel_of codes) slots → Stand new Free start last items given → Stand slots Free start last items given
+  parts_like start last items given slots new levels channels p = record {
+    open_is = p.open_is;
+    opened = p.opened;
+    stands = subst (λ (ch : List Channel). BodyAt down ch (map level_of slots) p.open_is start last items given) channels
+        (subst (λ (bs : List Bool). BodyAt down (map (channel_of codes) new) bs p.open_is start last items given) levels p.stands);
+  }
 
-  -- a change of a code that none of the channels has
-  pub parts_left : (start last : Option ℕ) (items : List Placed) (given : List ℕ) (token : Placed) (slots : List Slot) (pending : Pending) (code digits : List ℕ) → NoneHas codes code slots → pending ≡ Free
-      → token_gives within.Free token ≡ (Change code digits ∷ [], within.Free) → Stand slots pending start last items given → Stand slots pending start last (items ++ token ∷ []) given
-  parts_left start last items given token slots pending code digits none free gives st =
-      let mid = map (valued digits) slots in
-      let new = map (assigned codes code) mid in
-      let p = parts_scalar start last items given token slots mid new pending code digits refl refl free gives st in
-      record {
-        open_is = p.open_is;
-        opened = subst (λ (q : Pending). OpenAt q slots p.open_is) (sym free) (subst (λ (q : Pending). OpenAt q new p.open_is) free p.opened);
-        stands = subst (λ (ch : List Channel). BodyAt down ch (map level_of slots) p.open_is start last (items ++ token ∷ []) given) (channels_scalar slots mid new code digits refl refl)
-            (subst (λ (bs : List Bool). BodyAt down (map (channel_of codes) new) bs p.open_is start last (items ++ token ∷ []) given) (levels_left codes code digits slots none) p.stands);
-      }
+  module _ (start last : Option ℕ) (items : List Placed) (given : List ℕ) (token : Placed) (slots : List Slot) (pending : Pending) where
+    -- a change to a value of one digit
+    module _ (code : List ℕ) (first : ℕ) (free : pending ≡ Free) (gives : token_gives within.Free token ≡ (Change code (first ∷ []) ∷ [], within.Free)) (st : Stand slots pending start last items given) where
+      abbrev set : List Slot
+      set = map (assigned codes code) (map (valued (first ∷ [])) slots)
+
+      scalar : Stand set Free start last (items ++ token ∷ []) given
+      scalar = subst (λ (q : Pending). Stand set q start last (items ++ token ∷ []) given) free (parts_scalar start last items given token slots (map (valued (first ∷ [])) slots) set pending code (first ∷ []) refl refl free gives st)
+
+      pub parts_changed : (new : List Slot) → new ≡ map (changed codes first code) slots → Stand new pending start last (items ++ token ∷ []) given
+      parts_changed new new_is =
+          subst (λ (n : List Slot). Stand n pending start last (items ++ token ∷ []) given) (sym new_is)
+          (subst (λ (q : Pending). Stand (map (changed codes first code) slots) q start last (items ++ token ∷ []) given) (sym free)
+          (parts_like start last (items ++ token ∷ []) given (map (changed codes first code) slots) set (levels_changed codes first code slots) (channels_changed codes first code slots) scalar))
+
+      -- of a code that none of the channels has
+      pub parts_left : NoneHas codes code slots → Stand slots pending start last (items ++ token ∷ []) given
+      parts_left none =
+          subst (λ (q : Pending). Stand slots q start last (items ++ token ∷ []) given) (sym free)
+          (parts_like start last (items ++ token ∷ []) given slots set (levels_left codes code (map (valued (first ∷ [])) slots) (none_valued codes code (first ∷ []) slots none) ∙ levels_keep (first ∷ []) slots)
+          (channels_assigned codes code (map (valued (first ∷ [])) slots) ∙ channels_valued codes (first ∷ []) slots) scalar)
+
+    -- the value that was noted is that of such a code
+    pub parts_passed : (at : ℕ) → pending ≡ Value at → NoneHas codes token.1 slots → Stand slots pending start last items given → Stand slots Free start last (items ++ token ∷ []) given
+    parts_passed at is none st =
+        parts_like start last (items ++ token ∷ []) given slots (map (assigned codes token.1) slots) (levels_left codes token.1 slots none) (channels_assigned codes token.1 slots)
+        (parts_code start last items given token slots (map (assigned codes token.1) slots) pending at is refl st)

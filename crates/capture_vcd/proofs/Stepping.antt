@@ -3,7 +3,7 @@ use Rattle.la_base.specs.Samples.{samples}
 use Rattle.la_base.specs.declared.samples.Run.{Run}
 use Rattle.capture_vcd.proofs.Running.{samples_are}
 use Rattle.std.proofs.lemmas.List.{length-replicate}
-use Rattle.std.proofs.Common.{◌≡◌, ◌≢◌, arith, length, length-append, ℕ, ◌^◌, ◌≤◌, ◌<◌, List, [], ◌∷◌, ◌++◌, map, refl, sym, ◌∙◌, ap, subst, append_assoc, Option, Some, None, Err, Bool, true, false}
+use Rattle.std.proofs.Common.{◌≡◌, arith, length, length-append, ℕ, ◌^◌, ◌≤◌, ◌<◌, List, [], ◌∷◌, ◌++◌, map, refl, sym, ◌∙◌, ap, subst, append_assoc, Option, Some, None, Err, Bool, true, false}
 use Rattle.std.specs.Io.KnownBytes.{Consumes, IsAtEnd}
 use Rattle.text_parts.specs.Places.{Placed}
 use Rattle.la_io.specs.declared.fault.CaptureFault.{CaptureFault}
@@ -19,14 +19,18 @@ use Rattle.capture_vcd.specs.Body.{Channel}
 use Rattle.capture_vcd.specs.Slots.{level_of}
 use Rattle.capture_vcd.specs.Vcd.{vcd_capture}
 use Rattle.capture_vcd.specs.Errors.{error_of}
-use Rattle.capture_vcd.specs.Running.{BodyEnds, BodyFaulty, BodyStands, SameForm, channels_in, down_in, given_in, last_of, start_of}
+use Rattle.capture_vcd.specs.Running.{BodyEnds, BodyFaulty, BodySettled, BodyStands, Flushes, SameForm, channels_in, down_in, given_in, held_in, last_of, run_samples, start_of, waiting, word_in}
 use Rattle.capture_vcd.specs.declared.body.Body.{Body}
 use Rattle.capture_vcd.specs.declared.place.Place.{Place}
 use Rattle.la_base.specs.declared.samples.Rate.{Rate}
 use Rattle.std.specs.declared.vec.Vec.{Vec}
 use Rattle.std.specs.declared.alloc.Global.{Global}
 use Rattle.std.proofs.lemmas.Bool.{false≢true}
-use Rattle.capture_vcd.specs.Reader.{Behind, Going, HeadRead, Kept, SameReader, StepAnswers, given_at, kept_by, kept_in, pins_in, vcd_down}
+use Rattle.std.proofs.lemmas.List.{append-nil}
+use Rattle.capture_vcd.specs.declared.reader.Phase.{Phase}
+use Rattle.capture_vcd.specs.declared.reader.Phase.TheVariants.{Fresh, Running, Ended, Refused}
+use Rattle.capture_vcd.proofs.Waiting.{flush_form, none_waits, run_is, settles}
+use Rattle.capture_vcd.specs.Reader.{Behind, Going, HeadRead, Kept, SameReader, StandsAs, StepAnswers, given_at, is_going, kept_by, kept_in, pins_in, vcd_down}
 use Rattle.capture_vcd.specs.declared.reader.VcdReader.{VcdReader}
 use Rattle.capture_vcd.proofs.Following.{body_cut, body_feed}
 use Rattle.capture_vcd.proofs.Reading.{capture_is, given_first, head_is}
@@ -66,7 +70,7 @@ module _ (down : ℕ) (pins : List ℕ) (channels : List Channel) (kept : Kept) 
 
 -- its tokens have a fault
 module _ (new : VcdReader) (some : 0 < vcd_down new) (left : Option (List ℕ)) (bytes more : List ℕ) (head items : List Placed) (given : List ℕ)
-    (h : HeadRead (vcd_down new) (pins_in new) (channels_in new.body) (kept_in new) head) (st : BodyStands new.body items given) (was : Bool) (early : Told) (early_is : early ≡ told_of was)
+    (h : HeadRead (vcd_down new) (pins_in new) (channels_in new.body) (kept_in new) head) (st : BodySettled new.body items given) (was : Bool) (early : Told) (early_is : early ≡ told_of was)
     (none : was ≡ true → more ≡ []) (stays : was ≡ true → ended_of new.tokens ≡ true) where
   abbrev pub FaultSays : CaptureError → Type 0
   FaultSays why = Behind left bytes early more (λ all told. StepAnswers new all told given (Err why))
@@ -129,12 +133,52 @@ chained m n before bytes more early given mid Q a two =
 pub given_some : (given : List ℕ) (run : Run) → 1 ≤ run.len → 0 < length (given ++ samples run)
 given_some given run some = omega (arith, some, length-append given (samples run), ap length (samples_are run), length-replicate run.len run.value)
 
-pub some_given : (given : List ℕ) (run : Run) → 1 ≤ run.len → given ++ samples run ≢ []
-some_given given run some none = absurd (omega (arith, given_some given run some, ap length none))
-
 -- how many samples it gave, while it reads the body
-pub given_is : (ended : Bool) (body : Body) → ended ≡ false → given_at ended body ≡ given_in body
-given_is ended body is = ap (λ (b : Bool). given_at b body) is
+pub given_is : (phase : Phase) (body : Body) → is_going phase ≡ true → given_at phase body ≡ given_in body
+given_is Fresh body is = refl
+given_is Running body is = refl
+given_is Ended body is = absurd (false≢true is)
+given_is (Refused fault) body is = absurd (false≢true is)
+
+-- it reads the body
+pub going_as : (phase : Phase) (reader : VcdReader) (bytes : List ℕ) (told : Told) (given : List ℕ) → is_going phase ≡ true → StandsAs phase reader bytes told given → Going reader bytes told given
+going_as Fresh reader bytes told given is st = st.going
+going_as Running reader bytes told given is st = st.going
+going_as Ended reader bytes told given is st = absurd (false≢true is)
+going_as (Refused fault) reader bytes told given is st = absurd (false≢true is)
+
+-- a fault behind the samples that were held back
+pub faulty_behind : (old new : Body) (run : Option Run) (items : List Placed) (given : List ℕ) (fault : CaptureFault) → Flushes old new run → BodyFaulty (down_in old) (channels_in old) items (given ++ waiting old) fault
+    → BodyFaulty (down_in new) (channels_in new) items (given ++ run_samples run) fault
+faulty_behind old new run items given fault flush faulty =
+    let form = flush_form old new run flush in
+    subst (λ (d : ℕ). BodyFaulty d (channels_in new) items (given ++ run_samples run) fault) (sym form.down)
+    (subst (λ (ch : List Channel). BodyFaulty (down_in old) ch items (given ++ run_samples run) fault) (sym form.channels)
+    (subst (λ (l : List ℕ). BodyFaulty (down_in old) (channels_in old) items (given ++ l) fault) (sym (run_is (held_in old) (word_in old) run flush.gave)) faulty))
+
+-- the samples that were held back were given
+pub flushed_stands : (old new : Body) (run : Option Run) (items : List Placed) (given : List ℕ) → Flushes old new run → BodyStands old items given → BodyStands new items (given ++ run_samples run)
+flushed_stands old new run items given flush st = none_waits new items (given ++ run_samples run) flush.none (settles old new run items given flush st)
+
+-- what is said of the same bytes
+pub behind_on : (left : Option (List ℕ)) (before : List ℕ) (early : Told) (bytes : List ℕ) (P Q : List ℕ → Told → Type 0) → ((all : List ℕ) (told : Told) → P all told → Q all told) → Behind left before early bytes P → Behind left before early bytes Q
+behind_on left before early bytes P Q on b = record {
+  told = b.told;
+  none = b.none;
+  still = b.still;
+  at_end = b.at_end;
+  says = on (before ++ bytes) b.told b.says;
+}
+
+-- no byte was taken
+pub behind_same : (left : Option (List ℕ)) (before : List ℕ) (early : Told) (Q : List ℕ → Told → Type 0) → (early ≡ AtEnd → IsAtEnd left) → Q before early → Behind left before early [] Q
+behind_same left before early Q at q = record {
+  told = early;
+  none = λ e. refl;
+  still = λ e. e;
+  at_end = at;
+  says = subst (λ (b : List ℕ). Q b early) (sym (append-nil before)) q;
+}
 
 -- nothing was taken
 pub consumes_none : (a : Option (List ℕ)) → Consumes a a []

@@ -7,7 +7,7 @@ use Rattle.la_base.specs.declared.samples.Run.{Run}
 use Rattle.la_io.specs.declared.fault.CaptureError.{CaptureError}
 use Rattle.la_io.specs.declared.fault.CaptureError.TheVariants as error
 use Rattle.la_io.specs.Capture.{Told, AtEnd, Cut, Good, Bad, Unread, Clean, Faulty, Open, Captured, Ends}
-use Rattle.byte_feed.specs.Reader.{Stands, is_spent, left_of, taken_of}
+use Rattle.byte_feed.specs.Reader.{HoldsNone, Stands, is_spent, left_of, taken_of}
 use Rattle.std.specs.declared.vec.Vec.{Vec}
 use Rattle.std.specs.declared.alloc.Global.{Global}
 use Rattle.la_base.specs.declared.samples.Rate.{Rate}
@@ -15,7 +15,8 @@ use Rattle.la_io.specs.Causes.{Rose}
 use Rattle.capture_vcd.specs.Header.{Declared, Section, channels_of, declared_by, header_from}
 use Rattle.capture_vcd.specs.Body.{Channel}
 use Rattle.capture_vcd.specs.Vcd.{bits_in, chosen, read_front, scale_in, vcd_capture}
-use Rattle.capture_vcd.specs.Running.{BodyStands, all_in, channels_in, down_in, given_in}
+use Rattle.la_io.specs.declared.fault.CaptureFault.{CaptureFault}
+use Rattle.capture_vcd.specs.Running.{BodyStands, all_in, channels_in, down_in, given_in, held_in}
 use Rattle.la_io.specs.declared.fault.CaptureFault.TheVariants.{NoTimescale}
 use Rattle.byte_feed.specs.declared.tokens.Tokens.{Tokens}
 use Rattle.capture_vcd.specs.declared.header.Header.{Header}
@@ -25,6 +26,8 @@ use Rattle.capture_vcd.specs.declared.body.Body.{Body}
 use Rattle.capture_vcd.specs.declared.place.Place.{Place}
 use Rattle.capture_vcd.specs.Places.{channel_at}
 use Rattle.capture_vcd.specs.declared.reader.VcdReader.{VcdReader}
+use Rattle.capture_vcd.specs.declared.reader.Phase.{Phase}
+use Rattle.capture_vcd.specs.declared.reader.Phase.TheVariants.{Fresh, Running, Ended, Refused}
 use Rattle.capture_vcd.specs.declared.reader.Step.{Step}
 use Rattle.capture_vcd.specs.declared.reader.Step.TheVariants.{Went, Gave, Over}
 
@@ -74,13 +77,22 @@ vcd_down reader = down_in reader.body
 abbrev pub vcd_open : VcdReader → Bool
 vcd_open reader = reader.is_open
 
+-- whether it may read more of the body
+abbrev pub is_going : Phase → Bool
+is_going Fresh = true
+is_going Running = true
+is_going Ended = false
+is_going (Refused fault) = false
+
 -- how many samples it gave
-abbrev pub given_at : Bool → Body → ℕ
-given_at false body = given_in body
-given_at true body = all_in body
+abbrev pub given_at : Phase → Body → ℕ
+given_at Fresh body = given_in body
+given_at Running body = given_in body
+given_at Ended body = all_in body
+given_at (Refused fault) body = given_in body
 
 abbrev pub vcd_given : VcdReader → ℕ
-vcd_given reader = given_at reader.ended reader.body
+vcd_given reader = given_at reader.phase reader.body
 
 -- what these bytes give, with its channels and its rate
 abbrev pub vcd_by : VcdReader → List ℕ → Told → Captured
@@ -96,10 +108,16 @@ pub record Going (reader : VcdReader) (bytes : List ℕ) (told : Told) (given : 
   pub few : taken_of reader.tokens ≤ 2 ^ 60
   pub body : BodyStands reader.body items given
 
--- the same between two calls: where no sample was given, nothing of the body was read
-pub record Reading (reader : VcdReader) (bytes : List ℕ) (told : Told) (given : List ℕ) : Type 0 where
+-- the same where no sample was given: nothing was read of the body
+pub record Starting (reader : VcdReader) (bytes : List ℕ) (told : Told) (given : List ℕ) : Type 0 where
   pub going : Going reader bytes told given
-  pub unread : given ≡ [] → going.items ≡ []
+  pub none : given ≡ []
+  pub unread : going.items ≡ []
+
+-- and where some were
+pub record Midway (reader : VcdReader) (bytes : List ℕ) (told : Told) (given : List ℕ) : Type 0 where
+  pub going : Going reader bytes told given
+  pub some : 0 < length given
 
 -- it has given all, and some
 pub record Done (reader : VcdReader) (bytes : List ℕ) (told : Told) (given : List ℕ) : Type 0 where
@@ -107,13 +125,60 @@ pub record Done (reader : VcdReader) (bytes : List ℕ) (told : Told) (given : L
   pub ends : Ends (vcd_by reader bytes told) given Clean
   pub some : 0 < length given
 
-abbrev pub StandsAs : Bool → VcdReader → List ℕ → Told → List ℕ → Type 0
-StandsAs false reader bytes told given = Reading reader bytes told given
-StandsAs true reader bytes told given = Done reader bytes told given
+-- it has given all that come before a fault, and some
+pub record Stopped (fault : CaptureFault) (reader : VcdReader) (bytes : List ℕ) (told : Told) (given : List ℕ) : Type 0 where
+  pub ends : Ends (vcd_by reader bytes told) given (Faulty fault)
+  pub some : 0 < length given
+
+abbrev pub StandsAs : Phase → VcdReader → List ℕ → Told → List ℕ → Type 0
+StandsAs Fresh reader bytes told given = Starting reader bytes told given
+StandsAs Running reader bytes told given = Midway reader bytes told given
+StandsAs Ended reader bytes told given = Done reader bytes told given
+StandsAs (Refused fault) reader bytes told given = Stopped fault reader bytes told given
 
 -- it took these bytes, whose end the source told or not, and gave these samples
 abbrev pub VcdStands : VcdReader → List ℕ → Told → List ℕ → Type 0
-VcdStands reader bytes told given = StandsAs reader.ended reader bytes told given
+VcdStands reader bytes told given = StandsAs reader.phase reader bytes told given
+
+-- these samples were given of what is held: no byte was taken
+abbrev pub GaveHeld : VcdReader → VcdReader → List ℕ → Type 0
+GaveHeld old new more = (bytes : List ℕ) (told : Told) (given : List ℕ) → VcdStands old bytes told given → VcdStands new bytes told (given ++ more)
+
+-- no token with a blank behind it is held, and no samples are held back, where it reads the body and gave some
+abbrev pub HeldOut : Phase → VcdReader → Type 0
+HeldOut Fresh reader = Unit {0}
+HeldOut Running reader = HoldsNone reader.tokens × (held_in reader.body ≡ 0)
+HeldOut Ended reader = Unit {0}
+HeldOut (Refused fault) reader = Unit {0}
+
+abbrev pub HoldsNothing : VcdReader → Type 0
+HoldsNothing reader = vcd_open reader ≡ true → HeldOut reader.phase reader
+
+-- the run of a step, if it gave one
+abbrev pub run_of : Step → Option Run
+run_of Went = None
+run_of (Gave run) = Some run
+run_of Over = None
+
+-- what a step means that took no byte
+abbrev pub HeldAnswers : VcdReader → List ℕ → Told → List ℕ → Step → Type 0
+HeldAnswers reader bytes told given Went = Midway reader bytes told given
+HeldAnswers reader bytes told given (Gave run) = VcdStands reader bytes told (given ++ samples run)
+HeldAnswers reader bytes told given Over = VcdStands reader bytes told given
+
+abbrev pub HeldSteps : VcdReader → VcdReader → Step → Type 0
+HeldSteps old new step = (bytes : List ℕ) (told : Told) (given : List ℕ) → Midway old bytes told given → HeldAnswers new bytes told given step
+
+-- behind a token that gave no samples it goes on, and less is left; at the end nothing is held
+abbrev pub HeldWent : VcdReader → VcdReader → Step → Type 0
+HeldWent old new Went = (new.phase ≡ Running) × (left_of new.tokens < left_of old.tokens)
+HeldWent old new (Gave run) = Unit {0}
+HeldWent old new Over = HoldsNothing new
+
+-- the samples that were held back were given
+abbrev pub Flushed : VcdReader → VcdReader → Option Run → Type 0
+Flushed old new None = (bytes : List ℕ) (told : Told) (given : List ℕ) → Going old bytes told given → Going new bytes told given
+Flushed old new (Some run) = (bytes : List ℕ) (told : Told) (given : List ℕ) → Going old bytes told given → VcdStands new bytes told (given ++ samples run)
 
 -- what an answer says of all bytes taken
 abbrev pub StepAnswers : VcdReader → List ℕ → Told → List ℕ → Result Step CaptureError → Type 0
@@ -155,7 +220,7 @@ pub record SameReader (old new : VcdReader) : Type 0 where
 
 -- behind a token that gave no samples it reads on, and less is left; behind a run it is open; else it is closed
 abbrev pub WentOn : VcdReader → VcdReader → Result Step CaptureError → Type 0
-WentOn old new (Ok Went) = (new.ended ≡ false) × (vcd_open new ≡ true) × (left_of new.tokens < left_of old.tokens) × (vcd_given new ≡ vcd_given old)
+WentOn old new (Ok Went) = (is_going new.phase ≡ true) × (vcd_open new ≡ true) × (left_of new.tokens < left_of old.tokens) × (vcd_given new ≡ vcd_given old)
 WentOn old new (Ok (Gave run)) = (vcd_open new ≡ true) × (vcd_given old + run.len ≡ vcd_given new)
 WentOn old new (Ok Over) = vcd_open new ≡ false
 WentOn old new (Err why) = vcd_open new ≡ false
@@ -224,5 +289,5 @@ slot_at places none pin = slot_by none (slice_get places pin)
 -- a reader behind a whole header, or the fault that no time scale came
 abbrev pub Makes : Tokens → Header → ℕ → Result VcdReader CaptureError → Type 0
 Makes tokens header down (Ok reader) = (scale : Scale) × (header.scale ≡ Some scale) × (reader.tokens ≡ tokens) × BodyStands reader.body [] [] × (reader.body.codes ≡ header.codes) × (channels_in reader.body ≡ [])
-    × (reader.names ≡ header.names) × (reader.places ≡ header.places) × (reader.rate.num ≡ scale.a_second) × (reader.rate.den ≡ scale.count * down) × (reader.ended ≡ false) × IsNew down reader
+    × (reader.names ≡ header.names) × (reader.places ≡ header.places) × (reader.rate.num ≡ scale.a_second) × (reader.rate.den ≡ scale.count * down) × (reader.phase ≡ Fresh) × IsNew down reader
 Makes tokens header down (Err why) = (header.scale ≡ None) × (why ≡ error.Fault NoTimescale)

@@ -1,14 +1,14 @@
 -- What a reader of a body stands for, and what its answers mean.
-use Rattle.std.specs.Prelude.{ℕ, ◌≡◌, ◌+◌, ◌-◌, ◌≤◌, Bool, List, [], ◌∷◌, ◌++◌, map, Option, Some, None, Result, Ok, Err}
+use Rattle.std.specs.Prelude.{ℕ, ◌≡◌, ◌+◌, ◌-◌, ◌≤◌, Bool, List, [], ◌∷◌, ◌++◌, map, replicate, Option, Some, None, Result, Ok, Err}
 use Rattle.text_parts.specs.Places.{Placed}
 use Rattle.la_base.specs.Samples.{samples}
 use Rattle.la_base.specs.declared.samples.Run.{Run}
 use Rattle.la_io.specs.declared.fault.CaptureFault.{CaptureFault}
 use Rattle.la_io.specs.Capture.{Head, Ending, Clean, Faulty, Ends}
-use Rattle.capture_vcd.specs.Body.{Channel, Statement, Time, Within, event_of, samples_before, samples_to, statements_from, token_gives}
+use Rattle.capture_vcd.specs.Body.{Channel, Statement, Time, Change, Within, event_of, samples_before, samples_to, statements_from, token_gives}
 use Rattle.capture_vcd.specs.Body as within
 use Rattle.capture_vcd.specs.Vcd.{body_by, read_front, statements_at}
-use Rattle.capture_vcd.specs.Following.{BodyAt, is_one}
+use Rattle.capture_vcd.specs.Following.{BodyAt, is_one, word_bits}
 use Rattle.capture_vcd.specs.Slots.{channel_of, level_of, value_of}
 use Rattle.capture_vcd.specs.declared.slots.Slot.{Slot}
 use Rattle.capture_vcd.specs.declared.body.Body.{Body}
@@ -50,8 +50,38 @@ pub record PartsStand (down : ℕ) (channels : List Channel) (slots : List Slot)
   pub opened : OpenAt pending slots open_is
   pub stands : BodyAt down channels (map level_of slots) open_is start last items given
 
+-- all samples that these tokens settle were given
+abbrev pub BodySettled : Body → List Placed → List ℕ → Type 0
+BodySettled body items given = PartsStand (down_in body) (channels_in body) body.slots.items (pending_in body) (start_of body.span) (last_of body.span) items given
+
+-- how many samples have a time before the last one and are held back
+abbrev pub held_by : Option Span → ℕ → ℕ
+held_by None down = 0
+held_by (Some span) down = samples_before (span.last - span.start) down - samples_before (span.given - span.start) down
+
+abbrev pub held_in : Body → ℕ
+held_in body = held_by body.span body.down
+
+-- they have the word of the levels
+abbrev pub word_in : Body → ℕ
+word_in body = word_bits (levels_in body)
+
+abbrev pub waiting : Body → List ℕ
+waiting body = replicate (held_in body) (word_in body)
+
+-- these samples were given, and with those that are held back they are all that these tokens settle
 abbrev pub BodyStands : Body → List Placed → List ℕ → Type 0
-BodyStands body items given = PartsStand (down_in body) (channels_in body) body.slots.items (pending_in body) (start_of body.span) (last_of body.span) items given
+BodyStands body items given = BodySettled body items (given ++ waiting body)
+
+-- the samples of a run, if there is one
+abbrev pub run_samples : Option Run → List ℕ
+run_samples None = []
+run_samples (Some run) = samples run
+
+-- so many samples of this word, as a run
+abbrev pub IsRun : ℕ → ℕ → Option Run → Type 0
+IsRun count word None = count ≡ 0
+IsRun count word (Some run) = (run.len ≡ count) × (run.value ≡ word) × (1 ≤ run.len)
 
 -- these tokens hold a fault, whatever comes behind them, and these are the samples before it
 abbrev pub BodyFaulty : ℕ → List Channel → List Placed → List ℕ → CaptureFault → Type 0
@@ -61,14 +91,25 @@ BodyFaulty down channels items given fault = (head : Head) (how : Ending) (rest 
 abbrev pub TokenAnswers : Body → List Placed → List ℕ → Result (Option Run) CaptureFault → Type 0
 TokenAnswers new items given (Ok None) = BodyStands new items given
 TokenAnswers new items given (Ok (Some run)) = BodyStands new items (given ++ samples run)
-TokenAnswers new items given (Err fault) = BodyFaulty (down_in new) (channels_in new) items given fault
+TokenAnswers new items given (Err fault) = BodyFaulty (down_in new) (channels_in new) items (given ++ waiting new) fault
 
 abbrev pub TokenGives : Body → Body → Placed → Result (Option Run) CaptureFault → Type 0
 TokenGives old new token result = (items : List Placed) (given : List ℕ) → BodyStands old items given → TokenAnswers new (items ++ token ∷ []) given result
 
--- the same for a token that is known to be a time
-abbrev pub Reaches : Body → Body → ℕ → ℕ → Result (Option Run) CaptureFault → Type 0
-Reaches old new at time result = (items : List Placed) (given : List ℕ) (token : Placed) → pending_in old ≡ Free → token_gives within.Free token ≡ (Time at time ∷ [], within.Free) → BodyStands old items given → TokenAnswers new (items ++ token ∷ []) given result
+-- the same for a token that is known to be a time: it gives no samples
+abbrev pub TimeAnswers : Body → List Placed → List ℕ → Result (Unit {0}) CaptureFault → Type 0
+TimeAnswers new items given (Ok done) = BodyStands new items given
+TimeAnswers new items given (Err fault) = BodyFaulty (down_in new) (channels_in new) items (given ++ waiting new) fault
+
+abbrev pub Reaches : Body → Body → ℕ → ℕ → Result (Unit {0}) CaptureFault → Type 0
+Reaches old new at time result = (items : List Placed) (given : List ℕ) (token : Placed) → pending_in old ≡ Free → token_gives within.Free token ≡ (Time at time ∷ [], within.Free) → BodyStands old items given → TimeAnswers new (items ++ token ∷ []) given result
+
+-- and for one that is known to be a change: it gives the samples that were held back
+abbrev pub Changes : Body → Body → Placed → Option Run → Type 0
+Changes old new token run = (items : List Placed) (given : List ℕ) → BodyStands old items given → BodyStands new (items ++ token ∷ []) (given ++ run_samples run)
+
+abbrev pub IsChange : Placed → ℕ → List ℕ → Type 0
+IsChange token first code = token_gives within.Free token ≡ (Change code (first ∷ []) ∷ [], within.Free)
 
 -- where a value lacks its second token
 abbrev pub hanging_of : Pending → Option ℕ
@@ -81,13 +122,13 @@ hanging_of Comment = None
 abbrev pub BodyEnds : ℕ → List Channel → List Placed → List ℕ → Ending → Type 0
 BodyEnds down channels items given how = (head : Head) → Ends (body_by down head channels Clean (read_front event_of [] (statements_at Clean items))) given how
 
-abbrev pub EndAnswers : ℕ → List Channel → List Placed → List ℕ → Result (Option Run) CaptureFault → Type 0
-EndAnswers down channels items given (Ok None) = BodyEnds down channels items given Clean
-EndAnswers down channels items given (Ok (Some run)) = BodyEnds down channels items (given ++ samples run) Clean
-EndAnswers down channels items given (Err fault) = BodyEnds down channels items given (Faulty fault)
+abbrev pub EndAnswers : Body → List Placed → List ℕ → Result (Option Run) CaptureFault → Type 0
+EndAnswers body items given (Ok None) = BodyEnds (down_in body) (channels_in body) items given Clean
+EndAnswers body items given (Ok (Some run)) = BodyEnds (down_in body) (channels_in body) items (given ++ samples run) Clean
+EndAnswers body items given (Err fault) = BodyEnds (down_in body) (channels_in body) items (given ++ waiting body) (Faulty fault)
 
 abbrev pub EndGives : Body → Result (Option Run) CaptureFault → Type 0
-EndGives body result = (items : List Placed) (given : List ℕ) → BodyStands body items given → EndAnswers (down_in body) (channels_in body) items given result
+EndGives body result = (items : List Placed) (given : List ℕ) → BodyStands body items given → EndAnswers body items given result
 
 -- its channels and its rate stay
 pub record SameForm (old new : Body) : Type 0 where
@@ -95,10 +136,10 @@ pub record SameForm (old new : Body) : Type 0 where
   pub channels : channels_in new ≡ channels_in old
   pub codes : new.codes ≡ old.codes
 
--- how many samples have a time before the last one, and how many one up to it
+-- how many samples were given, and how many have a time up to the last one
 abbrev pub given_by : Option Span → ℕ → ℕ
 given_by None down = 0
-given_by (Some span) down = samples_before (span.last - span.start) down
+given_by (Some span) down = samples_before (span.given - span.start) down
 
 abbrev pub all_by : Option Span → ℕ → ℕ
 all_by None down = 0
@@ -111,7 +152,22 @@ abbrev pub all_in : Body → ℕ
 all_in body = all_by body.span body.down
 
 -- so many more samples were given: at least one in a run
+abbrev pub RunCounts : ℕ → ℕ → Option Run → Type 0
+RunCounts before now None = now ≡ before
+RunCounts before now (Some run) = (before + run.len ≡ now) × (1 ≤ run.len)
+
 abbrev pub Counts : ℕ → ℕ → Result (Option Run) CaptureFault → Type 0
-Counts before now (Ok None) = now ≡ before
-Counts before now (Ok (Some run)) = (before + run.len ≡ now) × (1 ≤ run.len)
-Counts before now (Err fault) = Unit {0}
+Counts before now (Ok run) = RunCounts before now run
+Counts before now (Err fault) = now ≡ before
+
+-- the samples that were held back were given, and nothing else has changed
+pub record Flushes (old new : Body) (result : Option Run) : Type 0 where
+  pub gave : IsRun (held_in old) (word_in old) result
+  pub none : held_in new ≡ 0
+  pub counts : RunCounts (given_in old) (given_in new) result
+  pub codes : new.codes ≡ old.codes
+  pub slots : new.slots.items ≡ old.slots.items
+  pub pending : pending_in new ≡ pending_in old
+  pub down : down_in new ≡ down_in old
+  pub start : start_of new.span ≡ start_of old.span
+  pub latest : last_of new.span ≡ last_of old.span

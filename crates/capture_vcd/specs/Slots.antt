@@ -1,5 +1,5 @@
 -- The channels that are selected, as a reader keeps them.
-use Rattle.std.specs.Prelude.{ℕ, Bool, if◌then◌else◌, List, [], slice_get, Option, Some, None}
+use Rattle.std.specs.Prelude.{ℕ, Bool, if◌then◌else◌, List, [], ◌∷◌, slice_get, Option, Some, None}
 use Rattle.std.specs.declared.vec.Vec.{Vec}
 use Rattle.std.specs.declared.alloc.Global.{Global}
 use Rattle.la_base.specs.Naming.{same_name}
@@ -32,3 +32,7 @@ valued digits slot = record slot { value = is_one slot.bit digits }
 -- a channel of this code takes what was noted
 abbrev pub assigned : List (Vec ℕ Global) → List ℕ → Slot → Slot
 assigned codes code slot = record slot { level = if same_name (code_at codes slot.variable) code then slot.value else slot.level }
+
+-- a channel of this code takes a value of one digit
+abbrev pub changed : List (Vec ℕ Global) → ℕ → List ℕ → Slot → Slot
+changed codes first code slot = record slot { level = if same_name (code_at codes slot.variable) code then is_one slot.bit (first ∷ []) else slot.level }

@@ -4,7 +4,7 @@ ghost use Rattle.capture_vcd.specs.Body.{samples_before};
 ghost use Rattle.capture_vcd.specs.Marks.{Marked, NoneHas};
 
 use crate::marks::{BYTES, marks_of};
-use crate::slots::{Slot, assign, set_values, word_of};
+use crate::slots::{Slot, assign, change, set_values, word_of};
 use crate::tokens::{Begun, begin};
 use arrayvec::ArrayVec;
 use la_base::Run;
@@ -23,16 +23,19 @@ pub enum Pending {
     Comment,
 }
 
-/// The first and the last time.
+/// The first time, that before which all samples were given, and the last time.
 #[derive(Clone, Copy, Debug, PartialEq, Eq)]
 pub struct Span {
     pub start: u64,
+    pub given: u64,
     pub last: u64,
-    ghost in_order: { start ≤ last },
+    ghost begun: { start ≤ given },
+    ghost in_order: { given ≤ last },
     ghost few: { last < 2 ^ 60 },
 }
 
-/// What was read of the body of a VCD file.
+/// What was read of the body of a VCD file. Samples are held back while no channel that is selected changes:
+/// all of them have the word of the levels.
 #[derive(Drop)]
 pub struct Body {
     // the code of each variable
@@ -48,19 +51,24 @@ pub struct Body {
 }
 
 // How many samples have a time before the last one.
+#[inline(always)]
 fn samples_before(span: u64, down: u64) -> u64
     requires some { 1 ≤ down }
     requires few { down ≤ 1000000000 }
     requires span { span < 2 ^ 60 }
     ensures { result ≡ samples_before span down }
 {
+    if down == 1 {
+        return span;
+    }
     (span + down - 1) / down
 }
 
 impl Body {
-    ghost use Rattle.std.specs.Prelude.{[], ◌∷◌, None, false};
-    ghost use Rattle.capture_vcd.specs.Running.{BodyStands, Counts, channels_in, down_in, given_in, all_in, SameForm, TokenGives, EndGives, Reaches, hanging_of, pending_in};
-    ghost use Rattle.capture_vcd.specs.declared.body.Pending.TheVariants.{Free};
+    ghost use Rattle.std.specs.Prelude.{ℕ, [], ◌∷◌, None, IfOk, false};
+    ghost use Rattle.text_parts.specs.Places.{Placed};
+    ghost use Rattle.capture_vcd.specs.Running.{BodyStands, Changes, Counts, RunCounts, Flushes, IsChange, channels_in, down_in, given_in, all_in, SameForm, TokenGives, EndGives, Reaches, hanging_of, pending_in};
+    ghost use Rattle.capture_vcd.specs.declared.body.Pending.TheVariants.{Free, Value};
 
     /// Nothing was read, and no channel is selected.
     pub fn new(codes: Vec<Vec<u8>>, down: u64) -> Body
@@ -103,44 +111,64 @@ impl Body {
         self.span = None;
     }
 
-    // A time.
+    // A time. The samples before it are held back.
     #[inline(always)]
-    fn reach(&mut self, at: u64, time: u64) -> Result<Option<Run>, CaptureFault>
+    fn reach(&mut self, at: u64, time: u64) -> Result<(), CaptureFault>
         requires few { time < 2 ^ 60 }
         ensures reaches { Reaches self.old self.new at time result }
         ensures form { SameForm self.old self.new }
-        ensures counts { Counts (given_in self.old) (given_in self.new) result }
+        ensures given { given_in self.new ≡ given_in self.old }
     {
-        let span = match self.span {
-            Some(span) => span,
+        match self.span {
+            Some(span) => {
+                if time < span.last {
+                    return Err(CaptureFault::TimeBack {
+                        at,
+                        was: i128::from(span.last),
+                        now: i128::from(time),
+                    });
+                }
+                self.span = Some(Span {
+                    start: span.start,
+                    given: span.given,
+                    last: time,
+                });
+                Ok(())
+            }
             None => {
                 self.span = Some(Span {
                     start: time,
+                    given: time,
                     last: time,
                 });
-                return Ok(None);
+                Ok(())
             }
-        };
-        if time < span.last {
-            return Err(CaptureFault::TimeBack {
-                at,
-                was: i128::from(span.last),
-                now: i128::from(time),
-            });
         }
-        let len = samples_before(time - span.start, self.down)
-            - samples_before(span.last - span.start, self.down);
+    }
+
+    /// Gives the samples that are held back.
+    #[inline(always)]
+    pub fn flush(&mut self) -> Option<Run>
+        ensures { Flushes self.old self.new result }
+    {
+        let span = match self.span {
+            Some(span) => span,
+            None => return None,
+        };
+        let len = samples_before(span.last - span.start, self.down)
+            - samples_before(span.given - span.start, self.down);
+        if len == 0 {
+            return None;
+        }
         self.span = Some(Span {
             start: span.start,
-            last: time,
+            given: span.last,
+            last: span.last,
         });
-        if len == 0 {
-            return Ok(None);
-        }
-        Ok(Some(Run {
+        Some(Run {
             value: word_of(&self.slots),
             len,
-        }))
+        })
     }
 
     // Whether a change of a code may change a channel that is selected.
@@ -154,6 +182,40 @@ impl Body {
         self.marks[code[code.len() - 1] as usize]
     }
 
+    // The value that was noted is that of this code.
+    #[inline(always)]
+    fn take_value(&mut self, code: &[u8]) -> Option<Run>
+        requires { (at : ℕ) × (pending_in self.old ≡ Value at) }
+        ensures gives { (at : ℕ) → Changes self.old self.new (at, code.now) result }
+        ensures form { SameForm self.old self.new }
+        ensures counts { RunCounts (given_in self.old) (given_in self.new) result }
+    {
+        if !self.may_change(code) {
+            self.pending = Pending::Free;
+            return None;
+        }
+        let run = self.flush();
+        assign(&self.codes, &mut self.slots, code);
+        self.pending = Pending::Free;
+        run
+    }
+
+    // A change of a code to a value of one digit.
+    #[inline(always)]
+    fn change(&mut self, first: u8, code: &[u8]) -> Option<Run>
+        requires { pending_in self.old ≡ Free }
+        ensures gives { (token : Placed) → IsChange token first code.now → Changes self.old self.new token result }
+        ensures form { SameForm self.old self.new }
+        ensures counts { RunCounts (given_in self.old) (given_in self.new) result }
+    {
+        if !self.may_change(code) {
+            return None;
+        }
+        let run = self.flush();
+        change(&self.codes, &mut self.slots, first, code);
+        run
+    }
+
     // A token that belongs to nothing before it.
     #[inline(always)]
     fn free_token(&mut self, at: u64, first: u8, rest: &[u8]) -> Result<Option<Run>, CaptureFault>
@@ -163,16 +225,12 @@ impl Body {
         ensures counts { Counts (given_in self.old) (given_in self.new) result }
     {
         match begin(first, rest) {
-            Begun::Time(time) => self.reach(at, time),
+            Begun::Time(time) => match self.reach(at, time) {
+                Ok(()) => Ok(None),
+                Err(fault) => Err(fault),
+            },
             Begun::Large => Err(CaptureFault::TimeLarge { at }),
-            Begun::Scalar => {
-                if !self.may_change(rest) {
-                    return Ok(None);
-                }
-                set_values(&mut self.slots, &[first]);
-                assign(&self.codes, &mut self.slots, rest);
-                Ok(None)
-            }
+            Begun::Scalar => Ok(self.change(first, rest)),
             Begun::Vector => {
                 set_values(&mut self.slots, rest);
                 self.pending = Pending::Value(at);
@@ -191,7 +249,8 @@ impl Body {
         }
     }
 
-    /// Reads one more token. A new time gives the samples from the last one on.
+    /// Reads one more token. What may change a channel gives the samples that are held back. A fault gives
+    /// none, and leaves them held back.
     #[inline(always)]
     pub fn token(&mut self, at: u64, text: &[u8]) -> Result<Option<Run>, CaptureFault>
         ensures gives { TokenGives self.old self.new (at, text.now) result }
@@ -205,11 +264,7 @@ impl Body {
                 }
                 self.free_token(at, text[0], &text[1..])
             }
-            Pending::Value(_) => {
-                assign(&self.codes, &mut self.slots, text);
-                self.pending = Pending::Free;
-                Ok(None)
-            }
+            Pending::Value(_) => Ok(self.take_value(text)),
             Pending::Skip(_) => {
                 self.pending = Pending::Free;
                 Ok(None)
@@ -236,10 +291,11 @@ impl Body {
         }
     }
 
-    /// The tokens end clean: the last sample, where there is one at the last time.
+    /// The tokens end clean: the samples that are held back, and the last one, where there is one at the
+    /// last time.
     pub fn end(&self) -> Result<Option<Run>, CaptureFault>
         ensures gives { EndGives self.now result }
-        ensures counts { Counts (given_in self.now) (all_in self.now) result }
+        ensures counts { IfOk result (λ run. RunCounts (given_in self.now) (all_in self.now) run) }
     {
         match self.hanging() {
             Some(at) => return Err(CaptureFault::Token { at }),
@@ -250,7 +306,7 @@ impl Body {
             None => return Ok(None),
         };
         let len = (span.last - span.start) / self.down + 1
-            - samples_before(span.last - span.start, self.down);
+            - samples_before(span.given - span.start, self.down);
         if len == 0 {
             return Ok(None);
         }

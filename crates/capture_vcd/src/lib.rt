@@ -17,8 +17,6 @@ mod scale;
 mod section;
 mod selecting;
 mod slots;
-#[cfg(test)]
-mod tests;
 mod tokens;
 
 pub use laws::{

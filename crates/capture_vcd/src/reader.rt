@@ -1,6 +1,6 @@
 // The reader of VCD captures.
 ghost use Rattle.std.specs.Prelude.{◌≡◌, true, false};
-ghost use Rattle.byte_feed.specs.Reader.{is_spent};
+ghost use Rattle.byte_feed.specs.Reader.{is_spent, left_of};
 
 use crate::body::Body;
 use crate::errors::error_of;
@@ -24,6 +24,19 @@ pub enum Step {
     Over,
 }
 
+/// How far the samples of a capture were given.
+#[derive(Clone, Copy, Debug, PartialEq, Eq)]
+pub enum Phase {
+    /// None was given, and nothing of the body was read.
+    Fresh,
+    /// Some were.
+    Running,
+    /// All were.
+    Ended,
+    /// All were that come before a fault.
+    Refused(CaptureFault),
+}
+
 /// Reads a VCD capture: its header as it is opened, then runs of its samples.
 #[derive(Drop)]
 pub struct VcdReader {
@@ -35,16 +48,17 @@ pub struct VcdReader {
     rate: Rate,
     // the channels that are selected
     pins: Pins,
-    // all samples were given
-    ended: bool,
+    phase: Phase,
     is_open: bool,
     ghost fresh: { is_open ≡ true → is_spent tokens ≡ false },
 }
 
 impl VcdReader {
-    ghost use Rattle.std.specs.Prelude.{◌≢◌, ◌≤◌, ◌<◌, ◌^◌, ℕ, List, [], length, slice_index, Err, IfOk};
+    ghost use Rattle.std.specs.Prelude.{◌≢◌, ◌≤◌, ◌<◌, ◌+◌, ◌^◌, ℕ, List, [], length, slice_index, Err, IfOk, None};
     ghost use Rattle.la_io.specs.Capture.{Told};
-    ghost use Rattle.capture_vcd.specs.Reader.{IsNew, Makes, Opens, VcdStands, pins_in, vcd_down, Gives, MoreGiven, Nexts, SameReader, Steps, VcdCause, WentOn, stays_open, vcd_given, vcd_names, vcd_open, vcd_rate};
+    ghost use Rattle.capture_vcd.specs.Running.{RunCounts, held_in, run_samples};
+    ghost use Rattle.capture_vcd.specs.declared.reader.Phase.TheVariants.{Running};
+    ghost use Rattle.capture_vcd.specs.Reader.{Flushed, GaveHeld, HeldSteps, HeldWent, HoldsNothing, run_of, IsNew, Makes, Opens, VcdStands, is_going, pins_in, vcd_down, Gives, MoreGiven, Nexts, SameReader, Steps, VcdCause, WentOn, stays_open, vcd_given, vcd_names, vcd_open, vcd_rate};
 
     /// Reads the header of a capture of which each sample stands for `down` units of time. `Fault` comes
     /// exactly where the header has one, `Read` where the source failed before the header was whole.
@@ -126,17 +140,107 @@ impl VcdReader {
                     den: scale.count * down,
                 },
                 pins: Pins::new(),
-                ended: false,
+                phase: Phase::Fresh,
                 is_open: true,
             }),
         }
     }
 
-    // Reads one token.
+    // Whether it is open and gave samples of the body.
     #[inline(always)]
+    fn is_running(&self) -> bool
+        ensures phase { result ≡ true → self.now.phase ≡ Running }
+        ensures open { result ≡ true → vcd_open self.now ≡ true }
+        ensures none { result ≡ false → HoldsNothing self.now }
+    {
+        match self.phase {
+            Phase::Running => self.is_open,
+            Phase::Fresh => false,
+            Phase::Ended => false,
+            Phase::Refused(_) => false,
+        }
+    }
+
+    // One token of those that are held. `Over` comes where none is left, or a fault, and no samples are
+    // held back.
+    #[inline(always)]
+    fn held_step(&mut self) -> Step
+        requires running { self.old.phase ≡ Running }
+        requires open { vcd_open self.old ≡ true }
+        ensures steps { HeldSteps self.old self.new result }
+        ensures went { HeldWent self.old self.new result }
+        ensures form { SameReader self.old self.new }
+        ensures is_open { vcd_open self.new ≡ true }
+        ensures counts { RunCounts (vcd_given self.old) (vcd_given self.new) (run_of result) }
+    {
+        match self.tokens.held() {
+            Some(at) => match self.body.token(at, self.tokens.text()) {
+                Ok(None) => Step::Went,
+                Ok(Some(run)) => Step::Gave(run),
+                Err(fault) => {
+                    self.phase = Phase::Refused(fault);
+                    match self.body.flush() {
+                        Some(run) => Step::Gave(run),
+                        None => Step::Over,
+                    }
+                }
+            },
+            None => match self.body.flush() {
+                Some(run) => Step::Gave(run),
+                None => Step::Over,
+            },
+        }
+    }
+
+    /// The next run of what is held, as `next` gives it, where a run was given before. `None` comes where
+    /// no token with a blank behind it is held, and no samples are held back. Nothing is read.
+    // It isn't inlined, so that what a caller does for other readers has its registers.
+    #[inline(never)]
+    pub fn held_run(&mut self) -> Option<Run>
+        ensures given { GaveHeld self.old self.new (run_samples result) }
+        ensures none { result ≡ None → HoldsNothing self.new }
+        ensures is_open { vcd_open self.new ≡ vcd_open self.old }
+        ensures form { SameReader self.old self.new }
+        ensures counts { RunCounts (vcd_given self.old) (vcd_given self.new) result }
+        ensures few { vcd_given self.new ≤ 2 ^ 60 }
+    {
+        if !self.is_running() {
+            return None;
+        }
+        'held: loop {
+            match self.held_step() {
+                Step::Went => {}
+                Step::Gave(run) => return Some(run),
+                Step::Over => return None,
+            }
+        }
+    }
+
+    // Gives the samples that are held back.
+    fn flush(&mut self) -> Option<Run>
+        requires going { is_going self.old.phase ≡ true }
+        ensures flushed { Flushed self.old self.new result }
+        ensures none { result ≡ None → held_in self.new.body ≡ 0 }
+        ensures left { left_of self.new.tokens ≡ left_of self.old.tokens }
+        ensures going { is_going self.new.phase ≡ true }
+        ensures form { SameReader self.old self.new }
+        ensures is_open { vcd_open self.new ≡ vcd_open self.old }
+        ensures counts { RunCounts (vcd_given self.old) (vcd_given self.new) result }
+    {
+        match self.body.flush() {
+            Some(run) => {
+                self.phase = Phase::Running;
+                Some(run)
+            }
+            None => None,
+        }
+    }
+
+    // Reads one token.
     fn step<S: Source>(&mut self, source: &mut S) -> Result<Step, CaptureError>
         requires open { vcd_open self.old ≡ true }
-        requires going { self.old.ended ≡ false }
+        requires going { is_going self.old.phase ≡ true }
+        requires settled { held_in self.old.body ≡ 0 }
         ensures steps { Steps self.old self.new (S.left source.old) (S.left source.new) result }
         ensures went { WentOn self.old self.new result }
         ensures form { SameReader self.old self.new }
@@ -146,10 +250,19 @@ impl VcdReader {
         match self.tokens.next(source) {
             Ok(Some(at)) => match self.body.token(at, self.tokens.text()) {
                 Ok(None) => Ok(Step::Went),
-                Ok(Some(run)) => Ok(Step::Gave(run)),
+                Ok(Some(run)) => {
+                    self.phase = Phase::Running;
+                    Ok(Step::Gave(run))
+                }
                 Err(fault) => {
-                    self.is_open = false;
-                    Err(CaptureError::Fault(fault))
+                    self.phase = Phase::Refused(fault);
+                    match self.body.flush() {
+                        Some(run) => Ok(Step::Gave(run)),
+                        None => {
+                            self.is_open = false;
+                            Err(CaptureError::Fault(fault))
+                        }
+                    }
                 }
             },
             Ok(None) => match self.body.end() {
@@ -158,7 +271,7 @@ impl VcdReader {
                     Ok(Step::Over)
                 }
                 Ok(Some(run)) => {
-                    self.ended = true;
+                    self.phase = Phase::Ended;
                     Ok(Step::Gave(run))
                 }
                 Err(fault) => {
@@ -176,7 +289,7 @@ impl VcdReader {
     // The next run of the body, or its end.
     fn run_on<S: Source>(&mut self, source: &mut S) -> Result<Option<Run>, CaptureError>
         requires open { vcd_open self.old ≡ true }
-        requires going { self.old.ended ≡ false }
+        requires going { is_going self.old.phase ≡ true }
         ensures next { Nexts self.old self.new (S.left source.old) (S.left source.new) result }
         ensures is_open { vcd_open self.new ≡ stays_open result }
         ensures form { SameReader self.old self.new }
@@ -185,11 +298,41 @@ impl VcdReader {
         ensures cause { VcdCause (S.faults source.old) (S.faults source.new) result }
     {
         'body: loop {
+            match self.flush() {
+                Some(run) => return Ok(Some(run)),
+                None => {}
+            }
             match self.step(source) {
                 Ok(Step::Went) => {}
                 Ok(Step::Gave(run)) => return Ok(Some(run)),
                 Ok(Step::Over) => return Ok(None),
                 Err(error) => return Err(error),
+            }
+        }
+    }
+
+    // The next run where none is held, or the end.
+    #[inline(never)]
+    fn read_on<S: Source>(&mut self, source: &mut S) -> Result<Option<Run>, CaptureError>
+        requires { vcd_open self.old ≡ true }
+        ensures next { Gives self.old self.new (S.left source.old) (S.left source.new) result }
+        ensures is_open { vcd_open self.new ≡ stays_open result }
+        ensures form { SameReader self.old self.new }
+        ensures more { MoreGiven self.old self.new result }
+        ensures few { vcd_given self.new ≤ 2 ^ 60 }
+        ensures memory { result ≢ Err CaptureError.NoMemory }
+        ensures cause { VcdCause (S.faults source.old) (S.faults source.new) result }
+    {
+        match self.phase {
+            Phase::Fresh => self.run_on(source),
+            Phase::Running => self.run_on(source),
+            Phase::Ended => {
+                self.is_open = false;
+                Ok(None)
+            }
+            Phase::Refused(fault) => {
+                self.is_open = false;
+                Err(CaptureError::Fault(fault))
             }
         }
     }
@@ -207,10 +350,9 @@ impl VcdReader {
         ensures memory { result ≢ Err CaptureError.NoMemory }
         ensures cause { VcdCause (S.faults source.old) (S.faults source.new) result }
     {
-        if self.ended {
-            self.is_open = false;
-            return Ok(None);
+        match self.held_run() {
+            Some(run) => Ok(Some(run)),
+            None => self.read_on(source),
         }
-        self.run_on(source)
     }
 }

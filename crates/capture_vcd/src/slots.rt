@@ -2,7 +2,7 @@
 ghost use Rattle.std.specs.Prelude.{◌≡◌, ◌≤◌, length, map};
 ghost use Rattle.la_base.specs.Naming.{same_name};
 ghost use Rattle.capture_vcd.specs.Following.{is_one, level_bit, word_bits};
-ghost use Rattle.capture_vcd.specs.Slots.{assigned, code_at, level_of, valued};
+ghost use Rattle.capture_vcd.specs.Slots.{assigned, changed, code_at, level_of, valued};
 
 use la_base::Word;
 
@@ -20,15 +20,27 @@ pub struct Slot {
 fn is_one(bit: usize, digits: &[u8]) -> bool
     ensures { result ≡ is_one bit digits.now }
 {
-    bit < digits.len() && digits[digits.len() - 1 - bit] == 49
+    bit < digits.len() && digits[digits.len() - 1 - bit] == b'1'
+}
+
+// Whether two codes are the same. Most have one byte.
+#[inline(always)]
+fn same_code(own: &[u8], code: &[u8]) -> bool
+    ensures { result ≡ same_name own.now code.now }
+{
+    if own.len() == 1 && code.len() == 1 {
+        return own[0] == code[0];
+    }
+    own == code
 }
 
 // Whether the code of a variable is this one.
+#[inline(always)]
 fn has_code(codes: &[Vec<u8>], variable: usize, code: &[u8]) -> bool
     ensures { result ≡ same_name (code_at codes.now variable) code.now }
 {
     match codes.get(variable) {
-        Some(own) => own.as_slice() == code,
+        Some(own) => same_code(own.as_slice(), code),
         None => code.is_empty(),
     }
 }
@@ -59,6 +71,28 @@ pub fn assign(codes: &[Vec<u8>], slots: &mut [Slot], code: &[u8])
 {
     for slot in slots.iter_mut() {
         slot.level = level_behind(codes, *slot, code);
+    }
+}
+
+// The level of a channel behind a change of a code to a value of one digit.
+#[inline(always)]
+fn level_changed(codes: &[Vec<u8>], slot: Slot, first: u8, code: &[u8]) -> bool
+    ensures { result ≡ level_of (changed codes.now first code.now slot) }
+{
+    if has_code(codes, slot.variable, code) {
+        is_one(slot.bit, &[first])
+    } else {
+        slot.level
+    }
+}
+
+/// Gives the channels of a code a value of one digit.
+#[inline(always)]
+pub fn change(codes: &[Vec<u8>], slots: &mut [Slot], first: u8, code: &[u8])
+    ensures { slots.new ≡ map (changed codes.now first code.now) slots.old }
+{
+    for slot in slots.iter_mut() {
+        slot.level = level_changed(codes, *slot, first, code);
     }
 }
 

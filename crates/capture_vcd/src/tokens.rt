@@ -32,7 +32,7 @@ const LARGE: u64 = 1 << 60;
 fn is_digit(byte: u8) -> bool
     ensures { result ≡ is_digit byte }
 {
-    byte == 48 || byte == 49 || byte == 120 || byte == 88 || byte == 122 || byte == 90
+    byte == b'0' || byte == b'1' || byte == b'x' || byte == b'X' || byte == b'z' || byte == b'Z'
 }
 
 // Whether all bytes are digits of values.
@@ -47,14 +47,32 @@ fn all_digits(bytes: &[u8]) -> bool
     true
 }
 
-// The number that decimal digits write, and 2^60 for every larger one; `None` where it isn't digits
-// alone, at least one.
-pub fn number_of(text: &[u8]) -> Option<u64>
+// Every number of so many digits is below 2^60.
+const SHORT: usize = 18;
+
+// The number that a few decimal digits write; `None` where it isn't digits alone.
+#[inline(always)]
+fn short_number(text: &[u8]) -> Option<u64>
+    requires some { 0 < length text.now }
+    requires few { length text.now ≤ 18 }
     ensures { IfNumber text.now result }
 {
-    if text.is_empty() {
-        return None;
+    let mut number = 0;
+    for byte in text {
+        if !byte.is_ascii_digit() {
+            return None;
+        }
+        number = 10 * number + u64::from(*byte - b'0');
     }
+    Some(number)
+}
+
+// The same of any text, with 2^60 for every larger number.
+#[inline(never)]
+fn long_number(text: &[u8]) -> Option<u64>
+    requires { 0 < length text.now }
+    ensures { IfNumber text.now result }
+{
     let mut number = 0;
     for byte in text {
         if !byte.is_ascii_digit() {
@@ -64,6 +82,21 @@ pub fn number_of(text: &[u8]) -> Option<u64>
         number = next.min(LARGE);
     }
     Some(number)
+}
+
+// The number that decimal digits write, and 2^60 for every larger one; `None` where it isn't digits
+// alone, at least one.
+#[inline(always)]
+pub fn number_of(text: &[u8]) -> Option<u64>
+    ensures { IfNumber text.now result }
+{
+    if text.is_empty() {
+        return None;
+    }
+    if text.len() <= SHORT {
+        return short_number(text);
+    }
+    long_number(text)
 }
 
 // A digit and a code.
@@ -77,14 +110,14 @@ fn is_scalar(first: u8, rest: &[u8]) -> bool
 fn is_vector(first: u8, rest: &[u8]) -> bool
     ensures { result ≡ (first_is first 98 66 && not (length rest.now == 0) && list_all is_digit rest.now) }
 {
-    (first == 98 || first == 66) && !rest.is_empty() && all_digits(rest)
+    (first == b'b' || first == b'B') && !rest.is_empty() && all_digits(rest)
 }
 
 // A value that isn't made of bits.
 fn is_skipped(first: u8) -> bool
     ensures { result ≡ (first_is first 114 82 || first_is first 115 83) }
 {
-    first == 114 || first == 82 || first == 115 || first == 83
+    first == b'r' || first == b'R' || first == b's' || first == b'S'
 }
 
 /// What a token says, by its first byte and its rest.
@@ -92,7 +125,7 @@ fn is_skipped(first: u8) -> bool
 pub fn begin(first: u8, rest: &[u8]) -> Begun
     ensures { Begins first rest.now result }
 {
-    if first == 35 {
+    if first == b'#' {
         return match number_of(rest) {
             None => Begun::Wrong,
             Some(number) if number < LARGE => Begun::Time(number),
@@ -108,7 +141,7 @@ pub fn begin(first: u8, rest: &[u8]) -> Begun
     if is_skipped(first) {
         return Begun::Skip;
     }
-    if first != 36 {
+    if first != b'$' {
         return Begun::Wrong;
     }
     if b"comment".as_slice() == rest {

@@ -1,30 +1,26 @@
-use Rattle.std.proofs.Common.{subst, refl, sym, ℕ, List, [], Ok, Bool}
+use Rattle.std.proofs.Common.{subst, ℕ, List, [], Ok, Some}
 use Rattle.std.proofs.lemmas.List.{append-nil}
-use Rattle.capture_vcd.specs.Reader.{StandsAs, StepAnswers}
-use Rattle.capture_vcd.specs.declared.reader.Step.TheVariants.{Over}
-use Rattle.capture_vcd.proofs.Stepping.{consumes_none}
+use Rattle.la_io.specs.Capture.{Told}
+use Rattle.capture_vcd.specs.Reader.{StepAnswers, VcdStands, step_of}
+use Rattle.capture_vcd.proofs.Stepping.{behind_same, consumes_none}
 use Rattle.capture_vcd.proofs.reader.VcdReader.next.Goals as goal
 
-pub returns-then-self-clause-next : goal.returns-then-self-clause-next
-returns-then-self-clause-next g c = record {
-  bytes = [];
-  consumed = consumes_none (g.S.Source.left c.args.source.now);
-  answers = λ before early given left st.
-      let done = subst (λ (b : Bool). StandsAs b c.args.self.now before early given) c.if-self.true st in
-      record {
-        told = early;
-        none = λ e. refl;
-        still = λ e. e;
-        at_end = left;
-        says = subst (λ (b : List ℕ). StepAnswers c.args.self.now b early given (Ok Over)) (sym (append-nil before)) (done.told_end, done.ends);
-      };
-}
-
-pub returns-clause-next : goal.returns-clause-next
-returns-clause-next g c =
-    let run = c.run_on.ensures.next in
+pub returns-in-Some-clause-next : goal.returns-in-Some-clause-next
+returns-in-Some-clause-next g c =
+    let new = c.held_run.new.self in
     record {
-      bytes = run.bytes;
-      consumed = run.consumed;
-      answers = λ before early given left st. run.answers before early given left (subst (λ (b : Bool). StandsAs b c.args.self.now before early given) c.if-self.false st).going;
+      bytes = [];
+      consumed = consumes_none (g.S.Source.left c.args.source.now);
+      answers = λ before early given left st.
+          behind_same (g.S.Source.left c.args.source.now) before early (λ (all : List ℕ) (told : Told). StepAnswers new all told given (step_of (Ok (Some c.in-Some.run')))) left (c.in-Some.ensures.given before early given st);
+    }
+
+pub returns-in-None-clause-next : goal.returns-in-None-clause-next
+returns-in-None-clause-next g c =
+    let read = c.read_on.ensures.next in
+    let mid = c.held_run.new.self in
+    record {
+      bytes = read.bytes;
+      consumed = read.consumed;
+      answers = λ before early given left st. read.answers before early given left (subst (λ (l : List ℕ). VcdStands mid before early l) (append-nil given) (c.in-None.ensures.given before early given st));
     }

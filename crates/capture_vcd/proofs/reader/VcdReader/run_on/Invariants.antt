@@ -1,13 +1,13 @@
-use Rattle.std.proofs.Common.{◌≡◌, ℕ, List, false, true}
+use Rattle.std.proofs.Common.{◌≡◌, ℕ, List, true}
 use Rattle.std.specs.Io.KnownBytes.{Consumes, IsAtEnd}
 use Rattle.la_io.specs.Capture.{Told, AtEnd}
 use Rattle.byte_feed.specs.Reader.{left_of}
-use Rattle.capture_vcd.specs.Reader.{Behind, Going, SameReader, vcd_given, vcd_open}
+use Rattle.capture_vcd.specs.Reader.{Behind, Going, SameReader, is_going, vcd_given, vcd_open}
 use Rattle.capture_vcd.proofs.reader.VcdReader.run_on.Given as goal
 
 abbrev pub invariant-body : goal.invariant-body
 invariant-body g l = record {
-  ended : l.self.ended ≡ false;
+  phase : is_going l.self.phase ≡ true;
   is_open : vcd_open l.self ≡ true;
   form : SameReader l.fn.self l.self;
   count : vcd_given l.self ≡ vcd_given l.fn.self;

@@ -2,7 +2,7 @@ use Rattle.std.proofs.Common.{◌≡◌, ◌∙◌, ℕ, ◌+◌, ◌-◌, ◌*�
 use Rattle.std.proofs.lemmas.List.{at_drop_more}
 use Rattle.std.specs.Str.{all_ascii_digits}
 use Rattle.text_parts.specs.Numbers.{number_after}
-use Rattle.capture_vcd.proofs.tokens.number_of.Goals as goal
+use Rattle.capture_vcd.proofs.tokens.long_number.Goals as goal
 
 grows : (n : ℕ) (digits : List ℕ) → n ≤ number_after n digits
 grows n [] = omega arith
