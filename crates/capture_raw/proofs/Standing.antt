@@ -111,10 +111,6 @@ more_given_held unit count old new some few within let_go same =
     let enough : count ≤ count * unit = grind arith in
     omega (arith, enough, ap length let_go, length-drop (count * unit) old.bytes, same, few)
 
-pub samples_len : (run : Run) → length (samples run) ≡ run.len
-unfolding samples
-samples_len run = length-replicate run.len run.value
-
 -- what was given is a front of what the bytes settle
 pub given_front : (channels : ℕ) → 0 < unit_len channels → (rate : Rate) (pins : List ℕ) (front : Front) (bytes given : List ℕ) (told : Told)
     → StandsAt (unit_len channels) pins front bytes given → front.taken - length front.bytes ≤ 2 ^ 60

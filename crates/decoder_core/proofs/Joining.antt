@@ -1,5 +1,5 @@
--- Steps over runs that are passed, alone and behind a step to a stop.
-use Rattle.std.proofs.Common.{◌≡◌, ◌++◌, [], List, Option, Some, None, map, sym, ◌∙◌, ap, subst, arith, append_assoc, length-append}
+-- A step whose rest is passed.
+use Rattle.std.proofs.Common.{◌≡◌, ◌<◌, ◌++◌, [], List, Option, Some, None, map, length, sym, ◌∙◌, ap, subst, arith, append_assoc, length-append}
 use Rattle.std.proofs.lemmas.List.{append-nil}
 use Rattle.la_base.specs.Samples.{samples}
 use Rattle.la_base.specs.declared.samples.Run.{Run}
@@ -9,20 +9,9 @@ use Rattle.la_base.specs.declared.wires.Out.{Out}
 use Rattle.decoder_core.specs.Driving.{Passes, ReachesStop, Steps, StopsFirst}
 use Rattle.decoder_core.specs.Inputs.{Item, Sample, items_of}
 
--- a run that was passed is a step
-pub steps_passed : (before after : List Item → Type 0) (outputs : List Item → List Out) (run : Run) (into : List Out) → into ≡ [] → Passes before after outputs run → Steps before after outputs (RunFeed run) None into
-steps_passed before after outputs run into none passes = record {
-  front = map Sample (samples run);
-  split = sym (append-nil (map Sample (samples run)));
-  some = λ some. some;
-  more = tt;
-  consumes = λ input b. (passes input b).0;
-  gives = λ input b. (passes input b).1 ∙ sym (append-nil (outputs input)) ∙ ap (λ (l : List Out). outputs input ++ l) (sym none);
-}
-
 -- what was left of a step was passed
 pub steps_on : (before middle after : List Item → Type 0) (outputs : List Item → List Out) (feed : Feed) (rest : Run) (into : List Out) → Steps before middle outputs feed (Some (RunFeed rest)) into
-    → Passes middle after outputs rest → Steps before after outputs feed None into
+    → Passes middle after outputs (samples rest) → Steps before after outputs feed None into
 steps_on before middle after outputs feed rest into steps passes =
     let items = map Sample (samples rest) in
     record {

@@ -1,7 +1,5 @@
 -- What one step of a machine does, and what a driver stands for.
 use Rattle.std.specs.Prelude.{ℕ, ◌≡◌, ◌<◌, List, [], ◌∷◌, ◌++◌, length, take, map, Option, IfSome}
-use Rattle.la_base.specs.Samples.{samples}
-use Rattle.la_base.specs.declared.samples.Run.{Run}
 use Rattle.la_base.specs.declared.wires.Feed.{Feed}
 use Rattle.la_base.specs.declared.wires.Out.{Out}
 use Rattle.wait_cond.specs.declared.alt.Alt.{Alt}
@@ -32,9 +30,9 @@ pub record ReachesStop (before : List Item → Type 0) (sleeps : List Item → L
   pub split : items_of feed ≡ front ++ left_items left
   pub stop : 0 < length (left_items left) → (input : List Item) → before input → ¬ sleeps input front
 
--- a run was consumed whole, and gives nothing
-abbrev pub Passes : (List Item → Type 0) → (List Item → Type 0) → (List Item → List Out) → Run → Type 0
-Passes before after outputs run = (input : List Item) → before input → after (input ++ map Sample (samples run)) × (outputs (input ++ map Sample (samples run)) ≡ outputs input)
+-- samples were consumed, and give nothing
+abbrev pub Passes : (List Item → Type 0) → (List Item → Type 0) → (List Item → List Out) → List ℕ → Type 0
+Passes before after outputs more = (input : List Item) → before input → after (input ++ map Sample more) × (outputs (input ++ map Sample more) ≡ outputs input)
 
 -- a driver has consumed this input: its waiter stands for the samples that count, and its machine for those up to its last stop
 pub record Drives {L : Type 0} (stands : L → List ℕ → Type 0) (alts : L → List Alt) (machine : L) (waiter : Waiter) (input : List Item) : Type 0 where

@@ -1,5 +1,6 @@
 // Drives a decoder of samples by the waits that it asks for.
 ghost use Rattle.std.specs.Prelude.{◌≡◌, ◌≤◌, ◌<◌, ◌+◌, ◌^◌, [], ◌∷◌, ◌++◌, ℕ, List, length, min, replicate, ◌-◌, true, false, IfSome};
+ghost use Rattle.la_base.specs.Samples.{samples};
 ghost use Rattle.la_base.specs.declared.wires.Wire.TheVariants.{Logic};
 ghost use Rattle.wait_cond.specs.Waiting.{Waits, alts_of, wait_from, consumed_by};
 ghost use Rattle.decoder_core.specs.Inputs.{Item, Sample, counted_samples, items_of, left_feed, left_items};
@@ -32,16 +33,24 @@ impl<L: LogicMachine> Driver<L> {
         Driver { machine, waiter }
     }
 
-    // Consumes a run of which it is plain that it has no stop, and answers whether it did. Else nothing changes.
+    // Consumes what is left of a run where it is plain that it has no stop, and answers whether it did. Else
+    // nothing changes.
     #[inline(always)]
-    fn pass(&mut self, run: Run) -> bool
+    fn pass_rest(&mut self, rest: Run) -> bool
         ensures passes { result ≡ true → Passes (Drives L.stands L.alts self.old.machine self.old.waiter) (Drives L.stands L.alts self.new.machine self.new.waiter)
-            (λ input. L.outs (L.setup self.old.machine) (counted_samples input)) run }
+            (λ input. L.outs (L.setup self.old.machine) (counted_samples input)) (samples rest) }
         ensures setup { L.setup self.new.machine ≡ L.setup self.old.machine }
         ensures kept { result ≡ false → self.new ≡ self.old }
     {
-        if run.len <= MOST_SAMPLES - self.waiter.consumed() && self.waiter.passes(run) {
-            self.waiter.pass(run);
+        if rest.len > MOST_SAMPLES - self.waiter.consumed() {
+            return false;
+        }
+        if self.waiter.rests(rest) {
+            self.waiter.pass(rest);
+            return true;
+        }
+        if self.waiter.passes(rest) {
+            self.waiter.pass(rest);
             return true;
         }
         false
@@ -57,12 +66,9 @@ impl<L: LogicMachine> Driver<L> {
             (λ input. L.outs (L.setup self.old.machine) (counted_samples input)) (Feed.Run run) (left_feed result) into.new }
         ensures stops { ReachesStop (Drives L.stands L.alts self.old.machine self.old.waiter) (Sleeps L.alts self.old.machine self.old.waiter) (Feed.Run run) (left_feed result) }
     {
-        if run.len > MOST_SAMPLES - self.waiter.consumed() {
-            return self.look(run, into);
-        }
-        match self.stop_in(run, run, into) {
+        match self.look(run, into) {
             Some(rest) => {
-                if self.pass(rest) {
+                if self.pass_rest(rest) {
                     return None;
                 }
                 Some(rest)
@@ -83,22 +89,7 @@ impl<L: LogicMachine> Driver<L> {
         if before >= MOST_SAMPLES {
             return None;
         }
-        self.stop_in(run, part_of(run, MOST_SAMPLES - before), into)
-    }
-
-    // The same, where this part of a run counts.
-    #[inline(always)]
-    fn stop_in(&mut self, run: Run, part: Run, into: &mut Outs) -> Option<Run>
-        requires empty { into.old ≡ [] }
-        requires value { part.value ≡ run.value }
-        requires len { part.len ≡ min run.len (2 ^ 60 - consumed_by self.old.waiter) }
-        ensures setup { L.setup self.new.machine ≡ L.setup self.old.machine }
-        ensures step { Steps (Drives L.stands L.alts self.old.machine self.old.waiter) (Drives L.stands L.alts self.new.machine self.new.waiter)
-            (λ input. L.outs (L.setup self.old.machine) (counted_samples input)) (Feed.Run run) (left_feed result) into.new }
-        ensures stops { StopsFirst (Drives L.stands L.alts self.old.machine self.old.waiter) (Sleeps L.alts self.old.machine self.old.waiter) (Feed.Run run) (left_feed result) }
-    {
-        let before = self.waiter.consumed();
-        match self.waiter.scan(part) {
+        match self.waiter.scan(part_of(run, MOST_SAMPLES - before)) {
             Scan::Through => None,
             Scan::Met { at, value, met, .. } => {
                 let anew = self.machine.resume(at, value, met, into);
@@ -182,10 +173,11 @@ impl<L: LogicMachine> Machine for Driver<L> {
         }
     }
 
+    fn pass_runs(&mut self, runs: &[Run]) -> usize {
+        self.waiter.pass_runs(runs)
+    }
+
     fn step_run(&mut self, run: Run, into: &mut Outs) -> Option<Run> {
-        if self.pass(run) {
-            return None;
-        }
         self.look_on(run, into)
     }
 

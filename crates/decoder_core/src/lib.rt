@@ -12,6 +12,3 @@ pub use faults::OptFault;
 pub use machine::{LogicMachine, Machine};
 pub use outputs::{note_at, packet_at, span_note, span_packet, span_piece};
 pub use outs::Outs;
-
-#[cfg(test)]
-mod tests;

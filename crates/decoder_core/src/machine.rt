@@ -1,5 +1,6 @@
 // What a decoder is, by the outputs of its whole input.
 ghost use Rattle.std.specs.Prelude.{◌≡◌, ◌≤◌, ◌<◌, ◌+◌, ◌^◌, [], ◌∷◌, ◌++◌, ℕ, List, length, take, false};
+ghost use Rattle.la_base.specs.Runs.{samples_of};
 ghost use Rattle.la_base.specs.declared.wires.Out.{Out};
 ghost use Rattle.la_base.specs.declared.wires.Wire.{Wire};
 ghost use Rattle.wait_cond.specs.declared.alt.Alt.{Alt};
@@ -7,7 +8,7 @@ ghost use Rattle.wait_cond.specs.Conds.{cond_alts};
 ghost use Rattle.wait_cond.specs.Waiting.{Waits, alts_of, wait_from, consumed_by};
 ghost use Rattle.decoder_core.specs.Inputs.{Item, left_feed};
 ghost use Rattle.decoder_core.specs.Promises.{IsFloor, GivesNothing, GivesOn, KeepsFront, PacketsInOrder, AddsFew, Rests, IsQuiet, IsLoud, StandsThere, OneMachine, OneLastStop};
-ghost use Rattle.decoder_core.specs.Driving.{ReachesStop, Steps, StopsFirst};
+ghost use Rattle.decoder_core.specs.Driving.{Passes, ReachesStop, Steps, StopsFirst};
 
 use crate::Outs;
 use la_base::{Feed, Run, Wire, Word};
@@ -134,6 +135,13 @@ pub trait Machine {
         ensures setup { setup self.new ≡ setup self.old }
         ensures step { Steps (consumed self.old) (consumed self.new) (outputs (setup self.old)) feed result into.new }
         ensures stops { StopsFirst (consumed self.old) (sleeps self.old) feed result };
+
+    /// Consumes runs, from the first one on, as long as it is plain that they have no stop, and answers how
+    /// many: these give nothing. What is behind them, if anything is, is for `step_run`.
+    fn pass_runs(&mut self, runs: &[Run]) -> usize
+        ensures setup { setup self.new ≡ setup self.old }
+        ensures within { result ≤ length runs.now }
+        ensures passes { Passes (consumed self.old) (consumed self.new) (outputs (setup self.old)) (samples_of (take result runs.now)) };
 
     /// As `step`, for the feed of a run; but it may go on behind the first stop, as far as there is no
     /// other. So mostly nothing is left.

@@ -24,6 +24,3 @@ pub use table::{
 };
 pub use texts::note_text;
 pub use values::number_of;
-
-#[cfg(test)]
-mod tests;

@@ -38,6 +38,14 @@ impl Machine for AnyDecoder {
         }
     }
 
+    fn pass_runs(&mut self, runs: &[Run]) -> usize {
+        match &mut self.machine {
+            AnyMachine::I2c(driver) => driver.pass_runs(runs),
+            AnyMachine::Spi(driver) => driver.pass_runs(runs),
+            AnyMachine::Uart(driver) => driver.pass_runs(runs),
+        }
+    }
+
     fn step_run(&mut self, run: Run, into: &mut Outs) -> Option<Run> {
         match &mut self.machine {
             AnyMachine::I2c(driver) => driver.step_run(run, into),

@@ -1,3 +1,4 @@
 pub mod Samples
+pub mod Runs
 pub mod Naming
 pub mod Kinds

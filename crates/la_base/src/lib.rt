@@ -5,8 +5,6 @@ mod kinds;
 mod names;
 mod parts;
 mod samples;
-#[cfg(test)]
-mod tests;
 mod wires;
 
 pub use kinds::{same_wire, wire_of};

@@ -6,6 +6,7 @@ ghost use Rattle.la_io.specs.Causes.{HasCause, AppendsFront};
 use crate::{Failed, Sink};
 
 /// Writes the whole piece, by as many calls as needed. After `Failed` a front of it is written.
+#[inline(always)]
 pub fn write_whole<K: Sink>(sink: &mut K, bytes: &[u8]) -> Result<(), Failed>
     ensures whole { OnOk result (Appends (K.written sink.old) (K.written sink.new) bytes.now) }
     ensures front { AppendsFront (K.written sink.old) (K.written sink.new) bytes.now }

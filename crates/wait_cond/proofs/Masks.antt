@@ -1,8 +1,9 @@
 -- Masks of lines, by their bits.
-use Rattle.std.proofs.Common.{◌≡◌, ◌⊎◌, inl, inr, ⊎_elim, ℕ, zero, suc, ◌+◌, ◌*◌, ◌^◌, ◌<◌, ◌%◌, min, sym, subst, bit_and, bit_or, bit_xor, Bool, true, false, ◌==◌, Some, refl, ◌∙◌, ap, arith}
+use Rattle.std.proofs.Common.{◌≡◌, ◌⊎◌, inl, inr, ⊎_elim, ℕ, zero, suc, ◌+◌, ◌-◌, ◌*◌, ◌^◌, ◌<◌, ◌%◌, min, sym, subst, bit_and, bit_or, bit_xor, Bool, true, false, ◌==◌, Some, refl, ◌∙◌, ap, arith}
 use Rattle.std.specs.Int.{Width, bit_at}
 use mir.Val.{bits}
 use Rattle.std.specs.Bool.{MatchBool}
+use Rattle.std.proofs.lemmas.Nat.{and-not, and_comm}
 use Rattle.std.proofs.lemmas.Nat.Bits.{bit_at_and, bit_at_or, bit_at_xor, bit_at-lt, bit_at-zero, bit_at_set_same, bit_at_set_other, same_from_bits}
 use Rattle.std.proofs.lemmas.Bool.{cases_eq, false≢true}
 use Rattle.std.proofs.lemmas.Bool.Decides.{Decides-eqb}
@@ -26,6 +27,16 @@ all_in_no mask lines each = same_from_bits (bit_and mask lines) mask at
       | inl is ↦ omega (arith, bit_at_and mask lines i, is)
       | inr is ↦ omega (arith, bit_at_and mask lines i, is, each i is)
     ]
+
+-- the same by the lines that it isn't one of
+others_split : (width mask lines : ℕ) → mask < 2 ^ width → lines < 2 ^ width → bit_and mask (2 ^ width - 1 - lines) + bit_and mask lines ≡ mask
+others_split width mask lines few small = (λ i. and_comm mask (2 ^ width - 1 - lines) i + and_comm mask lines i) ∙ and-not width lines mask small few
+
+pub all_in_none : (width mask lines : ℕ) → mask < 2 ^ width → lines < 2 ^ width → bit_and mask (2 ^ width - 1 - lines) ≡ 0 → AllIn mask lines
+all_in_none width mask lines few small none = all_in_yes mask lines (omega (arith, others_split width mask lines few small, none))
+
+pub none_all_in : (width mask lines : ℕ) → mask < 2 ^ width → lines < 2 ^ width → AllIn mask lines → bit_and mask (2 ^ width - 1 - lines) ≡ 0
+none_all_in width mask lines few small each = omega (arith, others_split width mask lines few small, all_in_no mask lines each)
 
 pub none_in_yes : (mask lines : ℕ) → bit_and mask lines ≡ 0 → NoneIn mask lines
 none_in_yes mask lines is line one =

@@ -1,5 +1,5 @@
 // Conditions.
-ghost use Rattle.std.specs.Prelude.{◌≡◌, ◌≢◌, ◌<◌, ◌≤◌, ◌∷◌, ◌++◌, [], length, Option, Some, bit_or, nat_lt, true};
+ghost use Rattle.std.specs.Prelude.{◌≡◌, ◌≢◌, ◌<◌, ◌≤◌, ◌∷◌, ◌++◌, [], length, Option, Some, bit_or, nat_lt, true, ℕ};
 ghost use Rattle.wait_cond.specs.Watching.{edge_lines, high_lines, Watches, AskHigh, NeverMet, SkipAtLeast, SkipMore};
 
 use crate::Alt;
@@ -23,7 +23,7 @@ pub struct Cond {
 }
 
 impl Cond {
-    ghost use Rattle.wait_cond.specs.Plain.{is_still};
+    ghost use Rattle.wait_cond.specs.Plain.{asks_edges, is_still};
     ghost use Rattle.wait_cond.specs.Conds.{cond_alts};
 
     /// The condition of one alternative.
@@ -92,6 +92,15 @@ impl Cond {
         ensures skips { result ≡ true → SkipMore samples (cond_alts self.now) }
     {
         samples < self.skip
+    }
+
+    /// Whether each alternative asks an edge, so that none is met while a value stands.
+    #[inline]
+    pub fn asks_edges(&self) -> bool
+        ensures exact { result ≡ asks_edges self.now }
+        ensures stands { result ≡ true → (now : ℕ) → NeverMet (cond_alts self.now) (Some now) now }
+    {
+        self.watched != 0
     }
 
     /// Whether it is plain that no alternative is met: each asks one line to be high, and it is low;

@@ -27,6 +27,3 @@ pub use plain::all_stops;
 pub use read::read_alt;
 pub use scan::{Scan, Waiter};
 pub use words::{AltWords, CondError, CondFault, CondWhy, Letter, Term};
-
-#[cfg(test)]
-mod tests;

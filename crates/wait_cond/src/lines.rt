@@ -10,7 +10,7 @@ use la_base::Word;
 fn all_in(mask: Word, lines: Word) -> bool
     ensures { MatchBool result (AllIn mask lines) (¬ AllIn mask lines) }
 {
-    mask & lines == mask
+    mask & !lines == 0
 }
 
 // Whether no line of a mask is one of these.

@@ -7,6 +7,9 @@ use crate::standing::first_standing;
 use crate::{Alt, Cond};
 use la_base::{Run, Word};
 
+// How many samples may be consumed.
+const MOST_SAMPLES: u64 = 1 << 60;
+
 /// Waits for the next sample that meets a condition. It stands for the samples that it has consumed,
 /// its last stop among them, and its condition; of the samples it holds three numbers.
 #[derive(Drop)]
@@ -32,11 +35,12 @@ pub enum Scan {
 }
 
 impl Waiter {
-    ghost use Rattle.std.specs.Prelude.{◌≡◌, ◌≢◌, ◌+◌, ◌≤◌, ◌<◌, ◌^◌, ◌++◌, ◌==◌, if◌then◌else◌, [], ◌∷◌, List, ℕ, length, Some, IfSome, true};
+    ghost use Rattle.std.specs.Prelude.{◌≡◌, ◌≢◌, ◌+◌, ◌≤◌, ◌<◌, ◌^◌, ◌++◌, ◌==◌, if◌then◌else◌, [], ◌∷◌, List, ℕ, length, take, Some, IfSome, true};
+    ghost use Rattle.la_base.specs.Runs.{samples_of};
     ghost use Rattle.la_base.specs.Samples.{samples};
     ghost use Rattle.wait_cond.specs.Conds.{cond_alts};
     ghost use Rattle.wait_cond.specs.Standing.{FirstStanding};
-    ghost use Rattle.wait_cond.specs.Plain.{is_plain};
+    ghost use Rattle.wait_cond.specs.Plain.{is_plain, is_rest};
     ghost use Rattle.wait_cond.specs.Stops.{MetSet, NoneMet};
     ghost use Rattle.wait_cond.specs.Waiting.{Waits, Scanned, Counts, ThroughCounts, Found, alts_of, wait_from, consumed_by, last_of};
 
@@ -114,6 +118,23 @@ impl Waiter {
         self.cond.skips_more(self.consumed + run.len - self.from)
     }
 
+    /// Whether it is plain that no sample of a run meets the condition, since it goes on with the value of
+    /// the last one and each alternative asks an edge. So it mostly is with what is left of a run.
+    #[inline]
+    pub fn rests(&self, run: Run) -> bool
+        requires { consumed_by self.now + run.len ≤ 2 ^ 60 }
+        ensures plain { result ≡ is_rest self.now run }
+        ensures none { result ≡ true → (list : List ℕ) → Waits self.now list → NoneMet (list ++ samples run) (alts_of self.now) (wait_from self.now) (length list + run.len) }
+    {
+        if self.consumed == 0 {
+            return false;
+        }
+        if self.last != run.value {
+            return false;
+        }
+        self.cond.asks_edges()
+    }
+
     /// Consumes a run no sample of which meets the condition.
     #[inline]
     pub fn pass(&mut self, run: Run)
@@ -124,6 +145,24 @@ impl Waiter {
     {
         self.consumed += run.len;
         self.last = run.value;
+    }
+
+    /// Consumes runs, from the first one on, as long as it is plain that they have no stop, and answers how
+    /// many. It ends before a run with which there would be more than 2^60 samples.
+    pub fn pass_runs(&mut self, runs: &[Run]) -> usize
+        ensures within { result ≤ length runs.now }
+        ensures waits { (list : List ℕ) → Waits self.old list → Waits self.new (list ++ samples_of (take result runs.now)) }
+        ensures count { consumed_by self.new ≡ consumed_by self.old + length (samples_of (take result runs.now)) }
+        ensures from { wait_from self.new ≡ wait_from self.old }
+        ensures alts { alts_of self.new ≡ alts_of self.old }
+    {
+        for (place, run) in runs.iter().enumerate() {
+            if run.len > MOST_SAMPLES - self.consumed || !self.passes(*run) {
+                return place;
+            }
+            self.pass(*run);
+        }
+        runs.len()
     }
 
     // The alternatives that the next sample meets, where it has this value.

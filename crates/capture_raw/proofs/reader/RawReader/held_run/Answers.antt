@@ -3,7 +3,8 @@ use Rattle.la_base.specs.Samples.{samples}
 use Rattle.capture_raw.specs.Raw.{unit_len}
 use Rattle.capture_raw.specs.Reader.{raw_unit}
 use Rattle.capture_raw.proofs.Captures.{unit_some}
-use Rattle.capture_raw.proofs.Standing.{stands_same, stands_run, samples_len, more_given_held}
+use Rattle.la_base.proofs.RunLemmas.{samples_len}
+use Rattle.capture_raw.proofs.Standing.{stands_same, stands_run, more_given_held}
 use Rattle.capture_raw.proofs.reader.RawReader.held_run.Goals as goal
 
 pub returns-clause-given : goal.returns-clause-given

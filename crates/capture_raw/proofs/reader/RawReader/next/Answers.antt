@@ -3,7 +3,8 @@ use Rattle.la_base.specs.Samples.{samples}
 use Rattle.capture_raw.specs.Raw.{unit_len}
 use Rattle.capture_raw.specs.Reader.{raw_unit}
 use Rattle.capture_raw.proofs.Captures.{unit_some}
-use Rattle.capture_raw.proofs.Standing.{stands_more, stands_same, stands_run, samples_len, more_given, ends_full, ends_open, ended, ended_told}
+use Rattle.la_base.proofs.RunLemmas.{samples_len}
+use Rattle.capture_raw.proofs.Standing.{stands_more, stands_same, stands_run, more_given, ends_full, ends_open, ended, ended_told}
 use Rattle.capture_raw.proofs.reader.RawReader.next.Goals as goal
 
 -- a run

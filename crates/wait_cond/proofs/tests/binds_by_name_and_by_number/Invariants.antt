@@ -1,5 +1,0 @@
-use Rattle.wait_cond.specs.Binding.{Distinct}
-use Rattle.wait_cond.proofs.tests.binds_by_name_and_by_number.Given as goal
-
-abbrev pub invariant-loop-word : goal.invariant-loop-word
-invariant-loop-word g l = Distinct l.pins.items
