@@ -14,7 +14,7 @@ use Rattle.capture_any.specs.Listings.{SettledFront, OfAll, OfFewer, Says, Lists
 use Rattle.std.proofs.Math.Path.{transport}
 use Rattle.capture_any.specs.declared.form.Form.{Form}
 use Rattle.capture_any.specs.Reading.{Stands, Next, form_of, pins_of, capture_by}
-use Rattle.capture_any.specs.Taking.{GaveMore}
+use Rattle.capture_any.specs.Taking.{GaveHeld, GaveMore}
 use Rattle.capture_any.specs.declared.capture.Capture.{Capture}
 use Rattle.capture_any.specs.declared.end.ListingEnd.{ListingEnd}
 use Rattle.capture_any.specs.declared.end.ListingEnd.TheVariants.{Done, Read, Write, Fault, NoMemory}
@@ -67,6 +67,18 @@ gave_more old new before then left_old left_now left_new given more so_far next 
       at_end = answer.2;
       stands = subst (λ (l : List ℕ). Stands new l answer.0 (given ++ more)) (append_assoc before so_far.bytes next.bytes) answer.3;
     }
+
+-- samples were given of what was read already
+pub gave_held : (old new : Capture) (before : List ℕ) (then : Told) (left_old left_now : Option (List ℕ)) (given more : List ℕ) → Gave old before then left_old left_now given → GaveHeld old new more
+    → Gave new before then left_old left_now (given ++ more)
+gave_held old new before then left_old left_now given more so_far held = record {
+  bytes = so_far.bytes;
+  told = so_far.told;
+  later = so_far.later;
+  taken = so_far.taken;
+  at_end = so_far.at_end;
+  stands = held (before ++ so_far.bytes) so_far.told given so_far.stands;
+}
 
 -- form and pins are the same
 pub record SameCapture (first now : Capture) : Type 0 where

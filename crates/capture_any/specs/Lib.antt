@@ -3,5 +3,4 @@ pub mod Listings
 pub mod Reading
 pub mod Taking
 pub mod Answers
-pub mod Naming
 pub mod Laws

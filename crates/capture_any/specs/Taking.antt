@@ -1,6 +1,7 @@
 -- What a reader answers that gives several runs at once.
-use Rattle.std.specs.Prelude.{ℕ, ◌≡◌, Bool, true, false, List, [], ◌∷◌, ◌++◌, Option, Some, None, Result, Ok, Err}
+use Rattle.std.specs.Prelude.{ℕ, Bool, true, false, List, [], ◌++◌, Option, Some, None, Result, Ok, Err}
 use Rattle.std.specs.Io.KnownBytes.{Consumes}
+use Rattle.la_base.specs.Runs.{samples_of}
 use Rattle.la_base.specs.Samples.{samples}
 use Rattle.la_base.specs.declared.samples.Run.{Run}
 use Rattle.la_io.specs.declared.fault.CaptureError.{CaptureError}
@@ -9,10 +10,10 @@ use Rattle.capture_any.specs.Captures.{Later, ToldAt}
 use Rattle.capture_any.specs.Reading.{Stands, Next}
 use Rattle.capture_any.specs.declared.capture.Capture.{Capture}
 
--- the samples of runs, one after another
-abbrev pub samples_of : List Run → List ℕ
-samples_of [] = []
-samples_of (run ∷ runs) = samples run ++ samples_of runs
+-- the samples of a run, if there is one
+abbrev pub held_samples : Option Run → List ℕ
+held_samples None = []
+held_samples (Some run) = samples run
 
 -- these samples were given, and no byte was taken
 abbrev pub GaveHeld : Capture → Capture → List ℕ → Type 0

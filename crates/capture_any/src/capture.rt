@@ -1,13 +1,11 @@
 // A capture that is read.
-ghost use Rattle.std.specs.Prelude.{◌≡◌};
-ghost use Rattle.capture_any.specs.Naming.{names_in};
-
 use crate::Form;
 use crate::answer::answer_of;
 use crate::names::channel_names;
-use crate::reader::Reader;
+use crate::reader::{NamedRaw, Reader};
 use crate::runs::Runs;
 use capture_raw::RawReader;
+use capture_vcd::VcdReader;
 use la_base::{Names, NoMemory, Pins, Rate, Run};
 use la_io::{CaptureError, Source};
 use std::alloc::Global;
@@ -16,23 +14,22 @@ use std::alloc::Global;
 /// samples. The samples have no bits before `select`.
 #[derive(Drop)]
 pub struct Capture {
-    names: Names,
     reader: Reader,
-    ghost named: { names ≡ names_in reader },
 }
 
 impl Capture {
     ghost use Rattle.std.specs.Prelude.{◌≡◌, ◌≢◌, ◌+◌, ◌^◌, ◌<◌, ◌≤◌, ℕ, List, [], ◌++◌, length, slice_index, true, Bool, None, Ok, IfOk, IfSome};
     ghost use Rattle.la_base.specs.Samples.{samples};
     ghost use Rattle.la_base.specs.declared.samples.Run.{Run};
-    ghost use Rattle.capture_any.specs.Taking.{GaveHeld, Gives, open_behind, samples_of};
+    ghost use Rattle.la_base.specs.Runs.{samples_of};
+    ghost use Rattle.capture_any.specs.Taking.{GaveHeld, Gives, held_samples, open_behind};
     ghost use Rattle.la_io.specs.Capture.{Told};
     ghost use Rattle.capture_any.specs.Captures.{IsForm, HasNoHead, TakesNoMemory};
     ghost use Rattle.capture_any.specs.Reading.{Stands, Next, Opens, CaptureCause, stays_open, form_of, pins_of, names_of, rate_of, is_open_of, given_by};
 
     /// Opens a capture of this form: reads its head; nothing is read where the form's head takes no
     /// bytes. `Fault` comes exactly where the head has one, and `Read` where the source failed before
-    /// the head was whole.
+    /// the head was whole. Its rate is at most 10^15.
     pub fn open<S: Source>(
         alloc: Global,
         form: Form,
@@ -43,6 +40,7 @@ impl Capture {
         ensures form { IfOk result (λ capture. form_of capture ≡ form) }
         ensures pins { IfOk result (λ capture. pins_of capture ≡ []) }
         ensures is_open { IfOk result (λ capture. is_open_of capture ≡ true) }
+        ensures rate { IfOk result (λ capture. (rate_of capture).num ≤ 10 ^ 15) }
         ensures unread { HasNoHead form → source.new ≡ source.old }
         ensures cause { CaptureCause (S.faults source.old) (S.faults source.new) result }
     {
@@ -50,10 +48,18 @@ impl Capture {
         match &mut form {
             Form::Raw { channels, rate } => match channel_names(alloc, *channels) {
                 Ok(names) => Ok(Capture {
-                    names,
-                    reader: Reader::Raw(RawReader::open(*channels, *rate)),
+                    reader: Reader::Raw(NamedRaw {
+                        names,
+                        reader: RawReader::open(*channels, *rate),
+                    }),
                 }),
                 Err(NoMemory) => Err(CaptureError::NoMemory),
+            },
+            Form::Vcd { down } => match VcdReader::open(alloc, *down, source) {
+                Ok(reader) => Ok(Capture {
+                    reader: Reader::Vcd(reader),
+                }),
+                Err(error) => Err(error),
             },
         }
     }
@@ -62,7 +68,10 @@ impl Capture {
     pub fn names(&self) -> &Names
         ensures { result.now ≡ names_of self.now }
     {
-        &self.names
+        match &self.reader {
+            Reader::Raw(raw) => &raw.names,
+            Reader::Vcd(reader) => reader.names(),
+        }
     }
 
     /// The rate of its samples.
@@ -70,7 +79,8 @@ impl Capture {
         ensures { result ≡ rate_of self.now }
     {
         match &self.reader {
-            Reader::Raw(reader) => reader.rate(),
+            Reader::Raw(raw) => raw.reader.rate(),
+            Reader::Vcd(reader) => reader.rate(),
         }
     }
 
@@ -86,7 +96,8 @@ impl Capture {
         ensures is_open { is_open_of self.new ≡ is_open_of self.old }
     {
         match &mut self.reader {
-            Reader::Raw(reader) => reader.select(pins),
+            Reader::Raw(raw) => raw.reader.select(pins),
+            Reader::Vcd(reader) => reader.select(pins),
         }
     }
 
@@ -95,7 +106,8 @@ impl Capture {
         ensures { result ≡ is_open_of self.now }
     {
         match &self.reader {
-            Reader::Raw(reader) => reader.is_open(),
+            Reader::Raw(raw) => raw.reader.is_open(),
+            Reader::Vcd(reader) => reader.is_open(),
         }
     }
 
@@ -118,37 +130,40 @@ impl Capture {
         ensures cause { CaptureCause (S.faults source.old) (S.faults source.new) result }
     {
         match &mut self.reader {
-            Reader::Raw(reader) => answer_of(reader.next(source)),
+            Reader::Raw(raw) => answer_of(raw.reader.next(source)),
+            Reader::Vcd(reader) => reader.next(source),
         }
     }
 
-    // The next run of what was read already, if there is one. Nothing is read.
+    /// The next run of what was read already, if there is one. Nothing is read.
     #[inline(always)]
-    fn held_run(&mut self) -> Option<Run>
-        ensures gave { IfSome result (λ run. GaveHeld self.old self.new (samples run)) }
-        ensures kept { result ≡ None → self.new ≡ self.old }
+    pub fn held_run(&mut self) -> Option<Run>
+        ensures gave { GaveHeld self.old self.new (held_samples result) }
         ensures is_open { is_open_of self.new ≡ is_open_of self.old }
         ensures form { form_of self.new ≡ form_of self.old }
         ensures pins { pins_of self.new ≡ pins_of self.old }
         ensures names { names_of self.new ≡ names_of self.old }
         ensures rate { rate_of self.new ≡ rate_of self.old }
-        ensures progress { IfSome result (λ run. given_by self.old + run.len ≤ given_by self.new) }
-        ensures few { IfSome result (λ run. given_by self.new ≤ 2 ^ 60) }
+        ensures progress { given_by self.old + length (held_samples result) ≤ given_by self.new }
+        ensures few { given_by self.old ≤ 2 ^ 60 → given_by self.new ≤ 2 ^ 60 }
     {
         match &mut self.reader {
-            Reader::Raw(reader) => reader.held_run(),
+            Reader::Raw(raw) => match raw.reader.held_run() {
+                Some(run) => Some(run),
+                None => None,
+            },
+            Reader::Vcd(reader) => reader.held_run(),
         }
     }
 
     // Appends the runs of what was read already, as far as there is room.
     fn take_held(&mut self, into: &mut Runs)
-        ensures gave { (new : List Run) × (into.new ≡ into.old ++ new) × GaveHeld self.old self.new (samples_of new) }
+        ensures gave { (new : List Run) × (into.new ≡ into.old ++ new) × GaveHeld self.old self.new (samples_of new) × (given_by self.old + length (samples_of new) ≤ given_by self.new) }
         ensures is_open { is_open_of self.new ≡ is_open_of self.old }
         ensures form { form_of self.new ≡ form_of self.old }
         ensures pins { pins_of self.new ≡ pins_of self.old }
         ensures names { names_of self.new ≡ names_of self.old }
         ensures rate { rate_of self.new ≡ rate_of self.old }
-        ensures progress { given_by self.old ≤ given_by self.new }
         ensures few { given_by self.old ≤ 2 ^ 60 → given_by self.new ≤ 2 ^ 60 }
     {
         while !into.is_full() {
@@ -174,6 +189,7 @@ impl Capture {
         ensures names { names_of self.new ≡ names_of self.old }
         ensures rate { rate_of self.new ≡ rate_of self.old }
         ensures progress { result ≡ Ok true → given_by self.old < given_by self.new }
+        ensures counts { result ≡ Ok true → given_by self.old + length (samples_of into.new) ≤ given_by self.new }
         ensures few { given_by self.new ≤ 2 ^ 60 }
         ensures memory { TakesNoMemory (form_of self.old) → result ≢ Err CaptureError.NoMemory }
         ensures cause { CaptureCause (S.faults source.old) (S.faults source.new) result }

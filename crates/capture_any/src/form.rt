@@ -6,4 +6,6 @@ use la_base::Rate;
 pub enum Form {
     /// Units of bytes, `channels` bits rounded up to whole bytes each, at this rate.
     Raw { channels: u32, rate: Rate },
+    /// A VCD file, by clause 18 of IEEE 1364-2005. Each sample stands for `down` units of its time.
+    Vcd { down: u64 },
 }

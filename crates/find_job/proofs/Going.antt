@@ -13,9 +13,9 @@ use Rattle.wait_cond.specs.declared.scan.Waiter.{Waiter}
 use Rattle.wait_cond.specs.declared.scan.Scan.TheVariants.{Met, Through}
 use Rattle.wait_cond.proofs.ChainLemmas.{chain_longer, chain_more}
 use Rattle.find_job.specs.Listing.{line_of, lines_of}
-use Rattle.find_job.specs.Stopping.{RunWritten, RunCutOff}
+use Rattle.find_job.specs.Stopping.{AllWritten, CutOff}
 use Rattle.la_io.proofs.Fronts.{front_on}
-use Rattle.find_job.proofs.Fronts.{lines_more}
+use Rattle.find_job.proofs.Fronts.{lines_append, lines_more}
 
 -- of all these samples, what is left of the run is still to be scanned; the stops before it are written
 pub record Going (alts : List Alt) (all : List ℕ) (stops : List Stop) (waiter : Waiter) (rest : Option Run) (old now : Option (List ℕ)) : Type 0 where
@@ -63,7 +63,7 @@ module _ (alts : List Alt) (all : List ℕ) (stops : List Stop) (waiter : Waiter
         }
 
     -- a stop, of whose line a front is written
-    pub going_cut : (new : Option (List ℕ)) → AppendsFront now new (line_of (at, met)) → RunCutOff alts all stops old new
+    pub going_cut : (new : Option (List ℕ)) → AppendsFront now new (line_of (at, met)) → CutOff alts all stops old new
     going_cut new line = record {
       more = going.more ++ (at, met) ∷ [];
       to = at + 1;
@@ -85,10 +85,38 @@ module _ (alts : List Alt) (all : List ℕ) (stops : List Stop) (waiter : Waiter
       }
 
 -- nothing is left of the run
-pub going_ends : (alts : List Alt) (all : List ℕ) (stops : List Stop) (waiter : Waiter) (old now : Option (List ℕ)) → Going alts all stops waiter None old now → RunWritten waiter alts all stops old now
+pub going_ends : (alts : List Alt) (all : List ℕ) (stops : List Stop) (waiter : Waiter) (old now : Option (List ℕ)) → Going alts all stops waiter None old now → AllWritten waiter alts all stops old now
 going_ends alts all stops waiter old now going = record {
   more = going.more;
   waits = subst (λ (l : List ℕ). Waits waiter l) (sym (going.split ∙ append-nil going.so_far)) going.waits;
   chain = going.chain;
   written = going.written;
 }
+
+-- nothing was scanned yet
+pub written_nothing : (waiter : Waiter) (list : List ℕ) (stops : List Stop) (old : Option (List ℕ)) → Waits waiter list → Chain list (alts_of waiter) 0 stops (wait_from waiter) → AllWritten waiter (alts_of waiter) (list ++ []) stops old old
+written_nothing waiter list stops old waits chain = record {
+  more = [];
+  waits = subst (λ (l : List ℕ). Waits waiter l) (sym (append-nil list)) waits;
+  chain = subst (λ (l : List ℕ). Chain l (alts_of waiter) 0 (stops ++ []) (wait_from waiter)) (sym (append-nil list)) (subst (λ (s : List Stop). Chain list (alts_of waiter) 0 s (wait_from waiter)) (sym (append-nil stops)) chain);
+  written = appends_nothing old;
+}
+
+module _ (alts : List Alt) (stops : List Stop) (before : Waiter) (front : List ℕ) (old now : Option (List ℕ)) (first : AllWritten before alts front stops old now) where
+  -- the stops of samples behind those that were scanned
+  pub written_more : (after : Waiter) (all : List ℕ) (new : Option (List ℕ)) → AllWritten after alts all (stops ++ first.more) now new → AllWritten after alts all stops old new
+  written_more after all new second = record {
+    more = first.more ++ second.more;
+    waits = second.waits;
+    chain = subst (λ (s : List Stop). Chain all alts 0 s (wait_from after)) (append_assoc stops first.more second.more) second.chain;
+    written = appends_on old now new (lines_of first.more) (lines_of second.more) (lines_of (first.more ++ second.more)) first.written second.written (sym (lines_append first.more second.more));
+  }
+
+  -- they were cut off
+  pub cut_more : (part rest : List ℕ) (new : Option (List ℕ)) → CutOff alts part (stops ++ first.more) now new → CutOff alts (part ++ rest) stops old new
+  cut_more part rest new cut = record {
+    more = first.more ++ cut.more;
+    to = cut.to;
+    chain = subst (λ (s : List Stop). Chain (part ++ rest) alts 0 s cut.to) (append_assoc stops first.more cut.more) (chain_longer part rest alts 0 cut.to ((stops ++ first.more) ++ cut.more) cut.chain);
+    written = subst (λ (l : List ℕ). AppendsFront old new l) (sym (lines_append first.more cut.more)) (front_on old now new (lines_of first.more) (lines_of cut.more) first.written cut.written);
+  }

@@ -1,8 +1,6 @@
 -- The search for all stops, as it goes on.
-use Rattle.std.proofs.Common.{◌≡◌, ℕ, List, [], ◌++◌, Option, Some, Ok, sym, subst}
+use Rattle.std.proofs.Common.{◌≡◌, ℕ, List, [], ◌++◌, Option, sym, subst}
 use Rattle.std.specs.Io.KnownBytes.{Appends}
-use Rattle.la_base.specs.Samples.{samples}
-use Rattle.la_base.specs.declared.samples.Run.{Run}
 use Rattle.la_io.specs.Causes.{AppendsFront}
 use Rattle.la_io.specs.Grown.{appends_nothing, appends_on}
 use Rattle.wait_cond.specs.Stops.{Stop, Chain, AreStops}
@@ -12,11 +10,11 @@ use Rattle.wait_cond.specs.declared.scan.Waiter.{Waiter}
 use Rattle.wait_cond.proofs.ChainLemmas.{chain_longer, waits_stops}
 use Rattle.la_io.specs.Capture.{Told}
 use Rattle.capture_any.specs.Captures.{ToldAt}
-use Rattle.capture_any.specs.Reading.{Stands, Next}
+use Rattle.capture_any.specs.Reading.{Stands}
 use Rattle.capture_any.specs.declared.capture.Capture.{Capture}
-use Rattle.capture_any.proofs.ListingLemmas.{Gave, gave_nothing, gave_run}
+use Rattle.capture_any.proofs.ListingLemmas.{Gave, gave_nothing}
 use Rattle.find_job.specs.Listing.{lines_of}
-use Rattle.find_job.specs.Stopping.{RunWritten, RunCutOff}
+use Rattle.find_job.specs.Stopping.{AllWritten, CutOff}
 use Rattle.find_job.specs.Finding.{WholeListing, ListingFront}
 use Rattle.la_io.proofs.Fronts.{front_on, front_whole}
 use Rattle.find_job.proofs.Fronts.{lines_append}
@@ -42,15 +40,15 @@ searching_starts capture waiter before then left old at stands waits from = reco
 }
 
 module _ (capture : Capture) (waiter : Waiter) (before : List ℕ) (then : Told) (left_old left_now old now : Option (List ℕ)) (so_far : Searching capture waiter before then left_old left_now old now) where
-  -- a run, whose stops are written
-  pub searching_on : (next : Capture) (left_new : Option (List ℕ)) (run : Run) (after : Waiter) (new : Option (List ℕ)) → Next capture next left_now left_new (Ok (Some run)) → alts_of after ≡ alts_of waiter
-      → RunWritten after (alts_of waiter) (so_far.given ++ samples run) so_far.stops now new → Searching next after before then left_old left_new old new
-  searching_on next left_new run after new answer alts written = record {
-    given = so_far.given ++ samples run;
+  -- samples, whose stops are written
+  pub searching_on : (next : Capture) (left_new : Option (List ℕ)) (samples : List ℕ) (after : Waiter) (new : Option (List ℕ)) → Gave next before then left_old left_new (so_far.given ++ samples) → alts_of after ≡ alts_of waiter
+      → AllWritten after (alts_of waiter) (so_far.given ++ samples) so_far.stops now new → Searching next after before then left_old left_new old new
+  searching_on next left_new samples after new gave alts written = record {
+    given = so_far.given ++ samples;
     stops = so_far.stops ++ written.more;
-    gave = gave_run capture next before then left_old left_now left_new so_far.given run so_far.gave answer;
+    gave = gave;
     waits = written.waits;
-    chain = subst (λ (a : List Alt). Chain (so_far.given ++ samples run) a 0 (so_far.stops ++ written.more) (wait_from after)) (sym alts) written.chain;
+    chain = subst (λ (a : List Alt). Chain (so_far.given ++ samples) a 0 (so_far.stops ++ written.more) (wait_from after)) (sym alts) written.chain;
     written = appends_on old now new (lines_of so_far.stops) (lines_of written.more) (lines_of (so_far.stops ++ written.more)) so_far.written written.written (sym (lines_append so_far.stops written.more));
   }
 
@@ -64,13 +62,13 @@ module _ (capture : Capture) (waiter : Waiter) (before : List ℕ) (then : Told)
     }
 
     -- a write failed: a front of the listing of these samples and any more was appended
-    pub front_of_more : (run : Run) (new : Option (List ℕ)) → RunCutOff (alts_of waiter) (so_far.given ++ samples run) so_far.stops now new
-        → (rest : List ℕ) → ListingFront (so_far.given ++ samples run ++ rest) alts old new
-    front_of_more run new cut rest = record {
+    pub front_of_more : (samples : List ℕ) (new : Option (List ℕ)) → CutOff (alts_of waiter) (so_far.given ++ samples) so_far.stops now new
+        → (rest : List ℕ) → ListingFront (so_far.given ++ samples ++ rest) alts old new
+    front_of_more samples new cut rest = record {
       stops = so_far.stops ++ cut.more;
       to = cut.to;
-      first = subst (λ (a : List Alt). Chain (so_far.given ++ samples run ++ rest) a 0 (so_far.stops ++ cut.more) cut.to) same
-          (chain_longer (so_far.given ++ samples run) rest (alts_of waiter) 0 cut.to (so_far.stops ++ cut.more) cut.chain);
+      first = subst (λ (a : List Alt). Chain (so_far.given ++ samples ++ rest) a 0 (so_far.stops ++ cut.more) cut.to) same
+          (chain_longer (so_far.given ++ samples) rest (alts_of waiter) 0 cut.to (so_far.stops ++ cut.more) cut.chain);
       written = subst (λ (l : List ℕ). AppendsFront old new l) (sym (lines_append so_far.stops cut.more)) (front_on old now new (lines_of so_far.stops) (lines_of cut.more) so_far.written cut.written);
     }
 

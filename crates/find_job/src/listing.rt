@@ -103,6 +103,7 @@ impl StopLine {
     }
 
     /// Makes it the line of this stop.
+    #[inline(always)]
     pub fn put(&mut self, at: u64, met: u8)
         ensures { self.new ≡ line_of (at, met) }
     {

@@ -9,7 +9,7 @@ ghost use Rattle.find_job.specs.Finding.{WholeListing, ListingFront};
 
 use crate::FindEnd;
 use crate::listing::StopLine;
-use crate::stops::write_stops;
+use crate::stops::{write_held, write_run};
 use capture_any::Capture;
 use la_io::{Buffered, CaptureError, Failed, Sink, Source};
 use wait_cond::{Cond, Waiter};
@@ -40,8 +40,11 @@ pub fn find<S: Source, K: Sink>(
     let mut line = StopLine::new();
     loop {
         match capture.next(source) {
-            Ok(Some(run)) => match write_stops(&mut waiter, run, &mut line, sink) {
-                Ok(()) => {}
+            Ok(Some(run)) => match write_run(&mut waiter, run, &mut line, sink) {
+                Ok(()) => match write_held(capture, &mut waiter, &mut line, sink) {
+                    Ok(()) => {}
+                    Err(Failed) => return FindEnd::Write,
+                },
                 Err(Failed) => return FindEnd::Write,
             },
             Ok(None) => return FindEnd::Done,

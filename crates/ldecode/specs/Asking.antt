@@ -7,7 +7,7 @@ use Rattle.la_io.specs.declared.fault.CaptureFault.{CaptureFault}
 use Rattle.text_parts.specs.Reading.{then_read}
 use Rattle.capture_any.specs.Captures.{HasNoHead, capture_of}
 use Rattle.capture_any.specs.declared.form.Form.{Form}
-use Rattle.capture_any.specs.declared.form.Form.TheVariants.{Raw}
+use Rattle.capture_any.specs.declared.form.Form.TheVariants.{Raw, Vcd}
 use Rattle.wait_cond.specs.Binding.{Bound, Asks, bind_terms, pins_after}
 use Rattle.wait_cond.specs.Grammar.{terms_of}
 use Rattle.wait_cond.specs.Words.{Meaning}
@@ -29,6 +29,7 @@ use Rattle.decoder_set.specs.declared.setup.Setup.{Setup}
 -- the values name this form of capture
 abbrev pub IsFormOf : Values → Form → Type 0
 IsFormOf values (Raw channels rate) = (values.format ≡ format.Raw) × (channels ≡ values.channels) × (numbers_of rate ≡ values.rate)
+IsFormOf values (Vcd down) = (values.format ≡ format.Vcd) × (down ≡ values.down)
 
 -- in this form the bytes have a head, with these names of channels and this rate
 abbrev pub HasHead : Form → List ℕ → Told → List (List ℕ) → Rate → Type 0

@@ -1,7 +1,7 @@
 // Feeding a decoder, and gathering its notes.
 ghost use Rattle.std.specs.Prelude.{◌≡◌, ◌<◌, ◌++◌, [], length, map, OnOk};
 ghost use Rattle.la_base.specs.Samples.{samples};
-ghost use Rattle.capture_any.specs.Taking.{samples_of};
+ghost use Rattle.la_base.specs.Runs.{samples_of};
 ghost use Rattle.decoder_core.specs.Inputs.{Sample};
 ghost use Rattle.note_order.specs.Order.{entry_of};
 ghost use Rattle.stack_spec.specs.Accepting.{is_shown};
@@ -95,8 +95,15 @@ pub fn feed_runs<M: Machine>(
     ensures empty { OnOk result (outs.new ≡ []) }
     ensures fed { OnOk result (Fed (M.consumed machine.old) (M.consumed machine.new) (M.outputs (M.setup machine.old)) instance (is_shown (stack_meaning stack.now).shown instance) (map Sample (samples_of runs.now)) entries.old.items entries.new.items) }
 {
-    for run in runs {
-        feed(machine, stack, instance, *run, outs, entries)?;
+    let mut at = 0;
+    loop {
+        at += machine.pass_runs(&runs[at..]);
+        if at >= runs.len() {
+            return Ok(());
+        }
+        match feed(machine, stack, instance, runs[at], outs, entries) {
+            Ok(()) => at += 1,
+            Err(NoMemory) => return Err(NoMemory),
+        }
     }
-    Ok(())
 }

@@ -1,6 +1,6 @@
 // Feeding all decoders.
 ghost use Rattle.std.specs.Prelude.{◌≡◌, ◌≤◌, [], length, map, OnOk};
-ghost use Rattle.capture_any.specs.Taking.{samples_of};
+ghost use Rattle.la_base.specs.Runs.{samples_of};
 ghost use Rattle.decoder_core.specs.Inputs.{Sample};
 ghost use Rattle.stack_spec.specs.Accepting.{is_shown};
 ghost use Rattle.stack_spec.specs.Stacks.{instances_in, stack_meaning};

@@ -16,5 +16,8 @@ pub fn form_of(settings: &Settings) -> Form
             channels: settings.channels,
             rate: settings.rate,
         },
+        Format::Vcd => Form::Vcd {
+            down: settings.down,
+        },
     }
 }

@@ -13,7 +13,7 @@ use Rattle.words.specs.Options.{row}
 use Rattle.words.specs.Rates.{RateNumbers, numbers_of, rate_written}
 use Rattle.words.specs.Uses.{Used, chains_of, is_of, uses_of, why_value}
 use Rattle.words.specs.declared.kinds.Format.{Format}
-use Rattle.words.specs.declared.kinds.Format.TheVariants.{Raw}
+use Rattle.words.specs.declared.kinds.Format.TheVariants.{Raw, Vcd}
 use Rattle.words.specs.declared.kinds.Job.{Job}
 use Rattle.words.specs.declared.kinds.Job.TheVariants.{Decode, Find}
 use Rattle.words.specs.declared.kinds.WordCount.{WordCount}
@@ -30,6 +30,7 @@ pub record Values : Type 0 where
   pub format : Format
   pub channels : ℕ
   pub rate : RateNumbers
+  pub down : ℕ
   pub threads : Bool
   pub ring : ℕ
   pub show : Option WordText
@@ -59,9 +60,9 @@ AreGood uses = (name : Name) → IfSome (value_of name uses) (λ text. why_value
 abbrev pub job_named : Text → Job
 job_named text = if bytes_eq text (codes "find") then Find else Decode
 
--- the form of capture that a good value names: there is one
+-- the form of capture that a good value names
 abbrev pub format_named : Text → Format
-format_named text = Raw
+format_named text = if bytes_eq text (codes "vcd") then Vcd else Raw
 
 -- a good value is `yes` or `no`
 abbrev pub is_yes : Text → Bool
@@ -78,6 +79,7 @@ values_of uses = record {
   format = format_named (text_of name.Format uses);
   channels = number_after 0 (text_of name.Channels uses);
   rate = rate_written (text_of name.Rate uses);
+  down = number_after 0 (text_of name.Down uses);
   threads = is_yes (text_of name.Threads uses);
   ring = number_after 0 (text_of name.Ring uses);
   show = option_and_then unless_all (use_of name.Show uses);
@@ -148,6 +150,7 @@ meaning_of s = record {
   format = s.format;
   channels = s.channels;
   rate = numbers_of s.rate;
+  down = s.down;
   threads = s.threads;
   ring = s.ring;
   show = option_map chain_of s.show;

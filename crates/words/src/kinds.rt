@@ -22,6 +22,8 @@ pub struct WordCount {
 pub enum Format {
     /// One unit of bytes for each sample.
     Raw,
+    /// A VCD file, by clause 18 of IEEE 1364-2005.
+    Vcd,
 }
 
 /// What is wrong with a word.

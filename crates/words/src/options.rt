@@ -14,6 +14,7 @@ pub enum Name {
     Format,
     Channels,
     Rate,
+    Down,
     Threads,
     Ring,
     Show,
@@ -67,15 +68,19 @@ pub struct OptionRow {
     pub help: &'static str,
 }
 
+/// The most units of time for which a sample stands.
+pub const MOST_DOWN: u32 = 1_000_000_000;
+
 /// The most slots of a ring.
 pub const MOST_RING: u32 = 16_384;
 
 /// The options, in the order in which they are told.
-pub const OPTIONS: [Name; 7] = [
+pub const OPTIONS: [Name; 8] = [
     Name::Job,
     Name::Format,
     Name::Channels,
     Name::Rate,
+    Name::Down,
     Name::Threads,
     Name::Ring,
     Name::Show,
@@ -95,7 +100,7 @@ impl Name {
             },
             Name::Format => OptionRow {
                 name: "format",
-                takes: Takes::OneOf(&["raw"]),
+                takes: Takes::OneOf(&["raw", "vcd"]),
                 usual: Some("raw"),
                 help: "the form of the capture",
             },
@@ -112,7 +117,16 @@ impl Name {
                 name: "rate",
                 takes: Takes::Rate,
                 usual: Some("1000000"),
-                help: "samples a second",
+                help: "samples a second of a raw capture",
+            },
+            Name::Down => OptionRow {
+                name: "down",
+                takes: Takes::Number {
+                    least: 1,
+                    most: MOST_DOWN as u64,
+                },
+                usual: Some("1"),
+                help: "units of time for which a sample of a vcd capture stands",
             },
             Name::Threads => OptionRow {
                 name: "threads",

@@ -47,12 +47,14 @@ fn settings(alloc: Global, matches: &ArgMatches, uses: &[Given]) -> Result<Setti
     let show = shown(alloc, uses, text(matches, Name::Show))?;
     let chains = chains_in(alloc, matches, uses)?;
     let channels = number(Name::Channels, text(matches, Name::Channels));
+    let down = number(Name::Down, text(matches, Name::Down));
     let ring = number(Name::Ring, text(matches, Name::Ring));
     Ok(Settings {
         job: job_named(text(matches, Name::Job)),
         format: format_named(text(matches, Name::Format)),
         channels: channels as u32,
         rate: rate(text(matches, Name::Rate)),
+        down,
         threads: is_yes(text(matches, Name::Threads)),
         ring: ring as u32,
         show,

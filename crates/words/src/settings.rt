@@ -1,7 +1,7 @@
 // What the words set.
 ghost use Rattle.std.specs.Prelude.{◌≤◌};
 ghost use Rattle.words.specs.Options.{IsWithin, row};
-ghost use Rattle.words.specs.declared.options.Name.TheVariants.{Channels, Ring};
+ghost use Rattle.words.specs.declared.options.Name.TheVariants.{Channels, Down, Ring};
 ghost use Rattle.words.specs.declared.values.TheConstants.{MOST_RATE_NUM, MOST_RATE_DEN};
 
 use crate::{Format, Job};
@@ -17,6 +17,8 @@ pub struct Settings {
     pub channels: u32,
     /// The rate of a capture that doesn't tell its own.
     pub rate: Rate,
+    /// The units of time for which a sample of a VCD capture stands.
+    pub down: u64,
     /// Whether decoders run in threads of their own.
     pub threads: bool,
     /// The slots of each ring between two threads.
@@ -28,5 +30,6 @@ pub struct Settings {
     pub chains: Vec<ChainWord>,
     ghost channels_fit: { IsWithin (row Channels).takes channels },
     ghost rate_fits: { (rate.num ≤ MOST_RATE_NUM) × (rate.den ≤ MOST_RATE_DEN) },
+    ghost down_fits: { IsWithin (row Down).takes down },
     ghost ring_fits: { IsWithin (row Ring).takes ring },
 }

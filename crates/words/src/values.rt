@@ -121,10 +121,13 @@ pub fn job_named(text: &str) -> Job
 }
 
 /// The form of capture that a good value names.
-pub fn format_named(_text: &str) -> Format
-    ensures { result ≡ format_named _text.now }
+pub fn format_named(text: &str) -> Format
+    ensures { result ≡ format_named text.now }
 {
-    Format::Raw
+    match text {
+        "vcd" => Format::Vcd,
+        _ => Format::Raw,
+    }
 }
 
 /// Whether a good value is `yes`.

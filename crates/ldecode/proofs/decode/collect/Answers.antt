@@ -2,7 +2,8 @@ use Rattle.std.proofs.Common.{◌++◌, Bool, List, Ok, Err, map, refl, ◌∙�
 use Rattle.la_base.specs.declared.samples.Run.{Run}
 use Rattle.la_io.specs.declared.fault.CaptureError.{CaptureError}
 use Rattle.capture_any.specs.Reading.{Next, form_of, pins_of}
-use Rattle.capture_any.specs.Taking.{Gives, samples_of}
+use Rattle.la_base.specs.Runs.{samples_of}
+use Rattle.capture_any.specs.Taking.{Gives}
 use Rattle.decoder_core.specs.Inputs.{Sample}
 use Rattle.capture_any.proofs.ListingLemmas.{gave_more, lists_done, lists_fault, lists_no_memory, lists_read, lists_write, same_on, same_still}
 use Rattle.stack_spec.specs.Accepting.{is_shown}

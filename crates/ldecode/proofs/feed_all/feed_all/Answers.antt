@@ -1,5 +1,5 @@
 use Rattle.std.proofs.Common.{◌<◌, length, map, arith}
-use Rattle.capture_any.specs.Taking.{samples_of}
+use Rattle.la_base.specs.Runs.{samples_of}
 use Rattle.decoder_core.specs.Inputs.{Sample}
 use Rattle.stack_spec.specs.Accepting.{is_shown}
 use Rattle.stack_spec.specs.Stacks.{stack_meaning}

@@ -1,6 +1,9 @@
-use Rattle.std.proofs.Common.{rules}
-use Rattle.capture_any.proofs.Answering.{next_raw}
+use Rattle.std.proofs.Common.{refl}
+use Rattle.capture_any.proofs.Answering.{next_raw, next_vcd}
 use Rattle.capture_any.proofs.capture.Capture.next.Goals as goal
 
-pub returns-clause-next : goal.returns-clause-next
-returns-clause-next g c = next_raw c.args.self.now _ _ c.next.new.self _ _ _ _ c.next.ensures.next c.next.ensures.few c.answer_of.ensures (search rules) (search rules)
+pub returns-in-Raw-clause-next : goal.returns-in-Raw-clause-next
+returns-in-Raw-clause-next g c = next_raw c.args.self.now _ _ _ _ _ _ _ c.next.ensures.next c.next.ensures.few c.answer_of.ensures c.in-Raw.is refl
+
+pub returns-in-Vcd-clause-next : goal.returns-in-Vcd-clause-next
+returns-in-Vcd-clause-next g c = next_vcd c.args.self.now _ _ _ _ _ _ c.next-in-Vcd.ensures.next c.next-in-Vcd.ensures.few c.in-Vcd.is refl

@@ -1,5 +1,6 @@
-use Rattle.std.proofs.Common.{◌++◌, ◌∷◌, [], ◌∙◌, ap, arith, append_assoc}
-use Rattle.capture_any.proofs.Taking.{gave_one}
+use Rattle.std.proofs.Common.{◌++◌, ◌∷◌, [], ◌∙◌, ap, append_assoc}
+use Rattle.capture_any.specs.Reading.{given_by}
+use Rattle.capture_any.proofs.Taking.{counts_one, gave_one}
 use Rattle.capture_any.proofs.capture.Capture.take_held.Goals as goal
 
 pub loop-self-preserved : goal.loop-self-preserved
@@ -16,6 +17,6 @@ loop-self-preserved c =
       pins = held.pins ∙ i.pins;
       names = held.names ∙ i.names;
       rate = held.rate ∙ i.rate;
-      progress = omega (arith, held.progress, i.progress);
-      few = λ before. held.few;
+      counts = counts_one i.new run (given_by c.args.self.now) (given_by c.loop-self.self) (given_by c.held_run.new.self) i.counts held.progress;
+      few = λ before. held.few (i.few before);
     }

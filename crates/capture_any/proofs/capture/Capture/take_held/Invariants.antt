@@ -1,7 +1,8 @@
-use Rattle.std.proofs.Common.{◌≡◌, ◌≤◌, ◌-◌, ◌^◌, ◌++◌, List, length}
+use Rattle.std.proofs.Common.{◌≡◌, ◌≤◌, ◌+◌, ◌-◌, ◌^◌, ◌++◌, List, length}
 use Rattle.la_base.specs.declared.samples.Run.{Run}
 use Rattle.capture_any.specs.Reading.{form_of, pins_of, names_of, rate_of, is_open_of, given_by}
-use Rattle.capture_any.specs.Taking.{GaveHeld, samples_of}
+use Rattle.la_base.specs.Runs.{samples_of}
+use Rattle.capture_any.specs.Taking.{GaveHeld}
 use Rattle.capture_any.proofs.capture.Capture.take_held.Given as goal
 
 abbrev pub invariant-loop-self : goal.invariant-loop-self
@@ -14,7 +15,7 @@ invariant-loop-self l = record {
   pins : pins_of l.self ≡ pins_of l.fn.self;
   names : names_of l.self ≡ names_of l.fn.self;
   rate : rate_of l.self ≡ rate_of l.fn.self;
-  progress : given_by l.fn.self ≤ given_by l.self;
+  counts : given_by l.fn.self + length (samples_of new) ≤ given_by l.self;
   few : given_by l.fn.self ≤ 2 ^ 60 → given_by l.self ≤ 2 ^ 60;
 }
 
