@@ -10,8 +10,6 @@ mod laws;
 mod neighbours;
 mod parts;
 mod test;
-#[cfg(test)]
-mod tests;
 
 pub use groups::{after_groups_of, groups_of};
 pub use last::{last_that, last_where};

@@ -6,8 +6,6 @@ mod entry;
 mod group;
 mod laws;
 mod sort;
-#[cfg(test)]
-mod tests;
 
 pub use entry::Entry;
 pub use laws::{instances_make_the_listing, one_order, order_keeps_each_instance};

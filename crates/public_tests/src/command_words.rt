@@ -2,8 +2,8 @@ use crate::rows::parts_of;
 use std::alloc::Global;
 use std::test::Fail;
 use words::{
-    Job, Name, OPTIONS, Settings, Takes, WordsError, clap_reads_the_uses, options_are_whole,
-    read_words,
+    Format, Job, Name, OPTIONS, Settings, Takes, WordsError, clap_reads_the_uses,
+    options_are_whole, read_words,
 };
 
 // A row has words between brackets, before them how many words `a` stand in front, and behind them what
@@ -25,7 +25,7 @@ pub const FAULTS: &str = "\
 [--version] 0 0 Unknown
 [--rat 5] 0 0 Unknown
 [--Job find] 0 0 Unknown
-[--down 1] 0 0 Unknown
+[--seed 1] 0 0 Unknown
 [--chains x] 0 0 Unknown
 [i2c -x] 1 0 Unknown
 # an option is given once, with a value that it takes
@@ -46,7 +46,8 @@ pub const FAULTS: &str = "\
 [--job=make] 0 0 Value
 [--job=find=] 0 0 Value
 [i2c --job seek] 2 0 Value
-[--format vcd] 1 0 Value
+[--format csv] 1 0 Value
+[--format=vcd,raw] 0 0 Value
 [--format=RAW] 0 0 Value
 [--threads maybe] 1 0 Value
 [--threads=Yes] 0 0 Value
@@ -80,6 +81,9 @@ pub const FAULTS: &str = "\
 [--ring=16385] 0 0 Range
 [--ring=1e3] 0 0 Value
 [--ring ten] 1 0 Value
+[--down 0] 1 0 Range
+[--down=1000000001] 0 0 Range
+[--down 1/2] 1 0 Value
 # rates: N is judged whole, and then D
 [--rate 0] 1 0 Range
 [--rate=1000000000000001] 0 0 Range
@@ -131,7 +135,8 @@ pub const FAULTS: &str = "\
 1[--show x*4096] 2 0 Long
 1[--show -*4096] 1 0 NoValue";
 
-// The job, the channels, the rate, whether there are threads, and the ring.
+// The job, the channels, the rate, whether there are threads, and the ring; for a VCD capture the units of
+// a sample besides.
 pub const VALUES: &str = "\
 [i2c] decode 8 1000000/1 yes 256
 [--job decode i2c] decode 8 1000000/1 yes 256
@@ -151,6 +156,10 @@ pub const VALUES: &str = "\
 [--threads=yes i2c] decode 8 1000000/1 yes 256
 [--ring 1 i2c] decode 8 1000000/1 yes 1
 [--ring=16384 i2c] decode 8 1000000/1 yes 16384
+[--format vcd i2c] decode 8 1000000/1 yes 256 vcd 1
+[--down=1000000000 --format vcd i2c] decode 8 1000000/1 yes 256 vcd 1000000000
+[--format=vcd --job find --down 007 D0=h] find 8 1000000/1 yes 256 vcd 7
+[--down 7 i2c] decode 8 1000000/1 yes 256
 [--ring=4 --threads no D0=h --rate=2/3 --channels 16 --format=raw --show all --job=find] find 16 2/3 no 4";
 
 // The decoders that are shown, and the other words, each with its number. Decode takes 24 chains,
@@ -203,10 +212,14 @@ fn values(alloc: Global, settings: &Settings) -> Result<String, Fail> {
         "decode"
     };
     let threads = if settings.threads { "yes" } else { "no" };
-    Ok(format!(in alloc;
+    let mut told = format!(in alloc;
         "{job} {} {}/{} {threads} {}",
         settings.channels, settings.rate.num, settings.rate.den, settings.ring
-    )?)
+    )?;
+    if settings.format == Format::Vcd {
+        told.push_str(format!(in alloc; " vcd {}", settings.down)?.as_str())?;
+    }
+    Ok(told)
 }
 
 // The decoders that are shown, and the other words.
@@ -248,7 +261,7 @@ fn tells_options(rt: HostRuntime) -> Result<(), Fail> {
     }
     assert_eq!(rt;
         told.as_str(),
-        "job (decode, find) decode\nformat (raw) raw\nchannels (1 to 64) 8\nrate (N or N/D, N 1 to 1000000000000000, D 1 to 1000000000) 1000000\nthreads (yes, no) yes\nring (1 to 16384) 256\nshow (text) all\n"
+        "job (decode, find) decode\nformat (raw, vcd) raw\nchannels (1 to 64) 8\nrate (N or N/D, N 1 to 1000000000000000, D 1 to 1000000000) 1000000\ndown (1 to 1000000000) 1\nthreads (yes, no) yes\nring (1 to 16384) 256\nshow (text) all\n"
     );
     assert!(rt; matches!(Name::Show.row().takes, Takes::Text));
     options_are_whole();

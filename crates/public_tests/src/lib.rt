@@ -5,11 +5,31 @@
 #[cfg(test)]
 mod captures;
 #[cfg(test)]
+mod changes;
+#[cfg(test)]
+mod channels;
+#[cfg(test)]
 mod command_words;
+#[cfg(test)]
+mod cuts;
+#[cfg(test)]
+mod decoders;
+#[cfg(test)]
+mod dumps;
+#[cfg(test)]
+mod kinds;
 #[cfg(test)]
 mod lines;
 #[cfg(test)]
+mod numbers;
+#[cfg(test)]
+mod order;
+#[cfg(test)]
+mod outputs;
+#[cfg(test)]
 mod programs;
+#[cfg(test)]
+mod rates;
 #[cfg(test)]
 mod rows;
 #[cfg(test)]
@@ -22,3 +42,9 @@ mod stacks;
 mod streams;
 #[cfg(test)]
 mod tables;
+#[cfg(test)]
+mod tokens;
+#[cfg(test)]
+mod waits;
+#[cfg(test)]
+mod walks;

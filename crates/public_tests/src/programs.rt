@@ -20,10 +20,12 @@ i2c:scl=D0:sda=D1 --version > Run
 const HELP: &str = "  --job
       values: decode, find; usual: decode
   --format
-      values: raw; usual: raw
+      values: raw, vcd; usual: raw
   --channels
       values: 1 to 64; usual: 8
   --rate
+  --down
+      values: 1 to 1000000000; usual: 1
   --threads
       values: yes, no; usual: yes
   --ring

@@ -143,12 +143,37 @@ fn run(
 ) -> Result<String, Fail>
     requires { (1 ≤ length) × (1 ≤ most) }
 {
+    let bytes = bytes_of(alloc, samples)?;
+    run_over(
+        alloc,
+        words,
+        &bytes,
+        length,
+        read_fails,
+        most,
+        write_fails,
+        room,
+    )
+}
+
+/// The same of a run over these bytes.
+pub fn run_over(
+    alloc: Global,
+    words: &str,
+    bytes: &[u8],
+    length: usize,
+    read_fails: &[u64],
+    most: usize,
+    write_fails: &[u64],
+    room: usize,
+) -> Result<String, Fail>
+    requires { (1 ≤ length) × (1 ≤ most) }
+{
     let mut texts = Vec::new(alloc);
     for word in words.split_whitespace() {
         texts.push(String::from_str(alloc, word)?)?;
     }
-    let bytes = bytes_of(alloc, samples)?;
-    let mut source = source_of(alloc, &bytes, length, read_fails)?;
+    let mut source = source_of(alloc, bytes, length, read_fails)?;
     let mut sink = MemSink::new(alloc, most, write_fails.to_vec(alloc)?, room)?;
     let mut notices = MemSink::new(alloc, AMPLE, Vec::new(alloc), AMPLE)?;
     let status = run_here(alloc, &texts, &mut source, &mut sink, &mut notices);

@@ -1,5 +1,5 @@
 // Each row of each table holds.
-use crate::{command_words, runs, searches, stacks};
+use crate::{command_words, dumps, runs, searches, stacks};
 use std::alloc::Global;
 use std::test::Fail;
 
@@ -11,6 +11,7 @@ fn holds(alloc: Global, table: usize, row: &str) -> Result<bool, Fail> {
         2 => stacks::binds(alloc, row),
         3 => searches::holds(alloc, row),
         4 => runs::holds(alloc, row, &[]),
+        6 => dumps::holds(alloc, row),
         // The first read fails, so a run that reads is told apart.
         _ => runs::holds(alloc, row, &[0]),
     }
@@ -32,6 +33,8 @@ fn rows_hold(rt: HostRuntime) -> Result<(), Fail> {
         (4, runs::GENERAL_CALLS),
         (4, runs::LINES),
         (5, runs::REFUSALS),
+        (6, dumps::SAMPLES),
+        (6, dumps::FAULTS),
     ] {
         for row in text.split('\n') {
             if !row.starts_with('#') {

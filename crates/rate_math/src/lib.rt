@@ -5,8 +5,6 @@
 mod bits;
 mod laws;
 mod scale;
-#[cfg(test)]
-mod tests;
 mod times;
 
 pub use bits::{point, samples_of_bits};

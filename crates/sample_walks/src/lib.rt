@@ -6,8 +6,6 @@
 
 mod edges;
 mod laws;
-#[cfg(test)]
-mod tests;
 
 pub use edges::Edges;
 pub use laws::{event_laws, walk_laws};

@@ -11,8 +11,6 @@ ghost use Rattle.text_parts.specs.Places.{Placed, placed_from, PartsFill};
 
 mod chain;
 mod numbers;
-#[cfg(test)]
-mod tests;
 
 pub use chain::ChainWord;
 pub use numbers::{NumberWhy, number_in};

@@ -1,4 +1,6 @@
-use crate::{NumberWhy, first_fault_is_answered, number_in, parts_fill_the_text, place_behind};
+use text_parts::{
+    NumberWhy, first_fault_is_answered, number_in, parts_fill_the_text, place_behind,
+};
 
 #[test]
 fn places_behind_parts(rt: HostRuntime) {

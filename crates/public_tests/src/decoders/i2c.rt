@@ -2,11 +2,11 @@
 // falling while SCL stays high: a START. Behind a 0, P is SDA rising so: a STOP. What is wanted is worked by hand
 // from where they change; at the end the decoder is compared with a plain program. Tables are texts, a row a line.
 use super::feeding::{decoded, runs_of};
-use crate::i2c::outputs_of;
 use dec_i2c::{I2c, I2cOpts, text};
 use decoder_core::{Driver, Machine, OptFault, Outs};
 use la_base::{Feed, Note, Out, Rate, Run, Word};
 use line_text::LineBuf;
+use plain_decoders::i2c::outputs_of;
 use std::alloc::{AllocError, Global};
 use std::process::Abort;
 use std::test::Fail;

@@ -1,8 +1,8 @@
 // Counts that are worked by hand.
 ghost use Rattle.std.specs.Prelude.{◌≤◌, ◌^◌};
 
-use crate::{TimeUnit, point, point_laws, samples_of_bits, samples_of_ns, timescale};
 use la_base::Rate;
+use rate_math::{TimeUnit, point, point_laws, samples_of_bits, samples_of_ns, timescale};
 use std::process::Abort;
 
 // The highest rate that a capture may have, and the lowest that can be written.

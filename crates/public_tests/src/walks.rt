@@ -1,9 +1,9 @@
 // A driver of edges, worked by hand from where line 0 changes.
 ghost use Rattle.std.specs.Prelude.{◌≤◌};
 
-use crate::{Edges, event_laws, walk_laws};
 use decoder_core::{Driver, LogicMachine, Machine, Outs, note_at, one_input_makes_one_driver};
 use la_base::{Feed, Packet, PacketKind, Run, Wire, Word};
+use sample_walks::{Edges, event_laws, walk_laws};
 
 fn run(value: Word, len: u64) -> Feed
     requires { 1 ≤ len }
@@ -49,6 +49,23 @@ fn a_driver_gives_each_edge_once(rt: HostRuntime) {
         assert!(rt; outs.list().len() < 2);
         assert_eq!(rt; driver.floor(), floor);
     }
+}
+
+#[test]
+fn a_driver_passes_runs_without_an_edge(rt: HostRuntime) {
+    let mut driver = Driver::new(Edges::new());
+    let mut outs = Outs::new();
+    assert_eq!(rt; driver.step(run(1, 3), &mut outs), None);
+    let runs = [
+        Run { value: 1, len: 2 },
+        Run { value: 3, len: 1 },
+        Run { value: 0, len: 2 },
+    ];
+    assert_eq!(rt; driver.pass_runs(&runs), 2);
+    assert_eq!(rt; driver.floor(), 6);
+    assert_eq!(rt; driver.step_run(runs[2], &mut outs), None);
+    assert_eq!(rt; outs.list(), [note_at(0, 6, 0)].as_slice());
+    assert_eq!(rt; driver.floor(), 8);
 }
 
 fn is_send<T: Send>(_: &T) {}

@@ -2,11 +2,11 @@
 ghost use Rattle.std.specs.Prelude.{◌≤◌};
 
 use super::feeding::{Told, decoded, runs_of};
-use crate::spi::outputs_of;
 use dec_spi::{Spi, SpiOpts, text};
 use decoder_core::OptFault;
 use la_base::{Note, Out, PacketKind, Rate, Word};
 use line_text::LineBuf;
+use plain_decoders::spi::outputs_of;
 use std::alloc::{AllocError, Global};
 use std::process::Abort;
 use std::test::Fail;

@@ -1,8 +1,8 @@
 // Orders worked by hand.
-use crate::{
+use la_base::Note;
+use note_order::{
     Entry, instances_make_the_listing, one_order, order_keeps_each_instance, sort_entries,
 };
-use la_base::Note;
 use std::test::Fail;
 
 // A note of an instance that starts there; its class tells it apart.

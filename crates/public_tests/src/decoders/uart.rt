@@ -1,11 +1,11 @@
 ghost use Rattle.std.specs.Prelude.{◌≤◌, ◌^◌};
 
 use super::feeding::{Told, decoded, runs_of};
-use crate::uart::{near_of, outputs_of};
 use dec_uart::{Line, Uart, UartOpts, text};
 use decoder_core::OptFault;
 use la_base::{Note, Out, Rate, Run, Word};
 use line_text::LineBuf;
+use plain_decoders::uart::{near_of, outputs_of};
 use std::alloc::{AllocError, Global};
 use std::process::Abort;
 use std::test::Fail;

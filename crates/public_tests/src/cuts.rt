@@ -1,6 +1,6 @@
 ghost use Rattle.std.specs.Prelude.{◌==◌};
 
-use super::*;
+use list_cuts::*;
 use std::process::Abort;
 use std::test::Fail;
 
