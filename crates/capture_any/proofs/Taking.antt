@@ -1,7 +1,7 @@
 -- Runs that are given one behind another.
 use Rattle.std.proofs.Common.{◌≡◌, ◌≤◌, ◌+◌, ◌^◌, length, arith, length-append, ℕ, Option, Some, None, Ok, List, [], ◌∷◌, ◌++◌, refl, sym, ◌∙◌, ap, subst, append_assoc}
 use Rattle.std.proofs.lemmas.List.{append-nil}
-use Rattle.la_base.proofs.RunLemmas.{count_push, samples_len, samples_push}
+use Rattle.la_base.proofs.RunLemmas.{count_push, samples_len}
 use Rattle.la_base.specs.Runs.{samples_of}
 use Rattle.la_base.specs.Samples.{samples}
 use Rattle.la_base.specs.declared.samples.Run.{Run}
@@ -15,7 +15,7 @@ use Rattle.capture_any.specs.Reading.{Next, Stands, StandsIn, given_in}
 use Rattle.capture_any.specs.declared.reader.NamedRaw.{NamedRaw}
 use Rattle.capture_any.specs.declared.reader.Reader.{Reader}
 use Rattle.capture_any.specs.declared.reader.Reader.TheVariants.{Raw as OfRaw, Vcd as OfVcd}
-use Rattle.capture_any.specs.Taking.{GaveHeld, GaveMore, held_samples}
+use Rattle.capture_any.specs.Taking.{GaveHeld, GaveMore, RawGave, held_samples}
 use Rattle.capture_any.specs.declared.capture.Capture.{Capture}
 
 -- the count of what was given
@@ -45,34 +45,42 @@ gave_none capture bytes told given st = subst (λ l. Stands capture bytes told l
 pub gave_further : (old mid new : Capture) (before more : List ℕ) → GaveHeld old mid before → GaveHeld mid new more → GaveHeld old new (before ++ more)
 gave_further old mid new before more first second bytes told given st = subst (λ l. Stands new bytes told l) (append_assoc given before more) (second bytes told (given ++ before) (first bytes told given st))
 
--- one run more
-pub gave_one : (old mid new : Capture) (runs : List Run) (run : Run) → GaveHeld old mid (samples_of runs) → GaveHeld mid new (samples run) → GaveHeld old new (samples_of (runs ++ run ∷ []))
-gave_one old mid new runs run first second = subst (λ (l : List ℕ). GaveHeld old new l) (sym (samples_push runs run)) (gave_further old mid new (samples_of runs) (samples run) first second)
-
 -- a raw reader gave samples of what it held
-pub gave_raw : (old new : Capture) (r s : NamedRaw) (more : List ℕ) → ((bytes given : List ℕ) → RawStands r.reader bytes given → RawStands s.reader bytes (given ++ more)) → raw_given s.reader ≤ 2 ^ 60
+pub gave_raw : (old new : Capture) (r s : NamedRaw) (more : List ℕ) → RawGave r.reader s.reader more → (raw_given r.reader ≤ 2 ^ 60 → raw_given s.reader ≤ 2 ^ 60)
     → old.reader ≡ OfRaw r → new.reader ≡ OfRaw s → GaveHeld old new more
 gave_raw old new r s more gave few old_is new_is bytes told given st =
     let stands : (told ≡ Cut) × RawStands r.reader bytes given = subst (λ (x : Reader). StandsIn x bytes told given) old_is st.stands in
     record {
       stands = subst (λ (x : Reader). StandsIn x bytes told (given ++ more)) (sym new_is) (stands.0, gave bytes given stands.1);
-      few = subst (λ (x : Reader). given_in x ≤ 2 ^ 60) (sym new_is) few;
+      few = subst (λ (x : Reader). given_in x ≤ 2 ^ 60) (sym new_is) (few (subst (λ (x : Reader). given_in x ≤ 2 ^ 60) old_is st.few));
     }
+
+pub raw_none : (reader : RawReader) → RawGave reader reader []
+raw_none reader bytes given st = subst (λ (l : List ℕ). RawStands reader bytes l) (sym (append-nil given)) st
+
+pub raw_further : (old mid new : RawReader) (before more : List ℕ) → RawGave old mid before → RawGave mid new more → RawGave old new (before ++ more)
+raw_further old mid new before more first second bytes given st = subst (λ (l : List ℕ). RawStands new bytes l) (append_assoc given before more) (second bytes (given ++ before) (first bytes given st))
 
 -- and none where it stays as it was
 pub gave_same : (r s : RawReader) → s ≡ r → (bytes given : List ℕ) → RawStands r bytes given → RawStands s bytes (given ++ [])
 gave_same r s same bytes given st = subst (λ (l : List ℕ). RawStands s bytes l) (sym (append-nil given)) (subst (λ (x : RawReader). RawStands x bytes given) (sym same) st)
 
 -- a VCD reader gave samples of what it held
-pub gave_vcd : (old new : Capture) (r s : VcdReader) (run : Option Run) → VcdGaveHeld r s (run_samples run) → vcd_given s ≤ 2 ^ 60 → old.reader ≡ OfVcd r → new.reader ≡ OfVcd s → GaveHeld old new (held_samples run)
-gave_vcd old new r s run gave few old_is new_is bytes told given st = record {
-  stands = subst (λ (x : Reader). StandsIn x bytes told (given ++ held_samples run)) (sym new_is)
-      (subst (λ (l : List ℕ). VcdStands s bytes told (given ++ l)) (by_run run) (gave bytes told given (subst (λ (x : Reader). StandsIn x bytes told given) old_is st.stands)));
-  few = subst (λ (x : Reader). given_in x ≤ 2 ^ 60) (sym new_is) few;
-} where
-  by_run : (run : Option Run) → run_samples run ≡ held_samples run
-  by_run None = refl
-  by_run (Some run) = refl
+pub gave_vcd : (old new : Capture) (r s : VcdReader) (more : List ℕ) → VcdGaveHeld r s more → (vcd_given r ≤ 2 ^ 60 → vcd_given s ≤ 2 ^ 60) → old.reader ≡ OfVcd r → new.reader ≡ OfVcd s → GaveHeld old new more
+gave_vcd old new r s more gave few old_is new_is bytes told given st = record {
+  stands = subst (λ (x : Reader). StandsIn x bytes told (given ++ more)) (sym new_is) (gave bytes told given (subst (λ (x : Reader). StandsIn x bytes told given) old_is st.stands));
+  few = subst (λ (x : Reader). given_in x ≤ 2 ^ 60) (sym new_is) (few (subst (λ (x : Reader). given_in x ≤ 2 ^ 60) old_is st.few));
+}
+
+pub run_is_held : (run : Option Run) → run_samples run ≡ held_samples run
+run_is_held None = refl
+run_is_held (Some run) = refl
+
+pub vcd_none : (reader : VcdReader) → VcdGaveHeld reader reader []
+vcd_none reader bytes told given st = subst (λ (l : List ℕ). VcdStands reader bytes told l) (sym (append-nil given)) st
+
+pub vcd_further : (old mid new : VcdReader) (before more : List ℕ) → VcdGaveHeld old mid before → VcdGaveHeld mid new more → VcdGaveHeld old new (before ++ more)
+vcd_further old mid new before more first second bytes told given st = subst (λ (l : List ℕ). VcdStands new bytes told l) (append_assoc given before more) (second bytes told (given ++ before) (first bytes told given st))
 
 -- and it counts them
 pub held_counts : (run : Option Run) (old new : ℕ) → RunCounts old new run → old + length (held_samples run) ≤ new

@@ -6,6 +6,8 @@ use Rattle.la_base.specs.Samples.{samples}
 use Rattle.la_base.specs.declared.samples.Run.{Run}
 use Rattle.la_io.specs.declared.fault.CaptureError.{CaptureError}
 use Rattle.la_io.specs.Capture.{Told}
+use Rattle.capture_raw.specs.Reader.{Stands as RawStands}
+use Rattle.capture_raw.specs.declared.reader.RawReader.{RawReader}
 use Rattle.capture_any.specs.Captures.{Later, ToldAt}
 use Rattle.capture_any.specs.Reading.{Stands, Next}
 use Rattle.capture_any.specs.declared.capture.Capture.{Capture}
@@ -36,3 +38,7 @@ Gives old new left_old left_new runs (Err error) = Next old new left_old left_ne
 abbrev pub open_behind : Result Bool CaptureError → Bool
 open_behind (Ok more) = more
 open_behind (Err error) = false
+
+-- a raw reader gave these samples of what it had read
+abbrev pub RawGave : RawReader → RawReader → List ℕ → Type 0
+RawGave old new more = (bytes given : List ℕ) → RawStands old bytes given → RawStands new bytes (given ++ more)

@@ -1,6 +1,7 @@
 // A capture that is read.
 use crate::Form;
 use crate::answer::answer_of;
+use crate::held::{held_of, take_raw, take_vcd};
 use crate::names::channel_names;
 use crate::reader::{NamedRaw, Reader};
 use crate::runs::Runs;
@@ -152,7 +153,7 @@ impl Capture {
                 Some(run) => Some(run),
                 None => None,
             },
-            Reader::Vcd(reader) => reader.held_run(),
+            Reader::Vcd(reader) => held_of(reader),
         }
     }
 
@@ -166,11 +167,9 @@ impl Capture {
         ensures rate { rate_of self.new ≡ rate_of self.old }
         ensures few { given_by self.old ≤ 2 ^ 60 → given_by self.new ≤ 2 ^ 60 }
     {
-        while !into.is_full() {
-            match self.held_run() {
-                Some(run) => into.push(run),
-                None => return,
-            }
+        match &mut self.reader {
+            Reader::Raw(raw) => take_raw(&mut raw.reader, into),
+            Reader::Vcd(reader) => take_vcd(reader, into),
         }
     }
 

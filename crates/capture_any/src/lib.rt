@@ -5,6 +5,7 @@ mod answer;
 mod capture;
 mod end;
 mod form;
+mod held;
 mod laws;
 mod names;
 mod reader;

@@ -194,8 +194,7 @@ impl VcdReader {
 
     /// The next run of what is held, as `next` gives it, where a run was given before. `None` comes where
     /// no token with a blank behind it is held, and no samples are held back. Nothing is read.
-    // It isn't inlined, so that what a caller does for other readers has its registers.
-    #[inline(never)]
+    #[inline(always)]
     pub fn held_run(&mut self) -> Option<Run>
         ensures given { GaveHeld self.old self.new (run_samples result) }
         ensures none { result ≡ None → HoldsNothing self.new }

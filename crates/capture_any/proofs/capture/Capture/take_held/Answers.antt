@@ -1,22 +1,28 @@
-use Rattle.std.proofs.Common.{◌++◌, ◌∷◌, [], ◌∙◌, ap, append_assoc}
-use Rattle.capture_any.specs.Reading.{given_by}
-use Rattle.capture_any.proofs.Taking.{counts_one, gave_one}
+use Rattle.std.proofs.Common.{refl, sym, subst, ◌+◌, ◌≤◌, length}
+use Rattle.la_base.specs.Runs.{samples_of}
+use Rattle.capture_raw.specs.Reader.{raw_given}
+use Rattle.capture_vcd.specs.Reader.{vcd_given}
+use Rattle.capture_any.specs.Reading.{given_in}
+use Rattle.capture_any.specs.declared.reader.Reader.{Reader}
+use Rattle.capture_any.proofs.Taking.{gave_raw, gave_vcd}
 use Rattle.capture_any.proofs.capture.Capture.take_held.Goals as goal
 
-pub loop-self-preserved : goal.loop-self-preserved
-loop-self-preserved c =
-    let i = c.loop-self.invariant in
-    let held = c.in-Some.ensures in
-    let run = c.in-Some.run' in
-    record {
-      new = i.new ++ run ∷ [];
-      into = c.push.ensures ∙ ap (λ l. l ++ run ∷ []) i.into ∙ append_assoc c.args.into.now i.new (run ∷ []);
-      gave = gave_one c.args.self.now c.loop-self.self c.held_run.new.self i.new run i.gave held.gave;
-      is_open = held.is_open ∙ i.is_open;
-      form = held.form ∙ i.form;
-      pins = held.pins ∙ i.pins;
-      names = held.names ∙ i.names;
-      rate = held.rate ∙ i.rate;
-      counts = counts_one i.new run (given_by c.args.self.now) (given_by c.loop-self.self) (given_by c.held_run.new.self) i.counts held.progress;
-      few = λ before. held.few (i.few before);
-    }
+pub returns-in-Raw-clause-gave : goal.returns-in-Raw-clause-gave
+returns-in-Raw-clause-gave c =
+    let taken = c.take_raw.ensures in
+    let more = samples_of taken.gave.0 in (
+      taken.gave.0,
+      taken.gave.1,
+      gave_raw c.args.self.now _ c.in-Raw.raw _ more taken.gave.2 taken.few c.in-Raw.is refl,
+      subst (λ (x : Reader). given_in x + length more ≤ raw_given c.take_raw.new.reader) (sym c.in-Raw.is) taken.gave.3,
+    )
+
+pub returns-in-Vcd-clause-gave : goal.returns-in-Vcd-clause-gave
+returns-in-Vcd-clause-gave c =
+    let taken = c.take_vcd.ensures in
+    let more = samples_of taken.gave.0 in (
+      taken.gave.0,
+      taken.gave.1,
+      gave_vcd c.args.self.now _ c.in-Vcd.reader _ more taken.gave.2 taken.few c.in-Vcd.is refl,
+      subst (λ (x : Reader). given_in x + length more ≤ vcd_given c.take_vcd.new.reader) (sym c.in-Vcd.is) taken.gave.3,
+    )

@@ -1,0 +1,57 @@
+// What readers have read already. Each form has a loop of its own, so that it has its registers.
+ghost use Rattle.std.specs.Prelude.{◌≡◌, ◌+◌, ◌≤◌, ◌^◌, ◌++◌, List, ℕ, length};
+ghost use Rattle.la_base.specs.Runs.{samples_of};
+ghost use Rattle.la_base.specs.declared.samples.Run.{Run};
+ghost use Rattle.capture_raw.specs.Reader.{SameForm, raw_given, raw_open};
+ghost use Rattle.capture_vcd.specs.Reader.{GaveHeld, SameReader, vcd_given, vcd_open};
+ghost use Rattle.capture_vcd.specs.Running.{RunCounts, run_samples};
+ghost use Rattle.capture_any.specs.Taking.{RawGave};
+
+use crate::runs::Runs;
+use capture_raw::RawReader;
+use capture_vcd::VcdReader;
+use la_base::Run;
+
+/// Appends the runs that a raw reader has read already, as far as there is room.
+#[inline(always)]
+pub fn take_raw(reader: &mut RawReader, into: &mut Runs)
+    ensures gave { (new : List Run) × (into.new ≡ into.old ++ new) × RawGave reader.old reader.new (samples_of new) × (raw_given reader.old + length (samples_of new) ≤ raw_given reader.new) }
+    ensures form { SameForm reader.old reader.new }
+    ensures is_open { raw_open reader.new ≡ raw_open reader.old }
+    ensures few { raw_given reader.old ≤ 2 ^ 60 → raw_given reader.new ≤ 2 ^ 60 }
+{
+    while !into.is_full() {
+        match reader.held_run() {
+            Some(run) => into.push(run),
+            None => return,
+        }
+    }
+}
+
+/// Appends the runs that a VCD reader has read already, as far as there is room.
+#[inline(never)]
+pub fn take_vcd(reader: &mut VcdReader, into: &mut Runs)
+    ensures gave { (new : List Run) × (into.new ≡ into.old ++ new) × GaveHeld reader.old reader.new (samples_of new) × (vcd_given reader.old + length (samples_of new) ≤ vcd_given reader.new) }
+    ensures form { SameReader reader.old reader.new }
+    ensures is_open { vcd_open reader.new ≡ vcd_open reader.old }
+    ensures few { vcd_given reader.old ≤ 2 ^ 60 → vcd_given reader.new ≤ 2 ^ 60 }
+{
+    while !into.is_full() {
+        match reader.held_run() {
+            Some(run) => into.push(run),
+            None => return,
+        }
+    }
+}
+
+/// The next run that a VCD reader has read already.
+#[inline(never)]
+pub fn held_of(reader: &mut VcdReader) -> Option<Run>
+    ensures given { GaveHeld reader.old reader.new (run_samples result) }
+    ensures is_open { vcd_open reader.new ≡ vcd_open reader.old }
+    ensures form { SameReader reader.old reader.new }
+    ensures counts { RunCounts (vcd_given reader.old) (vcd_given reader.new) result }
+    ensures few { vcd_given reader.new ≤ 2 ^ 60 }
+{
+    reader.held_run()
+}
