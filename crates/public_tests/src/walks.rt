@@ -63,6 +63,7 @@ fn a_driver_passes_runs_without_an_edge(rt: HostRuntime) {
     ];
     assert_eq!(rt; driver.pass_runs(&runs), 2);
     assert_eq!(rt; driver.floor(), 6);
+    outs.clear();
     assert_eq!(rt; driver.step_run(runs[2], &mut outs), None);
     assert_eq!(rt; outs.list(), [note_at(0, 6, 0)].as_slice());
     assert_eq!(rt; driver.floor(), 8);
