@@ -1,5 +1,5 @@
 -- A step whose rest is passed.
-use Rattle.std.proofs.Common.{◌≡◌, ◌<◌, ◌++◌, [], List, Option, Some, None, map, length, sym, ◌∙◌, ap, subst, arith, append_assoc, length-append}
+use Rattle.std.proofs.Common.{◌++◌, List, Option, Some, None, map, sym, ◌∙◌, ap, subst, arith, append_assoc, length-append}
 use Rattle.std.proofs.lemmas.List.{append-nil}
 use Rattle.la_base.specs.Samples.{samples}
 use Rattle.la_base.specs.declared.samples.Run.{Run}

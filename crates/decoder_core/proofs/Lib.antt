@@ -3,3 +3,5 @@ pub mod Driven
 pub mod OneDriver
 pub mod Ordered
 mod Joining
+mod AllCounted
+mod Followed

@@ -1,3 +1,4 @@
 -- Lemmas that laws of machines cite.
 pub mod OutLaws
 pub mod CountedLaws
+pub mod PacketLaws

@@ -1,14 +1,20 @@
-//! Decoders as machines: what they wait for, what they put out, and the driver that feeds them.
+//! Decoders as machines: what they wait for, what they put out, and the driver or follower that feeds them.
 #![tactic(auto)]
 
 mod driver;
+mod end;
 mod faults;
+mod follower;
+mod laws;
 mod machine;
 mod outputs;
 mod outs;
 
 pub use driver::{Driver, one_input_makes_one_driver};
+pub use end::RunEnd;
 pub use faults::OptFault;
-pub use machine::{LogicMachine, Machine};
+pub use follower::{Follower, one_input_makes_one_follower};
+pub use laws::packets_of_a_parent_count;
+pub use machine::{LogicMachine, Machine, PacketMachine};
 pub use outputs::{note_at, packet_at, span_note, span_packet, span_piece};
 pub use outs::Outs;

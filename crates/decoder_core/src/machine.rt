@@ -8,10 +8,12 @@ ghost use Rattle.wait_cond.specs.Conds.{cond_alts};
 ghost use Rattle.wait_cond.specs.Waiting.{Waits, alts_of, wait_from, consumed_by};
 ghost use Rattle.decoder_core.specs.Inputs.{Item, left_feed};
 ghost use Rattle.decoder_core.specs.Promises.{IsFloor, GivesNothing, GivesOn, KeepsFront, PacketsInOrder, AddsFew, Rests, IsQuiet, IsLoud, StandsThere, OneMachine, OneLastStop};
+ghost use Rattle.la_base.specs.declared.wires.Packet.{Packet};
+ghost use Rattle.decoder_core.specs.Packets.{AllCount, IsPacketFloor, OnePacketMachine, PacketsStayInOrder, last_start};
 ghost use Rattle.decoder_core.specs.Driving.{Passes, ReachesStop, Steps, StopsFirst};
 
 use crate::Outs;
-use la_base::{Feed, Run, Wire, Word};
+use la_base::{Feed, Packet, Run, Wire, Word};
 use wait_cond::{Cond, Waiter};
 
 /// A decoder of samples, between two stops. It waits for a condition; what it does at a sample that
@@ -94,6 +96,69 @@ pub trait LogicMachine {
     /// *One stop*: the samples and the setup fix the place of the last stop. Where one machine has no
     /// further stop, another of its setup has none either.
     ghost one_stop: { OneLastStop setup stands alts };
+}
+
+/// A decoder of packets, between two packets that count. Every call is safe for every value of the
+/// type, also for one that stands for no packets; what is said of packets is said of all those that
+/// the value stands for, and speaks of packets that all count.
+pub trait PacketMachine {
+    /// Kind and options, as plain data.
+    type Setup;
+
+    /// Its kind and options. No call changes them.
+    ghost setup: { Self → Self.Setup };
+
+    /// The wire of the packets that it wants.
+    ghost wire: { Self.Setup → Wire };
+
+    /// The wire of the packets that it puts out; Nothing where it puts none out.
+    ghost gives: { Self.Setup → Wire };
+
+    /// The outputs of a whole list of packets that count, by the decoder's definition.
+    ghost outs: { Self.Setup → List Packet → List Out };
+
+    /// Where what has begun in these packets and may still give notes starts; the start of the last
+    /// packet where nothing has.
+    ghost near: { Self.Setup → List Packet → ℕ };
+
+    /// It stands for these packets.
+    ghost stands: { Self → List Packet → Type 0 };
+
+    /// The wire of the packets that it wants.
+    fn wants(&self) -> Wire
+        ensures { result ≡ wire (setup self.now) };
+
+    /// Takes the next packet that counts. *Loud*: the outputs grow by those that are put into `into`,
+    /// in their order, and by nothing else.
+    fn accept(&mut self, packet: Packet, into: &mut Outs)
+        requires empty { into.old ≡ [] }
+        ensures setup { setup self.new ≡ setup self.old }
+        ensures stands { (seen : List Packet) → stands self.old seen → AllCount (wire (setup self.old)) (seen ++ packet ∷ []) → stands self.new (seen ++ packet ∷ []) }
+        ensures loud { (seen : List Packet) → stands self.old seen → AllCount (wire (setup self.old)) (seen ++ packet ∷ []) → outs (setup self.old) (seen ++ packet ∷ []) ≡ outs (setup self.old) seen ++ into.new };
+
+    /// At most the start of every note that is still to come, where the last packet starts at `from`
+    /// (0 where there is none); and at least the start of what has begun and may still give notes.
+    fn floor(&self, from: u64) -> u64
+        ensures floor { (seen : List Packet) → stands self.now seen → from ≡ last_start 0 seen → IsPacketFloor (wire (setup self.now)) (outs (setup self.now)) seen result }
+        ensures near { (seen : List Packet) → stands self.now seen → from ≡ last_start 0 seen → near (setup self.now) seen ≤ result };
+
+    /// *Nothing*: no packets give nothing.
+    ghost nothing: { (machine : Self) → GivesNothing (outs (setup machine)) };
+
+    /// *Prefix*: the outputs of more packets begin with those of fewer.
+    ghost prefix: { (machine : Self) → KeepsFront (outs (setup machine)) };
+
+    /// *Order*: where the packets count, the starts of those that are put out never fall.
+    ghost order: { (machine : Self) → PacketsStayInOrder (wire (setup machine)) (outs (setup machine)) };
+
+    /// *Few*: one more packet adds at most 16 outputs.
+    ghost few: { (machine : Self) → AddsFew (outs (setup machine)) };
+
+    /// *Wire*: each packet that is put out is of the wire that it gives.
+    ghost on_wire: { (machine : Self) → GivesOn (gives (setup machine)) (outs (setup machine)) };
+
+    /// *One machine*: two machines of one setup that stand for the same packets are equal.
+    ghost one_machine: { OnePacketMachine setup stands };
 }
 
 /// A decoder of any input, stop by stop. What is said of inputs is said of all those that the machine

@@ -1,9 +1,10 @@
 //! What reaches outside: a source of bytes, a sink, their stand-ins in memory, a buffer behind a
-//! source and one before a sink.
+//! source and one before a sink; what a tree of decoders is fed with, and what takes its marks.
 #![tactic(auto)]
 
 mod buffered;
 mod fault;
+mod feeds;
 mod give;
 mod intake;
 mod memory;
@@ -15,6 +16,7 @@ mod whole;
 
 pub use buffered::Buffered;
 pub use fault::{CaptureError, CaptureFault};
+pub use feeds::{MarkTake, RunFeed, Stopped};
 pub use intake::{Intake, MOST_BYTES};
 pub use memory::{MemSink, MemSource};
 pub use outside::{Failed, Sink, Source};

@@ -1,7 +1,6 @@
-use Rattle.std.proofs.Common.{◌≡◌, ◌+◌, ◌-◌, ◌^◌, ◌≤◌, ◌++◌, ◌∙◌, List, ℕ, ap, arith, length, map, take}
+use Rattle.std.proofs.Common.{◌-◌, ◌^◌, ◌≤◌, ◌++◌, ◌∙◌, List, ℕ, ap, arith, length, map, take}
 use Rattle.std.proofs.lemmas.List.{take_all}
 use Rattle.la_base.specs.Runs.{samples_of}
-use Rattle.wait_cond.specs.Waiting.{consumed_by}
 use Rattle.decoder_core.specs.Inputs.{Sample, counted_samples}
 use Rattle.decoder_core.proofs.Counting.{counted_more_samples}
 use Rattle.decoder_core.proofs.Driven.{list_len, through}

@@ -1,0 +1,29 @@
+-- What a tree of decoders is fed with, and the marks that are taken of it.
+use Rattle.std.specs.Prelude.{ℕ, ◌≡◌, ◌≢◌, ◌<◌, ◌≤◌, ◌^◌, Bool, true, false, List, [], ◌∷◌, ◌++◌, length}
+use Rattle.la_base.specs.Runs.{samples_of}
+use Rattle.la_base.specs.declared.samples.Run.{Run}
+use Rattle.la_base.specs.declared.wires.Mark.{Mark}
+
+-- an answer says whether there was more to give; where there wasn't, no run was given, and the feed is at its end
+abbrev pub TellsMore : Bool → Bool → List Run → Type 0
+TellsMore true ended runs = ended ≡ false
+TellsMore false ended runs = (ended ≡ true) × (runs ≡ [])
+
+-- runs that are given are appended; no more samples are given than are numbered
+pub record GivesRuns (old new : List Run → Type 0) (runs : List Run) : Type 0 where
+  pub gave : (before : List Run) → old before → new (before ++ runs)
+  pub few : (all : List Run) → new all → length (samples_of all) ≤ 2 ^ 60
+
+-- a count grows where there was more to give, and has an end
+pub record Counts (more : Bool) (old new : ℕ) : Type 0 where
+  pub grows : more ≡ true → old < new
+  pub within : new ≤ 2 ^ 60
+
+-- a mark is appended to the list of its instance, and to no other
+pub record AddsMark (old new : ℕ → List Mark) (instance : ℕ) (mark : Mark) : Type 0 where
+  pub here : new instance ≡ old instance ++ mark ∷ []
+  pub others : (i : ℕ) → i ≢ instance → new i ≡ old i
+
+-- whatever marks were taken before, one more was taken now
+abbrev pub TakesMark : ((ℕ → List Mark) → Type 0) → ((ℕ → List Mark) → Type 0) → ℕ → Mark → Type 0
+TakesMark old new instance mark = (before after : ℕ → List Mark) → old before → AddsMark before after instance mark → new after
