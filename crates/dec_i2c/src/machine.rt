@@ -113,6 +113,8 @@ impl LogicMachine for I2c {
         waiter.renew(self.cond());
     }
 
+    // Inlined into both steps of a driver.
+    #[inline(always)]
     fn resume(&mut self, at: u64, value: Word, met: u8, into: &mut Outs) -> bool {
         let level = pin(value, self.bus.sda);
         give(&self.held, met, at, level, into);

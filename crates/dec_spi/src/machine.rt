@@ -42,6 +42,8 @@ impl LogicMachine for Spi {
         waiter.renew(self.cond());
     }
 
+    // Inlined into both steps of a driver.
+    #[inline(always)]
     fn resume(&mut self, at: u64, value: Word, _met: u8, into: &mut Outs) -> bool {
         let fresh = is_fresh(self.held);
         self.held = stop(&self.bus, self.held, at, value, into);

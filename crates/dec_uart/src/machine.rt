@@ -90,6 +90,8 @@ impl LogicMachine for Uart {
         waiter.renew_one(held_alt(self.line, self.held));
     }
 
+    // Inlined into both steps of a driver.
+    #[inline(always)]
     fn resume(&mut self, at: u64, value: Word, _met: u8, into: &mut Outs) -> bool {
         let level = pin(value, self.line.opts.rx);
         give(self.line, self.held, at, level, into);

@@ -8,7 +8,7 @@ use Rattle.text_parts.proofs.ReadLemmas.{map-push}
 use Rattle.la_base.specs.declared.samples.Rate.{Rate}
 use Rattle.decoder_core.specs.declared.faults.OptFault.{OptFault}
 use Rattle.decoder_set.specs.Kinds.{kind_row}
-use Rattle.decoder_set.specs.Faults.{open_fault, too_slow}
+use Rattle.decoder_set.specs.Faults.{too_slow}
 use Rattle.decoder_set.specs.Opening.{HasConsumed, Opens}
 use Rattle.decoder_set.specs.Opening as opening
 use Rattle.decoder_set.specs.Values.{in_range}

@@ -3,24 +3,14 @@ use Rattle.std.proofs.Common.{◌≡◌, ℕ, zero, suc, ◌+◌, ◌<◌, true,
 use Rattle.std.specs.Prelude.{nat_lt, nat_le}
 use Rattle.std.proofs.lemmas.Bool.Decides.{nat_tests}
 use Rattle.std.proofs.lemmas.List.{length_push}
-use Rattle.la_base.specs.declared.wires.Wire.{Wire}
-use Rattle.la_base.specs.declared.wires.Wire.TheVariants.{Logic, I2c, Spi, Uart, OwLink, OwNet, Nothing}
+use Rattle.la_base.specs.declared.wires.Wire.TheVariants.{Logic}
 use Rattle.la_base.specs.Kinds.{same_wire}
+use Rattle.decoder_core.specs.laws.PacketLaws.{same_wire_true}
 use Rattle.decoder_set.specs.Kinds.{kind_row}
 use Rattle.decoder_set.specs.declared.kinds.Kind.{Kind}
 use Rattle.stack_spec.specs.Instances.{Instance, has_numbers, output_of, stands_on}
 use Rattle.stack_spec.specs.Sound.{options_fit, parent_fits, is_right, right_from, is_sound, HasParent, IsForest}
 use Rattle.stack_spec.proofs.OptionLemmas.{both}
-
-same_wire_true : (one other : Wire) → same_wire one other ≡ true → one ≡ other
-same_wire_true Logic Logic e = refl
-same_wire_true I2c I2c e = refl
-same_wire_true Spi Spi e = refl
-same_wire_true Uart Uart e = refl
-same_wire_true OwLink OwLink e = refl
-same_wire_true OwNet OwNet e = refl
-same_wire_true Nothing Nothing e = refl
-same_wire_true one other e = cc
 
 get_front : {X : Type 0} (xs ys : List X) (k : ℕ) → k < length xs → slice_get (xs ++ ys) k ≡ slice_get xs k
 get_front [] ys k low = absurd (omega (arith, low))

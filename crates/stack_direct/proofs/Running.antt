@@ -1,0 +1,76 @@
+-- Runs behind runs.
+use Rattle.std.proofs.Common.{◌≡◌, ◌<◌, ◌+◌, length, take, get_or, ℕ, Bool, true, List, [], ◌∷◌, ◌++◌, map, None, refl, sym, ◌∙◌, ap, subst, append_assoc}
+use Rattle.std.specs.Prelude.{Option}
+use Rattle.std.proofs.lemmas.List.{append-nil}
+use Rattle.la_base.specs.Samples.{samples}
+use Rattle.la_base.specs.Runs.{samples_of}
+use Rattle.la_base.proofs.RunLemmas.{runs_from, samples_further, samples_more}
+use Rattle.la_base.specs.declared.samples.Run.{Run}
+use Rattle.la_base.specs.declared.wires.Mark.{Mark}
+use Rattle.la_base.specs.declared.wires.Out.{Out}
+use Rattle.decoder_core.specs.Inputs.{Item, Sample}
+use Rattle.la_base.specs.declared.wires.Mark.TheVariants.{End as EndMark}
+use Rattle.stack_direct.specs.Passing.{Hands, Took, only, up_to}
+use Rattle.stack_direct.specs.Runs.{FedRuns, TookEnds}
+use Rattle.stack_direct.proofs.Lists.{reaches_weaker}
+use Rattle.stack_direct.proofs.Joining.{hands_nothing, hands_then, hands_reach, took_then, took_nothing, up_to_next, up_to_none}
+
+pub samples_of-append : (xs ys : List Run) → samples_of (xs ++ ys) ≡ samples_of xs ++ samples_of ys
+samples_of-append [] ys = refl
+samples_of-append (run ∷ xs) ys = ap (λ (l : List ℕ). samples run ++ l) (samples_of-append xs ys) ∙ sym (append_assoc (samples run) (samples_of xs) (samples_of ys))
+
+pub items-append : (xs ys : List ℕ) → map Sample (xs ++ ys) ≡ map Sample xs ++ map Sample ys
+items-append [] ys = refl
+items-append (x ∷ xs) ys = ap (λ (l : List Item). Sample x ∷ l) (items-append xs ys)
+
+pub more_items : (runs more : List Run) → map Sample (samples_of runs) ++ map Sample (samples_of more) ≡ map Sample (samples_of (runs ++ more))
+more_items runs more = sym (ap (map Sample) (samples_of-append runs more) ∙ items-append (samples_of runs) (samples_of more))
+
+-- one more run, and more runs, of those of a slice
+pub items_more : (runs : List Run) (i : ℕ) (run : Run) → i < length runs → run ≡ get_or runs i run → map Sample (samples_of (take i runs)) ++ map Sample (samples run) ≡ map Sample (samples_of (take (i + 1) runs))
+items_more runs i run within is = sym (ap (map Sample) (samples_more runs i run within is) ∙ items-append (samples_of (take i runs)) (samples run))
+
+pub items_further : (runs : List Run) (i k : ℕ) → map Sample (samples_of (take i runs)) ++ map Sample (samples_of (take k (runs_from runs i))) ≡ map Sample (samples_of (take (i + k) runs))
+items_further runs i k = sym (ap (map Sample) (samples_further runs i k) ∙ items-append (samples_of (take i runs)) (samples_of (take k (runs_from runs i))))
+
+-- one more run
+pub one_more : (runs : List Run) (run : Run) → map Sample (samples_of runs) ++ map Sample (samples run) ≡ map Sample (samples_of (runs ++ run ∷ []))
+one_more runs run = ap (λ (l : List ℕ). map Sample (samples_of runs) ++ map Sample l) (sym (append-nil (samples run))) ∙ more_items runs (run ∷ [])
+
+-- no run yet
+pub fed_nothing : (whole : ℕ → List Item → List Out) (now : ℕ → List Item → Type 0) (parents : List (Option ℕ)) (gave : List Run → Type 0) (took : (ℕ → List Mark) → Type 0) → FedRuns true whole now now parents gave gave took took
+fed_nothing whole now parents gave took = record {
+  runs = [];
+  gave = λ earlier had. subst gave (sym (append-nil earlier)) had;
+  hands = hands_nothing whole now parents took None;
+}
+
+-- further runs
+pub fed_runs : {done : Bool} {whole : ℕ → List Item → List Out} {before mid after : ℕ → List Item → Type 0} {parents : List (Option ℕ)} {g0 g1 : List Run → Type 0} {t0 t1 t2 : (ℕ → List Mark) → Type 0} (g2 : List Run → Type 0) (more : List Run)
+    → FedRuns true whole before mid parents g0 g1 t0 t1 → ((earlier : List Run) → g1 earlier → g2 (earlier ++ more)) → Hands done whole mid after parents t1 t2 None (λ _. map Sample (samples_of more))
+    → FedRuns done whole before after parents g0 g2 t0 t2
+fed_runs {done} g2 more f gave hands = record {
+  runs = f.runs ++ more;
+  gave = λ earlier had. subst g2 (append_assoc earlier f.runs more) (gave (earlier ++ f.runs) (f.gave earlier had));
+  hands = hands_reach (λ _. map Sample (samples_of (f.runs ++ more))) (λ j parent at on. reaches_weaker done (map Sample (samples_of f.runs) ++ map Sample (samples_of more)) (map Sample (samples_of (f.runs ++ more))) (more_items f.runs more)) (hands_then f.hands hands);
+}
+
+-- the feed has given its last run
+pub fed_none : {whole : ℕ → List Item → List Out} {before after : ℕ → List Item → Type 0} {parents : List (Option ℕ)} {g0 g1 : List Run → Type 0} {t0 t1 : (ℕ → List Mark) → Type 0} (g2 : List Run → Type 0) (more : List Run)
+    → FedRuns true whole before after parents g0 g1 t0 t1 → ((earlier : List Run) → g1 earlier → g2 (earlier ++ more)) → more ≡ [] → FedRuns true whole before after parents g0 g2 t0 t1
+fed_none g2 more f gave none = record {
+  runs = f.runs;
+  gave = λ earlier had. subst g2 (ap (λ (l : List Run). (earlier ++ f.runs) ++ l) none ∙ append-nil (earlier ++ f.runs)) (gave (earlier ++ f.runs) (f.gave earlier had));
+  hands = f.hands;
+}
+
+-- the same marks
+pub took_same : (old new : (ℕ → List Mark) → Type 0) (marks others : ℕ → List Mark) → ((j : ℕ) → marks j ≡ others j) → Took old new marks → Took old new others
+took_same old new marks others same t = λ before after had is. t before after had (λ j. is j ∙ ap (λ (l : List Mark). before j ++ l) (sym (same j)))
+
+-- one more End
+pub ends_next : (t0 t1 t2 : (ℕ → List Mark) → Type 0) (k : ℕ) → TookEnds t0 t1 k → Took t1 t2 (only k (EndMark ∷ [])) → TookEnds t0 t2 (k + 1)
+ends_next t0 t1 t2 k p q = took_same t0 t2 (λ j. up_to k (EndMark ∷ []) j ++ only k (EndMark ∷ []) j) (λ j. up_to (k + 1) (EndMark ∷ []) j) (λ j. up_to_next k (EndMark ∷ []) j) (took_then t0 t1 t2 (λ j. up_to k (EndMark ∷ []) j) (only k (EndMark ∷ [])) p q)
+
+pub ends_none : (old : (ℕ → List Mark) → Type 0) → TookEnds old old 0
+ends_none old = took_same old old (λ j. []) (λ j. up_to 0 (EndMark ∷ []) j) (λ j. sym (up_to_none (EndMark ∷ []) j)) (took_nothing old)

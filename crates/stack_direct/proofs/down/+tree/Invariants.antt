@@ -1,0 +1,44 @@
+use Rattle.std.proofs.Common.{◌≡◌, ◌+◌, ◌-◌, ◌*◌, ◌∷◌, [], true, length, map, take}
+use Rattle.decoder_core.specs.Inputs.{Pack}
+use Rattle.stack_direct.specs.Passing.{Hands, Gives, first_on, up_to}
+use Rattle.stack_direct.specs.Machines.{Stand, whole_of}
+use Rattle.stack_direct.proofs.down.+tree.Given as goal
+
+abbrev pub decreases-hand : goal.decreases-hand
+decreases-hand g l = 6 * (length l.parents.now + 1 - first_on l.above) + 1
+
+abbrev pub decreases-hand_to : goal.decreases-hand_to
+decreases-hand_to g l = 6 * (length l.parents.now + 1 - first_on l.above)
+
+abbrev pub decreases-pass : goal.decreases-pass
+decreases-pass g l = 6 * (length l.parents.now - l.instance) + 4
+
+abbrev pub decreases-give : goal.decreases-give
+decreases-give g l = 6 * (length l.parents.now - l.instance) + 3
+
+abbrev pub decreases-give_one : goal.decreases-give_one
+decreases-give_one g l = 6 * (length l.parents.now - l.instance) + 2
+
+abbrev pub invariant-give-loop-out : goal.invariant-give-loop-out
+invariant-give-loop-out g l =
+    let m = g.M.Machine in
+    let t = g.G.MarkTake in
+    record {
+      setups : map m.setup l.machines ≡ map m.setup l.fn.machines;
+      gives : Gives true (whole_of m.outputs (map m.setup l.fn.machines)) (Stand m.consumed l.fn.machines) (Stand m.consumed l.machines) l.parents (t.took l.fn.take) (t.took l.take) l.instance (take l.out-index l.outs);
+      instances : t.instances l.take ≡ t.instances l.fn.take;
+      origin : t.origin l.take ≡ t.origin l.fn.take;
+      stops : t.stops l.take ≡ t.stops l.fn.take;
+    }
+
+abbrev pub invariant-hand-loop-place : goal.invariant-hand-loop-place
+invariant-hand-loop-place g l =
+    let m = g.M.Machine in
+    let t = g.G.MarkTake in
+    record {
+      setups : map m.setup l.machines ≡ map m.setup l.fn.machines;
+      hands : Hands true (whole_of m.outputs (map m.setup l.fn.machines)) (Stand m.consumed l.fn.machines) (Stand m.consumed l.machines) l.parents (t.took l.fn.take) (t.took l.take) l.above (up_to l.place (Pack l.packet ∷ []));
+      instances : t.instances l.take ≡ t.instances l.fn.take;
+      origin : t.origin l.take ≡ t.origin l.fn.take;
+      stops : t.stops l.take ≡ t.stops l.fn.take;
+    }

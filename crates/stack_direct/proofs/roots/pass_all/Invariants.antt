@@ -1,0 +1,23 @@
+use Rattle.std.proofs.Common.{◌≡◌, ◌≤◌, ◌-◌, [], true, length, map, take}
+use Rattle.la_base.specs.Runs.{samples_of}
+use Rattle.decoder_core.specs.Inputs.{Sample}
+use Rattle.stack_direct.specs.Passing.{Feeds}
+use Rattle.stack_direct.specs.Machines.{Stand, whole_of}
+use Rattle.stack_direct.proofs.roots.pass_all.Given as goal
+
+abbrev pub invariant-loop-at : goal.invariant-loop-at
+invariant-loop-at g l =
+    let m = g.M.Machine in
+    let t = g.G.MarkTake in
+    record {
+      within : l.at ≤ length l.runs;
+      setups : map m.setup l.machines ≡ map m.setup l.fn.machines;
+      feeds : Feeds true (whole_of m.outputs (map m.setup l.fn.machines)) (Stand m.consumed l.fn.machines) (Stand m.consumed l.machines) l.parents (t.took l.fn.take) (t.took l.take) l.instance (map Sample (samples_of (take l.at l.runs)));
+      empty : l.outs ≡ [];
+      instances : t.instances l.take ≡ t.instances l.fn.take;
+      origin : t.origin l.take ≡ t.origin l.fn.take;
+      stops : t.stops l.take ≡ t.stops l.fn.take;
+    }
+
+abbrev pub decreases-loop-at : goal.decreases-loop-at
+decreases-loop-at g l = length l.runs - l.at

@@ -1,0 +1,3 @@
+pub mod Passing
+pub mod Machines
+pub mod Runs

@@ -1,0 +1,171 @@
+// Handing a packet down a tree.
+ghost use Rattle.std.specs.Prelude.{◌≡◌, ◌≢◌, ◌<◌, ◌≤◌, ◌∷◌, [], ℕ, List, Some, length, map, slice_get};
+ghost use Rattle.std.specs.Result.{is_ok};
+ghost use Rattle.decoder_core.specs.Inputs.{Item, Pack};
+ghost use Rattle.la_io.specs.Causes.{HasCause};
+ghost use Rattle.stack_direct.specs.Passing.{IsForest, Hands, Feeds, Gives, first_on, only};
+ghost use Rattle.stack_direct.specs.Machines.{Stand, whole_of};
+
+use crate::parts::{floor_at, mark, same_place, step_packet_at};
+use decoder_core::{Machine, Outs};
+use la_base::{Mark, Out, Packet};
+use la_io::{MarkTake, Stopped};
+
+/// Hands a packet to each machine that stands on `above`, and what these put out to those that stand
+/// on them.
+#[cycle(tree)]
+#[inline(always)]
+pub fn hand<M: Machine, G: MarkTake>(
+    machines: &mut [M],
+    parents: &[Option<u32>],
+    above: Option<u32>,
+    packet: Packet,
+    take: &mut G,
+) -> Result<(), Stopped>
+    requires forest { IsForest parents.now }
+    requires few { length parents.now ≤ 24 }
+    requires each { length machines.old ≡ length parents.now }
+    requires takes { G.instances take.old ≡ length parents.now }
+    ensures setups { map M.setup machines.new ≡ map M.setup machines.old }
+    ensures hands { Hands (is_ok result) (whole_of M.outputs (map M.setup machines.old)) (Stand M.consumed machines.old) (Stand M.consumed machines.new) parents.now (G.took take.old) (G.took take.new) above (λ _. Pack packet ∷ []) }
+    ensures instances { G.instances take.new ≡ G.instances take.old }
+    ensures origin { G.origin take.new ≡ G.origin take.old }
+    ensures cause { HasCause (G.stops take.old) (G.stops take.new) result }
+{
+    for (place, parent) in parents.iter().enumerate() {
+        match hand_to(
+            machines,
+            parents,
+            *parent,
+            above,
+            place as u32,
+            packet,
+            take,
+        ) {
+            Ok(()) => {}
+            Err(Stopped) => return Err(Stopped),
+        }
+    }
+    Ok(())
+}
+
+/// Hands a packet to one machine, where it stands on `above`.
+#[cycle(tree)]
+#[inline(always)]
+pub fn hand_to<M: Machine, G: MarkTake>(
+    machines: &mut [M],
+    parents: &[Option<u32>],
+    parent: Option<u32>,
+    above: Option<u32>,
+    instance: u32,
+    packet: Packet,
+    take: &mut G,
+) -> Result<(), Stopped>
+    requires forest { IsForest parents.now }
+    requires few { length parents.now ≤ 24 }
+    requires parent { slice_get parents.now instance ≡ Some parent }
+    requires within { instance < length parents.now }
+    requires each { length machines.old ≡ length parents.now }
+    requires takes { G.instances take.old ≡ length parents.now }
+    ensures setups { map M.setup machines.new ≡ map M.setup machines.old }
+    ensures hands { Hands (is_ok result) (whole_of M.outputs (map M.setup machines.old)) (Stand M.consumed machines.old) (Stand M.consumed machines.new) parents.now (G.took take.old) (G.took take.new) above (only instance (Pack packet ∷ [])) }
+    ensures instances { G.instances take.new ≡ G.instances take.old }
+    ensures origin { G.origin take.new ≡ G.origin take.old }
+    ensures cause { HasCause (G.stops take.old) (G.stops take.new) result }
+{
+    if same_place(parent, above) {
+        pass(machines, parents, instance, packet, take)
+    } else {
+        Ok(())
+    }
+}
+
+/// Hands a packet to one machine, and what it puts out to those that stand on it; then its floor is
+/// told.
+#[cycle(tree)]
+#[inline(never)]
+pub fn pass<M: Machine, G: MarkTake>(
+    machines: &mut [M],
+    parents: &[Option<u32>],
+    instance: u32,
+    packet: Packet,
+    take: &mut G,
+) -> Result<(), Stopped>
+    requires forest { IsForest parents.now }
+    requires few { length parents.now ≤ 24 }
+    requires within { instance < length parents.now }
+    requires each { length machines.old ≡ length parents.now }
+    requires takes { G.instances take.old ≡ length parents.now }
+    ensures setups { map M.setup machines.new ≡ map M.setup machines.old }
+    ensures feeds { Feeds (is_ok result) (whole_of M.outputs (map M.setup machines.old)) (Stand M.consumed machines.old) (Stand M.consumed machines.new) parents.now (G.took take.old) (G.took take.new) instance (Pack packet ∷ []) }
+    ensures instances { G.instances take.new ≡ G.instances take.old }
+    ensures origin { G.origin take.new ≡ G.origin take.old }
+    ensures cause { HasCause (G.stops take.old) (G.stops take.new) result }
+{
+    let mut outs = Outs::new();
+    step_packet_at(machines, instance, packet, &mut outs);
+    match give(machines, parents, instance, outs.list(), take) {
+        Ok(()) => {}
+        Err(Stopped) => return Err(Stopped),
+    }
+    let floor = floor_at(machines, instance);
+    mark(take, instance, Mark::Floor(floor))
+}
+
+/// Gives the outputs of one machine: notes and pieces as marks, packets to those that stand on it.
+#[cycle(tree)]
+#[inline(always)]
+pub fn give<M: Machine, G: MarkTake>(
+    machines: &mut [M],
+    parents: &[Option<u32>],
+    instance: u32,
+    outs: &[Out],
+    take: &mut G,
+) -> Result<(), Stopped>
+    requires forest { IsForest parents.now }
+    requires few { length parents.now ≤ 24 }
+    requires within { instance < length parents.now }
+    requires each { length machines.old ≡ length parents.now }
+    requires takes { G.instances take.old ≡ length parents.now }
+    ensures setups { map M.setup machines.new ≡ map M.setup machines.old }
+    ensures gives { Gives (is_ok result) (whole_of M.outputs (map M.setup machines.old)) (Stand M.consumed machines.old) (Stand M.consumed machines.new) parents.now (G.took take.old) (G.took take.new) instance outs.now }
+    ensures instances { G.instances take.new ≡ G.instances take.old }
+    ensures origin { G.origin take.new ≡ G.origin take.old }
+    ensures cause { HasCause (G.stops take.old) (G.stops take.new) result }
+{
+    for out in outs {
+        match give_one(machines, parents, instance, *out, take) {
+            Ok(()) => {}
+            Err(Stopped) => return Err(Stopped),
+        }
+    }
+    Ok(())
+}
+
+/// Gives one output of a machine.
+#[cycle(tree)]
+#[inline(always)]
+pub fn give_one<M: Machine, G: MarkTake>(
+    machines: &mut [M],
+    parents: &[Option<u32>],
+    instance: u32,
+    out: Out,
+    take: &mut G,
+) -> Result<(), Stopped>
+    requires forest { IsForest parents.now }
+    requires few { length parents.now ≤ 24 }
+    requires within { instance < length parents.now }
+    requires each { length machines.old ≡ length parents.now }
+    requires takes { G.instances take.old ≡ length parents.now }
+    ensures setups { map M.setup machines.new ≡ map M.setup machines.old }
+    ensures gives { Gives (is_ok result) (whole_of M.outputs (map M.setup machines.old)) (Stand M.consumed machines.old) (Stand M.consumed machines.new) parents.now (G.took take.old) (G.took take.new) instance (out ∷ []) }
+    ensures instances { G.instances take.new ≡ G.instances take.old }
+    ensures origin { G.origin take.new ≡ G.origin take.old }
+    ensures cause { HasCause (G.stops take.old) (G.stops take.new) result }
+{
+    match out {
+        Out::Note(note) => mark(take, instance, Mark::Note(note)),
+        Out::Piece(piece) => mark(take, instance, Mark::Piece(piece)),
+        Out::Packet(packet) => hand(machines, parents, Some(instance), packet, take),
+    }
+}

@@ -1,0 +1,87 @@
+// One machine of a tree, and one mark.
+ghost use Rattle.std.specs.Prelude.{◌≡◌, ◌<◌, ◌≤◌, ◌∷◌, [], ℕ, List, length, map, take};
+ghost use Rattle.la_base.specs.Runs.{samples_of};
+ghost use Rattle.decoder_core.specs.Inputs.{Item, left_feed};
+ghost use Rattle.decoder_core.specs.Promises.{IsFloor};
+ghost use Rattle.la_io.specs.Causes.{HasCause};
+ghost use Rattle.stack_direct.specs.Passing.{Took, only, same_place};
+ghost use Rattle.stack_direct.specs.Machines.{PassedAt, Stand, StepsAt, whole_of};
+
+use decoder_core::{Machine, Outs};
+use la_base::{Feed, Mark, Packet, Run};
+use la_io::{MarkTake, Stopped};
+
+/// One machine passes over runs as long as it is plain that they have no stop; the answer is how many.
+#[inline(always)]
+pub fn pass_runs_at<M: Machine>(machines: &mut [M], instance: u32, runs: &[Run]) -> usize
+    requires { instance < length machines.old }
+    ensures setups { map M.setup machines.new ≡ map M.setup machines.old }
+    ensures len { length machines.new ≡ length machines.old }
+    ensures within { result ≤ length runs.now }
+    ensures passed { PassedAt instance (whole_of M.outputs (map M.setup machines.old)) (Stand M.consumed machines.old) (Stand M.consumed machines.new) (samples_of (take result runs.now)) }
+{
+    machines[instance as usize].pass_runs(runs)
+}
+
+/// A step of one machine over a run, which may go on behind its first stop.
+#[inline(always)]
+pub fn step_run_at<M: Machine>(
+    machines: &mut [M],
+    instance: u32,
+    run: Run,
+    outs: &mut Outs,
+) -> Option<Run>
+    requires within { instance < length machines.old }
+    requires empty { outs.old ≡ [] }
+    ensures setups { map M.setup machines.new ≡ map M.setup machines.old }
+    ensures len { length machines.new ≡ length machines.old }
+    ensures step { StepsAt instance (whole_of M.outputs (map M.setup machines.old)) (Stand M.consumed machines.old) (Stand M.consumed machines.new) (Feed.Run run) (left_feed result) outs.new }
+{
+    machines[instance as usize].step_run(run, outs)
+}
+
+/// A step of one machine over a packet.
+pub fn step_packet_at<M: Machine>(
+    machines: &mut [M],
+    instance: u32,
+    packet: Packet,
+    outs: &mut Outs,
+) -> Option<Feed>
+    requires within { instance < length machines.old }
+    requires empty { outs.old ≡ [] }
+    ensures setups { map M.setup machines.new ≡ map M.setup machines.old }
+    ensures len { length machines.new ≡ length machines.old }
+    ensures step { StepsAt instance (whole_of M.outputs (map M.setup machines.old)) (Stand M.consumed machines.old) (Stand M.consumed machines.new) (Feed.Packet packet) result outs.new }
+{
+    machines[instance as usize].step(Feed::Packet(packet), outs)
+}
+
+/// The floor of one machine.
+pub fn floor_at<M: Machine>(machines: &[M], instance: u32) -> u64
+    requires within { instance < length machines.now }
+    ensures { (input : List Item) → Stand M.consumed machines.now instance input → IsFloor (whole_of M.outputs (map M.setup machines.now) instance) input result }
+{
+    machines[instance as usize].floor()
+}
+
+/// One mark of an instance.
+pub fn mark<G: MarkTake>(take: &mut G, instance: u32, mark: Mark) -> Result<(), Stopped>
+    requires { instance < G.instances take.old }
+    ensures took { Took (G.took take.old) (G.took take.new) (only instance (mark ∷ [])) }
+    ensures instances { G.instances take.new ≡ G.instances take.old }
+    ensures origin { G.origin take.new ≡ G.origin take.old }
+    ensures cause { HasCause (G.stops take.old) (G.stops take.new) result }
+{
+    take.take(instance, mark)
+}
+
+/// Whether two places are the same; None is the outside of the tree.
+pub fn same_place(one: Option<u32>, other: Option<u32>) -> bool
+    ensures { result ≡ same_place one other }
+{
+    match (one, other) {
+        (None, None) => true,
+        (Some(i), Some(j)) => i == j,
+        _ => false,
+    }
+}
