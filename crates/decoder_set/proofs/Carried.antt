@@ -1,17 +1,25 @@
 -- What a wire carries of an input is all that a decoder reads of it.
-use Rattle.std.proofs.Common.{◌≡◌, ℕ, ◌^◌, Bool, true, false, cond, List, [], ◌∷◌, take, Option, refl, ap}
+use Rattle.std.proofs.Common.{◌≡◌, ℕ, ◌^◌, ◌&&◌, Bool, true, false, cond, if◌then◌else◌, List, [], ◌∷◌, take, Option, refl, sym, ◌∙◌, ap}
+use Rattle.std.specs.Prelude.{nat_le}
 use Rattle.la_base.specs.declared.samples.Rate.{Rate}
+use Rattle.la_base.specs.Kinds.{same_wire, wire_of}
+use Rattle.la_base.specs.declared.wires.Packet.{Packet}
+use Rattle.la_base.specs.declared.wires.Wire.{Wire}
 use Rattle.la_base.specs.declared.wires.Wire.TheVariants.{Logic}
+use Rattle.la_base.specs.declared.wires.Wire.TheVariants as wire
+use Rattle.decoder_core.specs.Packets.{counted_packets, counting, counts}
+use Rattle.dev_eeprom24.specs.Eeprom.{eeprom_outs}
+use Rattle.dev_eeprom24.specs.Opening.{chip_by}
 use Rattle.dec_i2c.specs.Bus.{i2c_outs}
 use Rattle.dec_spi.specs.Bus.{spi_outs}
 use Rattle.dec_uart.specs.Frames.{uart_outs}
 use Rattle.decoder_core.specs.Inputs.{Item, Sample, Pack, counted_samples, samples_in}
 use Rattle.decoder_set.specs.Kinds.{kind_row}
-use Rattle.decoder_set.specs.Options.{i2c_options, spi_options, uart_options}
+use Rattle.decoder_set.specs.Options.{eeprom_options, i2c_options, spi_options, uart_options}
 use Rattle.decoder_set.specs.Setups.{outs_by}
 use Rattle.decoder_set.specs.Whole.{carried, carries}
 use Rattle.decoder_set.specs.declared.kinds.Kind.{Kind}
-use Rattle.decoder_set.specs.declared.kinds.Kind.TheVariants.{I2c, Spi, Uart}
+use Rattle.decoder_set.specs.declared.kinds.Kind.TheVariants.{I2c, Spi, Uart, Eeprom24}
 
 samples_carried : (input : List Item) → samples_in (carried Logic input) ≡ samples_in input
 samples_carried [] = refl
@@ -26,7 +34,34 @@ counted_carried : (input : List Item) → counted_samples (carried Logic input) 
 unfolding counted_samples
 counted_carried input = ap (take (2 ^ 60)) (samples_carried input)
 
+-- packets of another wire don't count
+counting_carried : (own : Wire) (last : ℕ) (input : List Item) → counting own last (carried own input) ≡ counting own last input
+counting_carried own last [] = refl
+counting_carried own last (Sample value ∷ input) = by (carries own (Sample value)) (counting_carried own last input)
+  where
+    by : (b : Bool) → counting own last (carried own input) ≡ counting own last input → counting own last (cond b (Sample value ∷ carried own input) (carried own input)) ≡ counting own last input
+    by true same = same
+    by false same = same
+counting_carried own last (Pack packet ∷ input) = by (same_wire (wire_of packet.kind) own) refl (counting_carried own packet.start input) (counting_carried own last input)
+  where
+    kept : (b : Bool) → counting own packet.start (carried own input) ≡ counting own packet.start input → counting own last (carried own input) ≡ counting own last input
+        → (if b then packet ∷ counting own packet.start (carried own input) else counting own last (carried own input)) ≡ (if b then packet ∷ counting own packet.start input else counting own last input)
+    kept true mine theirs = ap (λ (l : List Packet). packet ∷ l) mine
+    kept false mine theirs = theirs
+
+    by : (b : Bool) → same_wire (wire_of packet.kind) own ≡ b → counting own packet.start (carried own input) ≡ counting own packet.start input → counting own last (carried own input) ≡ counting own last input
+        → counting own last (cond (same_wire (wire_of packet.kind) own) (Pack packet ∷ carried own input) (carried own input)) ≡ counting own last (Pack packet ∷ input)
+    by true is mine theirs = ap (λ (b : Bool). counting own last (cond b (Pack packet ∷ carried own input) (carried own input))) is ∙ kept (counts own last packet) mine theirs
+    by false is mine theirs =
+        ap (λ (b : Bool). counting own last (cond b (Pack packet ∷ carried own input) (carried own input))) is
+        ∙ theirs ∙ sym (ap (λ (b : Bool). if b && nat_le last packet.start then packet ∷ counting own packet.start input else counting own last input) is)
+
+packets_carried : (own : Wire) (input : List Item) → counted_packets own (carried own input) ≡ counted_packets own input
+unfolding counted_packets
+packets_carried own input = counting_carried own 0 input
+
 pub reads_its_wire : (kind : Kind) (values : List (Option ℕ)) (rate : Rate) (input : List Item) → outs_by kind values rate (carried (kind_row kind).input input) ≡ outs_by kind values rate input
 reads_its_wire I2c values rate input = ap (i2c_outs (i2c_options values).scl (i2c_options values).sda) (counted_carried input)
 reads_its_wire Spi values rate input = ap (spi_outs (spi_options values)) (counted_carried input)
 reads_its_wire Uart values rate input = ap (uart_outs (uart_options values) rate) (counted_carried input)
+reads_its_wire Eeprom24 values rate input = ap (eeprom_outs (chip_by (eeprom_options values))) (packets_carried wire.I2c input)

@@ -4,3 +4,5 @@ pub mod Carried
 pub mod OneDecoder
 pub mod Handing
 pub mod KindLemmas
+pub mod Seen
+pub mod Eeproms

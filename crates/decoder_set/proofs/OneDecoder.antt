@@ -1,5 +1,5 @@
 -- Two decoders of one setup that have consumed one input hold the same.
-use Rattle.std.proofs.Common.{◌≡◌, ℕ, ◌<◌, ◌≤◌, ◌^◌, List, Option, sym, ◌∙◌, subst}
+use Rattle.std.proofs.Common.{◌≡◌, ℕ, ◌+◌, ◌<◌, ◌≤◌, ◌^◌, List, Option, sym, ◌∙◌, subst}
 use Rattle.std.proofs.Math.Bridge.{le_prop}
 use Rattle.std.proofs.Math.Path.{to_path_p}
 use Rattle.la_base.specs.declared.samples.Rate.{Rate}
@@ -16,6 +16,12 @@ use Rattle.dec_uart.specs.laws.MachineLaws.{one_uart, uart_one_stop}
 use Rattle.dec_uart.specs.Ranges.{InRange, FastEnough}
 use Rattle.dec_uart.specs.declared.held.Line.{Line}
 use Rattle.dec_uart.specs.declared.options.UartOpts.{UartOpts}
+use Rattle.decoder_core.specs.Packets.{counted_packets}
+use Rattle.dev_eeprom24.specs.Held.{Knows}
+use Rattle.dev_eeprom24.specs.declared.chip.Chip.{Chip}
+use Rattle.dev_eeprom24.specs.laws.KnowingLaws.{chip_of, one_eeprom}
+use Rattle.i2c_phases.specs.laws.OneLaw.{one_phased}
+use Rattle.la_base.specs.declared.wires.Wire.TheVariants as wire
 use Rattle.decoder_set.specs.declared.any.AnyDecoder.{AnyDecoder}
 use Rattle.decoder_set.specs.declared.any.AnyMachine.{AnyMachine}
 use Rattle.decoder_set.specs.declared.any.AnyMachine.TheVariants as machine
@@ -61,12 +67,14 @@ same_machine values rate (machine.I2c one) (machine.I2c other) input same d e =
     (same_bus (i2c.bus_of one.machine) (i2c.bus_of other.machine) (d.own.0 ∙ sym e.own.0) (d.own.1 ∙ sym e.own.1)) d.drives e.drives
 same_machine values rate (machine.I2c one) (machine.Spi other) input same d e = cc
 same_machine values rate (machine.I2c one) (machine.Uart other) input same d e = cc
+same_machine values rate (machine.I2c one) (machine.Eeprom24 other) input same d e = cc
 same_machine values rate (machine.Spi one) (machine.I2c other) input same d e = cc
 same_machine values rate (machine.Spi one) (machine.Spi other) input same d e =
     one_state spi.opts_of spi.StandsFor spi.alts_of (λ one other list same stands also. one_spi one other list same stands also)
     (λ one other seen more same stands also rests. spi_one_stop one other seen more same stands also rests)
     one.machine other.machine one.waiter other.waiter input (d.own ∙ sym e.own) d.drives e.drives
 same_machine values rate (machine.Spi one) (machine.Uart other) input same d e = cc
+same_machine values rate (machine.Spi one) (machine.Eeprom24 other) input same d e = cc
 same_machine values rate (machine.Uart one) (machine.I2c other) input same d e = cc
 same_machine values rate (machine.Uart one) (machine.Spi other) input same d e = cc
 same_machine values rate (machine.Uart one) (machine.Uart other) input same d e =
@@ -74,6 +82,14 @@ same_machine values rate (machine.Uart one) (machine.Uart other) input same d e 
     (λ one other seen more same stands also rests. uart_one_stop one other seen more same stands also rests)
     one.machine other.machine one.waiter other.waiter input
     (same_line (uart.line_of one.machine) (uart.line_of other.machine) (d.own.0 ∙ sym e.own.0) (d.own.1 ∙ sym e.own.1)) d.drives e.drives
+same_machine values rate (machine.Uart one) (machine.Eeprom24 other) input same d e = cc
+same_machine values rate (machine.Eeprom24 one) (machine.I2c other) input same d e = cc
+same_machine values rate (machine.Eeprom24 one) (machine.Spi other) input same d e = cc
+same_machine values rate (machine.Eeprom24 one) (machine.Uart other) input same d e = cc
+same_machine values rate (machine.Eeprom24 one) (machine.Eeprom24 other) input same d e = (
+  one_phased chip_of (λ (chip : Chip). 80 + chip.addr) (λ (chip : Chip). chip.resets) Knows one_eeprom one.machine other.machine (counted_packets wire.I2c input) (d.own ∙ sym e.own) d.follows.machine_stands e.follows.machine_stands,
+  d.follows.last_is ∙ sym e.follows.last_is,
+)
 
 pub same_decoder : (one other : AnyDecoder) (input : List Item) → setup_of one ≡ setup_of other → HasConsumed one input → HasConsumed other input → SameDecoder one other
 same_decoder one other input same d e =

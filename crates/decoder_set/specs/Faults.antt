@@ -5,7 +5,7 @@ use Rattle.decoder_core.specs.declared.faults.OptFault.{OptFault}
 use Rattle.decoder_core.specs.declared.faults.OptFault.TheVariants.{Range}
 use Rattle.decoder_core.specs.declared.faults.OptFault.TheVariants as fault
 use Rattle.decoder_set.specs.declared.kinds.Kind.{Kind}
-use Rattle.decoder_set.specs.declared.kinds.Kind.TheVariants.{I2c, Spi, Uart}
+use Rattle.decoder_set.specs.declared.kinds.Kind.TheVariants.{I2c, Spi, Uart, Eeprom24}
 use Rattle.decoder_set.specs.Options.{uart_options}
 use Rattle.decoder_set.specs.Values.{in_range}
 
@@ -14,6 +14,7 @@ abbrev pub too_slow : Kind → List (Option ℕ) → Rate → Bool
 too_slow I2c values rate = false
 too_slow Spi values rate = false
 too_slow Uart values rate = nat_lt ((uart_options values).sp * rate.num) (100 * (uart_options values).baud * rate.den)
+too_slow Eeprom24 values rate = false
 
 -- why a decoder can't be opened: Range where an option doesn't take its value, then Rate where the rate is too low
 abbrev pub open_fault : ℕ → Kind → List (Option ℕ) → Rate → Option OptFault

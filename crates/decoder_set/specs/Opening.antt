@@ -16,6 +16,14 @@ use Rattle.dec_uart.specs.Opening as uart
 use Rattle.dec_uart.specs.declared.held.Line.{Line}
 use Rattle.dec_uart.specs.declared.held.Uart.{Uart}
 use Rattle.dec_uart.specs.declared.options.UartOpts.{UartOpts}
+use Rattle.decoder_core.specs.Packets.{Follows, NoneCount}
+use Rattle.decoder_core.specs.declared.follower.Follower.{Follower}
+use Rattle.dev_eeprom24.specs.Opening as eeprom
+use Rattle.dev_eeprom24.specs.declared.chip.Chip.{Chip}
+use Rattle.dev_eeprom24.specs.declared.chip.EepromOpts.{EepromOpts}
+use Rattle.dev_eeprom24.specs.declared.held.Eeprom.{Eeprom}
+use Rattle.i2c_phases.specs.declared.phased.Phased.{Phased}
+use Rattle.la_base.specs.declared.wires.Wire.TheVariants as wire
 use Rattle.la_base.specs.declared.samples.Rate.{Rate}
 use Rattle.la_base.specs.declared.samples.TheConstants.{MOST_PINS}
 use Rattle.wait_cond.specs.declared.alt.Alt.{Alt}
@@ -26,7 +34,7 @@ use Rattle.decoder_set.specs.declared.setup.Setup.{Setup}
 use Rattle.decoder_set.specs.declared.any.AnyDecoder.{AnyDecoder}
 use Rattle.decoder_set.specs.declared.any.AnyMachine.{AnyMachine}
 use Rattle.decoder_set.specs.declared.any.AnyMachine.TheVariants as machine
-use Rattle.decoder_set.specs.Options.{i2c_options, spi_options, uart_options}
+use Rattle.decoder_set.specs.Options.{eeprom_options, i2c_options, spi_options, uart_options}
 use Rattle.decoder_set.specs.Faults.{open_fault}
 
 -- a machine of each kind has these options
@@ -38,6 +46,9 @@ IsSpi options machine = spi.opts_of machine ≡ options
 
 abbrev pub IsUart : UartOpts → Rate → Uart → Type 0
 IsUart options rate machine = ((uart.line_of machine).opts ≡ options) × ((uart.line_of machine).rate ≡ rate)
+
+abbrev pub IsEeprom : EepromOpts → Phased Eeprom Chip → Type 0
+IsEeprom options machine = eeprom.chip_in machine ≡ eeprom.chip_by options
 
 -- what an I2C machine waits for
 abbrev pub i2c_alts_of : I2c → List Alt
@@ -57,17 +68,24 @@ SpiConsumed options driver input = ConsumedBy spi.StandsFor spi.alts_of (IsSpi o
 abbrev pub UartConsumed : UartOpts → Rate → Driver Uart Line → List Item → Type 0
 UartConsumed options rate driver input = ConsumedBy uart.StandsFor uart.alts_of (IsUart options rate) driver input
 
+-- a follower of an EEPROM with these options has consumed this input
+pub record EepromConsumed (options : EepromOpts) (follower : Follower (Phased Eeprom Chip) Chip) (input : List Item) : Type 0 where
+  pub own : IsEeprom options follower.machine
+  pub follows : Follows eeprom.StandsFor wire.I2c follower.machine follower.from input
+
 -- the kind of a machine
 abbrev pub kind_in : AnyMachine → Kind
 kind_in (machine.I2c driver) = kind.I2c
 kind_in (machine.Spi driver) = kind.Spi
 kind_in (machine.Uart driver) = kind.Uart
+kind_in (machine.Eeprom24 follower) = kind.Eeprom24
 
 -- a machine with these values at this rate has consumed this input
 abbrev pub ConsumedAs : List (Option ℕ) → Rate → AnyMachine → List Item → Type 0
 ConsumedAs values rate (machine.I2c driver) input = I2cConsumed (i2c_options values) driver input
 ConsumedAs values rate (machine.Spi driver) input = SpiConsumed (spi_options values) driver input
 ConsumedAs values rate (machine.Uart driver) input = UartConsumed (uart_options values) rate driver input
+ConsumedAs values rate (machine.Eeprom24 follower) input = EepromConsumed (eeprom_options values) follower input
 
 -- a decoder of this kind, with these values at this rate, has consumed this input
 abbrev pub Consumed : Kind → List (Option ℕ) → Rate → AnyMachine → List Item → Type 0
@@ -78,6 +96,7 @@ abbrev pub SleepsBy : AnyMachine → List Item → List Item → Type 0
 SleepsBy (machine.I2c driver) input more = Sleeps i2c_alts_of driver.machine driver.waiter input more
 SleepsBy (machine.Spi driver) input more = Sleeps spi.alts_of driver.machine driver.waiter input more
 SleepsBy (machine.Uart driver) input more = Sleeps uart.alts_of driver.machine driver.waiter input more
+SleepsBy (machine.Eeprom24 follower) input more = NoneCount wire.I2c input more
 
 abbrev pub IsAsleep : AnyDecoder → List Item → List Item → Type 0
 IsAsleep decoder input more = SleepsBy decoder.machine input more

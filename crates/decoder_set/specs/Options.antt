@@ -3,10 +3,11 @@ use Rattle.std.specs.Prelude.{ℕ, List, Option}
 use Rattle.dec_i2c.specs.declared.held.I2cOpts.{I2cOpts}
 use Rattle.dec_spi.specs.declared.options.SpiOpts.{SpiOpts}
 use Rattle.dec_uart.specs.declared.options.UartOpts.{UartOpts}
+use Rattle.dev_eeprom24.specs.declared.chip.EepromOpts.{EepromOpts}
 use Rattle.decoder_set.specs.Kinds.{kind_row}
 use Rattle.decoder_set.specs.Values.{channel_at, maybe_channel_at, number_at}
 use Rattle.decoder_set.specs.declared.kinds.Kind.{Kind}
-use Rattle.decoder_set.specs.declared.kinds.Kind.TheVariants.{Spi, Uart}
+use Rattle.decoder_set.specs.declared.kinds.Kind.TheVariants.{Spi, Uart, Eeprom24}
 
 -- the bits of the two lines of an I2C bus
 abbrev pub i2c_options : List (Option ℕ) → I2cOpts
@@ -38,4 +39,13 @@ uart_options values = record {
   parity = option_number Uart values 3;
   stop = option_number Uart values 4;
   sp = option_number Uart values 5;
+}
+
+-- the address and the sizes of an EEPROM
+abbrev pub eeprom_options : List (Option ℕ) → EepromOpts
+eeprom_options values = record {
+  addr = option_number Eeprom24 values 0;
+  size = option_number Eeprom24 values 1;
+  page = option_number Eeprom24 values 2;
+  gcall = option_number Eeprom24 values 3;
 }

@@ -44,12 +44,19 @@ abbrev pub SameMachine : AnyMachine → AnyMachine → Type 0
 SameMachine (machine.I2c one) (machine.I2c other) = SameState one.machine other.machine one.waiter other.waiter
 SameMachine (machine.I2c one) (machine.Spi other) = ⊥
 SameMachine (machine.I2c one) (machine.Uart other) = ⊥
+SameMachine (machine.I2c one) (machine.Eeprom24 other) = ⊥
 SameMachine (machine.Spi one) (machine.I2c other) = ⊥
 SameMachine (machine.Spi one) (machine.Spi other) = SameState one.machine other.machine one.waiter other.waiter
 SameMachine (machine.Spi one) (machine.Uart other) = ⊥
+SameMachine (machine.Spi one) (machine.Eeprom24 other) = ⊥
 SameMachine (machine.Uart one) (machine.I2c other) = ⊥
 SameMachine (machine.Uart one) (machine.Spi other) = ⊥
 SameMachine (machine.Uart one) (machine.Uart other) = SameState one.machine other.machine one.waiter other.waiter
+SameMachine (machine.Uart one) (machine.Eeprom24 other) = ⊥
+SameMachine (machine.Eeprom24 one) (machine.I2c other) = ⊥
+SameMachine (machine.Eeprom24 one) (machine.Spi other) = ⊥
+SameMachine (machine.Eeprom24 one) (machine.Uart other) = ⊥
+SameMachine (machine.Eeprom24 one) (machine.Eeprom24 other) = (one.machine ≡ other.machine) × (one.from ≡ other.from)
 
 -- two decoders hold the same
 pub record SameDecoder (one other : AnyDecoder) : Type 0 where

@@ -7,14 +7,17 @@ use crate::Setup;
 use dec_i2c::I2c;
 use dec_spi::Spi;
 use dec_uart::Uart;
-use decoder_core::Driver;
+use decoder_core::{Driver, Follower};
+use dev_eeprom24::Eeprom;
+use i2c_phases::Phased;
 
-/// A driver of a machine of any kind.
+/// A driver or a follower of a machine of any kind.
 #[derive(Drop)]
 pub enum AnyMachine {
     I2c(Driver<I2c>),
     Spi(Driver<Spi>),
     Uart(Driver<Uart>),
+    Eeprom24(Follower<Phased<Eeprom>>),
 }
 
 /// A decoder of any kind, with its kind, options and rate.

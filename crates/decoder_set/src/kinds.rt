@@ -7,6 +7,7 @@ pub enum Kind {
     I2c,
     Spi,
     Uart,
+    Eeprom24,
 }
 
 /// What an option takes.

@@ -35,6 +35,7 @@ impl Machine for AnyDecoder {
             AnyMachine::I2c(driver) => driver.step(feed, into),
             AnyMachine::Spi(driver) => driver.step(feed, into),
             AnyMachine::Uart(driver) => driver.step(feed, into),
+            AnyMachine::Eeprom24(follower) => follower.step(feed, into),
         }
     }
 
@@ -43,6 +44,7 @@ impl Machine for AnyDecoder {
             AnyMachine::I2c(driver) => driver.pass_runs(runs),
             AnyMachine::Spi(driver) => driver.pass_runs(runs),
             AnyMachine::Uart(driver) => driver.pass_runs(runs),
+            AnyMachine::Eeprom24(follower) => follower.pass_runs(runs),
         }
     }
 
@@ -51,6 +53,7 @@ impl Machine for AnyDecoder {
             AnyMachine::I2c(driver) => driver.step_run(run, into),
             AnyMachine::Spi(driver) => driver.step_run(run, into),
             AnyMachine::Uart(driver) => driver.step_run(run, into),
+            AnyMachine::Eeprom24(follower) => follower.step_run(run, into),
         }
     }
 
@@ -59,6 +62,7 @@ impl Machine for AnyDecoder {
             AnyMachine::I2c(driver) => driver.floor(),
             AnyMachine::Spi(driver) => driver.floor(),
             AnyMachine::Uart(driver) => driver.floor(),
+            AnyMachine::Eeprom24(follower) => follower.floor(),
         }
     }
 

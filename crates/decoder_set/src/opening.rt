@@ -3,18 +3,20 @@ ghost use Rattle.std.specs.Prelude.{◌≡◌, ◌≤◌, ◌^◌, true, false, 
 ghost use Rattle.la_base.specs.declared.samples.TheConstants.{MOST_PINS};
 ghost use Rattle.decoder_core.specs.declared.faults.OptFault.TheVariants.{Rate as TooSlow};
 ghost use Rattle.decoder_set.specs.Faults.{too_slow};
-ghost use Rattle.decoder_set.specs.Opening.{Opens, Consumed, I2cConsumed, SpiConsumed, UartConsumed};
-ghost use Rattle.decoder_set.specs.Options.{i2c_options, spi_options, uart_options};
+ghost use Rattle.decoder_set.specs.Opening.{Opens, Consumed, EepromConsumed, I2cConsumed, SpiConsumed, UartConsumed};
+ghost use Rattle.decoder_set.specs.Options.{eeprom_options, i2c_options, spi_options, uart_options};
 ghost use Rattle.decoder_set.specs.Values.{in_range};
 
 use crate::any::AnyMachine;
-use crate::options::{i2c_options, spi_options, uart_options};
+use crate::options::{eeprom_options, i2c_options, spi_options, uart_options};
 use crate::values::in_range;
 use crate::{AnyDecoder, Kind, OptValues, Setup};
 use dec_i2c::I2c;
 use dec_spi::Spi;
 use dec_uart::Uart;
-use decoder_core::{Driver, OptFault};
+use decoder_core::{Driver, Follower, OptFault};
+use dev_eeprom24::Eeprom;
+use i2c_phases::Phased;
 use la_base::Rate;
 
 // An I2C decoder of values in range.
@@ -56,6 +58,18 @@ fn open_uart(values: &OptValues, rate: Rate) -> Result<Driver<Uart>, OptFault>
     }
 }
 
+// A decoder of an EEPROM with values in range.
+fn open_eeprom(values: &OptValues, rate: Rate) -> Result<Follower<Phased<Eeprom>>, OptFault>
+    requires { in_range MOST_PINS Kind.Eeprom24 values.now.given ≡ true }
+    ensures opens { IfOk result (λ follower. EepromConsumed (eeprom_options values.now.given) follower []) }
+    ensures always { IsOk result }
+{
+    match Eeprom::open(eeprom_options(values), rate) {
+        Ok(machine) => Ok(Follower::new(machine)),
+        Err(fault) => Err(fault),
+    }
+}
+
 // A machine of a kind, of values in range.
 fn open_machine(kind: Kind, values: &OptValues, rate: Rate) -> Result<AnyMachine, OptFault>
     requires range { in_range MOST_PINS kind values.now.given ≡ true }
@@ -76,6 +90,10 @@ fn open_machine(kind: Kind, values: &OptValues, rate: Rate) -> Result<AnyMachine
         },
         Kind::Uart => match open_uart(values, rate) {
             Ok(driver) => Ok(AnyMachine::Uart(driver)),
+            Err(fault) => Err(fault),
+        },
+        Kind::Eeprom24 => match open_eeprom(values, rate) {
+            Ok(follower) => Ok(AnyMachine::Eeprom24(follower)),
             Err(fault) => Err(fault),
         },
     }

@@ -4,7 +4,8 @@ ghost use Rattle.la_base.specs.declared.samples.TheConstants.{MOST_PINS};
 ghost use Rattle.dec_i2c.specs.Opening.{InRange};
 ghost use Rattle.dec_spi.specs.Opening.{InRange as SpiInRange};
 ghost use Rattle.dec_uart.specs.Ranges.{InRange as UartInRange};
-ghost use Rattle.decoder_set.specs.Options.{i2c_options, spi_options, uart_options};
+ghost use Rattle.dev_eeprom24.specs.Opening.{InRange as EepromInRange};
+ghost use Rattle.decoder_set.specs.Options.{eeprom_options, i2c_options, spi_options, uart_options};
 ghost use Rattle.decoder_set.specs.Values.{in_range};
 
 use crate::Kind;
@@ -13,6 +14,7 @@ use crate::table::options_of;
 use dec_i2c::I2cOpts;
 use dec_spi::SpiOpts;
 use dec_uart::UartOpts;
+use dev_eeprom24::EepromOpts;
 
 /// The lines of an I2C bus.
 pub fn i2c_options(values: &OptValues) -> I2cOpts
@@ -59,5 +61,20 @@ pub fn uart_options(values: &OptValues) -> UartOpts
         parity: values.number(rows, 3),
         stop: values.number(rows, 4),
         sp: values.number(rows, 5),
+    }
+}
+
+/// The address and the sizes of an EEPROM.
+pub fn eeprom_options(values: &OptValues) -> EepromOpts
+    requires { in_range MOST_PINS Kind.Eeprom24 values.now.given ≡ true }
+    ensures options { result ≡ eeprom_options values.now.given }
+    ensures within { EepromInRange result }
+{
+    let rows = options_of(Kind::Eeprom24);
+    EepromOpts {
+        addr: values.number(rows, 0),
+        size: values.number(rows, 1),
+        page: values.number(rows, 2),
+        gcall: values.number(rows, 3),
     }
 }

@@ -8,7 +8,7 @@ use crate::kinds::{Asked, Kind, KindRow, OptForm, OptRow};
 use la_base::Wire;
 
 /// The kinds, in the order in which they are told.
-pub const KINDS: [Kind; 3] = [Kind::I2c, Kind::Spi, Kind::Uart];
+pub const KINDS: [Kind; 4] = [Kind::I2c, Kind::Spi, Kind::Uart, Kind::Eeprom24];
 
 // I2C, by UM10204.
 const I2C: KindRow = KindRow {
@@ -142,6 +142,46 @@ const UART: KindRow = KindRow {
     classes: &["data"],
 };
 
+// EEPROMs of the 24xx family, on I2C.
+const EEPROM24: KindRow = KindRow {
+    name: "eeprom24",
+    input: Wire::I2c,
+    output: Wire::Nothing,
+    options: &[
+        OptRow {
+            name: "addr",
+            form: OptForm::Number {
+                least: 0,
+                most: 7,
+                usual: 0,
+            },
+        },
+        OptRow {
+            name: "size",
+            form: OptForm::Choice {
+                words: &["256", "128", "4096", "8192", "16384", "32768", "65536"],
+            },
+        },
+        OptRow {
+            name: "page",
+            form: OptForm::Choice {
+                words: &["8", "16", "32", "64", "128"],
+            },
+        },
+        OptRow {
+            name: "gcall",
+            form: OptForm::Number {
+                least: 0,
+                most: 1,
+                usual: 0,
+            },
+        },
+    ],
+    groups: &[],
+    parent: &[],
+    classes: &["write", "read"],
+};
+
 /// The row of a kind.
 pub fn row(kind: Kind) -> KindRow
     ensures row { row_of result ≡ kind_row kind }
@@ -153,6 +193,7 @@ pub fn row(kind: Kind) -> KindRow
         Kind::I2c => I2C,
         Kind::Spi => SPI,
         Kind::Uart => UART,
+        Kind::Eeprom24 => EEPROM24,
     }
 }
 

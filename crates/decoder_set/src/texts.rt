@@ -16,5 +16,6 @@ pub fn note_text(kind: Kind, note: Note, buf: &mut LineBuf)
         Kind::I2c => dec_i2c::text(note, buf),
         Kind::Spi => dec_spi::text(note, buf),
         Kind::Uart => dec_uart::text(note, buf),
+        Kind::Eeprom24 => dev_eeprom24::text(note, buf),
     }
 }

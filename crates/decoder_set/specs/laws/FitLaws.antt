@@ -9,11 +9,12 @@ use Rattle.decoder_core.specs.declared.faults.OptFault.TheVariants.{Range}
 use Rattle.decoder_core.specs.declared.faults.OptFault.TheVariants as fault
 use Rattle.dec_spi.specs.Opening as spi
 use Rattle.dec_uart.specs.Ranges as uart
+use Rattle.dev_eeprom24.specs.Opening as eeprom
 use Rattle.decoder_set.specs.declared.kinds.Kind.{Kind}
-use Rattle.decoder_set.specs.declared.kinds.Kind.TheVariants.{Spi, Uart}
+use Rattle.decoder_set.specs.declared.kinds.Kind.TheVariants.{Spi, Uart, Eeprom24}
 use Rattle.decoder_set.specs.Kinds.{Pin, Number, Choice, kind_row}
 use Rattle.decoder_set.specs.Faults.{open_fault, too_slow}
-use Rattle.decoder_set.specs.Options.{spi_options, uart_options}
+use Rattle.decoder_set.specs.Options.{eeprom_options, spi_options, uart_options}
 use Rattle.decoder_set.specs.Values.{given_at, has_groups, in_range, maybe_channel_at, takes}
 use Rattle.decoder_set.specs.laws.RangeLaws.{both, channel_within, maybe_channel_within, number_within}
 
@@ -65,6 +66,17 @@ uart_in_range bits values some all =
       parity = below_suc _ 4 (number_within bits row values 3 (record { name = codes "parity"; form = Choice (codes "none" ∷ codes "odd" ∷ codes "even" ∷ codes "zero" ∷ codes "one" ∷ []) }) all refl refl);
       stop = number_within bits row values 4 (record { name = codes "stop"; form = Number 1 2 1 }) all refl refl;
       sp = number_within bits row values 5 (record { name = codes "sp"; form = Number 1 99 50 }) all refl refl;
+    }
+
+pub eeprom_in_range : (bits : ℕ) (values : List (Option ℕ)) → in_range bits Eeprom24 values ≡ true → eeprom.InRange (eeprom_options values)
+eeprom_in_range bits values all =
+    let row = kind_row Eeprom24 in
+    record {
+      addr = (number_within bits row values 0 (record { name = codes "addr"; form = Number 0 7 0 }) all refl refl).1;
+      size = below_suc _ 6
+          (number_within bits row values 1 (record { name = codes "size"; form = Choice (codes "256" ∷ codes "128" ∷ codes "4096" ∷ codes "8192" ∷ codes "16384" ∷ codes "32768" ∷ codes "65536" ∷ []) }) all refl refl);
+      page = below_suc _ 4 (number_within bits row values 2 (record { name = codes "page"; form = Choice (codes "8" ∷ codes "16" ∷ codes "32" ∷ codes "64" ∷ codes "128" ∷ []) }) all refl refl);
+      gcall = (number_within bits row values 3 (record { name = codes "gcall"; form = Number 0 1 0 }) all refl refl).1;
     }
 
 -- what an SPI bus and a serial line that can be opened fit

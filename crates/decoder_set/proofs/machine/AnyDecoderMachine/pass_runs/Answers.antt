@@ -12,6 +12,7 @@ use Rattle.dec_uart.specs.declared.held.Line.{Line}
 use Rattle.decoder_set.specs.declared.any.AnyMachine.TheVariants as machine
 use Rattle.decoder_set.specs.Opening.{IsI2c, IsSpi, IsUart, i2c_alts_of}
 use Rattle.decoder_set.specs.Options.{i2c_options, spi_options, uart_options}
+use Rattle.decoder_set.proofs.Eeproms.{eeprom_passes}
 use Rattle.decoder_set.proofs.Handing.{passes_by}
 use Rattle.decoder_set.proofs.KindLemmas.{i2c_outs_are, spi_outs_are, uart_outs_are}
 use Rattle.decoder_set.proofs.machine.AnyDecoderMachine.pass_runs.Goals as goal
@@ -39,3 +40,8 @@ returns-in-Uart-clause-passes c =
     passes_by s machine.Uart uart.StandsFor uart.alts_of (IsUart (uart_options s.values.given) s.rate) (λ driver input has. has) c.args.self.now.machine driver (search rules)
     (uart_outs (uart.line_of driver.machine).opts (uart.line_of driver.machine).rate) (uart_outs_are s driver.machine) c.pass_runs-in-Uart.new.self (samples_of (take c.pass_runs-in-Uart.result c.args.runs.now))
     (λ input is own drives. (is, record { own = (subst (λ (l : Line). (l.opts ≡ uart_options s.values.given) × (l.rate ≡ s.rate)) (sym c.pass_runs-in-Uart.ensures.setup) own); drives = drives })) c.pass_runs-in-Uart.ensures.passes
+
+pub returns-in-Eeprom24-clause-passes : goal.returns-in-Eeprom24-clause-passes
+returns-in-Eeprom24-clause-passes c =
+    let e = c.pass_runs-in-Eeprom24 in
+    eeprom_passes c.args.self.now.setup c.args.self.now.machine c.in-Eeprom24.follower (search rules) e.new.self (samples_of (take e.result c.args.runs.now)) e.ensures.setup e.ensures.passes

@@ -11,6 +11,7 @@ use Rattle.dec_uart.specs.declared.held.Line.{Line}
 use Rattle.decoder_set.specs.declared.any.AnyMachine.TheVariants as machine
 use Rattle.decoder_set.specs.Opening.{IsI2c, IsSpi, IsUart, i2c_alts_of}
 use Rattle.decoder_set.specs.Options.{i2c_options, spi_options, uart_options}
+use Rattle.decoder_set.proofs.Eeproms.{eeprom_steps}
 use Rattle.decoder_set.proofs.Handing.{steps_by, stops_by}
 use Rattle.decoder_set.proofs.KindLemmas.{i2c_outs_are, spi_outs_are, uart_outs_are}
 use Rattle.decoder_set.proofs.machine.AnyDecoderMachine.step.Goals as goal
@@ -56,3 +57,8 @@ returns-in-Uart-clause-stops c =
     let s = c.args.self.now.setup in
     stops_by s machine.Uart uart.StandsFor uart.alts_of (IsUart (uart_options s.values.given) s.rate) (λ driver input has. has) c.args.self.now.machine c.in-Uart.driver (search rules) c.args.feed c.step-in-Uart.result
     (λ input more rests. rests) (λ input more rests. rests) c.step-in-Uart.ensures.stops
+
+pub returns-in-Eeprom24-clause-step : goal.returns-in-Eeprom24-clause-step
+returns-in-Eeprom24-clause-step c =
+    let e = c.step-in-Eeprom24 in
+    eeprom_steps c.args.self.now.setup c.args.self.now.machine c.in-Eeprom24.follower (search rules) e.new.self c.args.feed e.result e.new.into e.ensures.setup e.ensures.step

@@ -1,0 +1,4 @@
+-- Lemmas that laws of the device cite.
+pub mod EepromLaws
+pub mod HeldLaws
+pub mod KnowingLaws

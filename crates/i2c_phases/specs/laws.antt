@@ -1,0 +1,6 @@
+-- Lemmas that laws of devices cite.
+pub mod PhaseLaws
+pub mod FloorLaws
+pub mod TrackLaws
+pub mod DeviceLaws
+pub mod OneLaw
