@@ -1,5 +1,6 @@
 pub mod NoteLemmas
-pub mod FeedingAll
+pub mod FeedLemmas
+pub mod TakerLemmas
 pub mod Collecting
 pub mod NoteLines
 pub mod Choosing
@@ -9,4 +10,3 @@ pub mod Stacked
 pub mod Running
 pub mod Exact
 pub mod Headlines
-mod FeedingRuns

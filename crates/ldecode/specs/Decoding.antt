@@ -1,10 +1,15 @@
 -- What `decode` writes: the notes of the instances in order, a line each.
-use Rattle.std.specs.Prelude.{ℕ, ◌+◌, Bool, if◌then◌else◌, List, [], ◌∷◌, ◌++◌, map, codes, slice_get, Option, Some, None}
+use Rattle.std.specs.Prelude.{ℕ, ◌≡◌, ◌⊎◌, ◌+◌, Bool, if◌then◌else◌, List, [], ◌∷◌, ◌++◌, map, codes, slice_get, Option, Some, None}
 use Rattle.std.specs.Fmt.{decimal}
 use Rattle.std.specs.List.{flat_map}
+use Rattle.std.specs.Io.KnownBytes.{Appends}
 use Rattle.la_base.specs.declared.wires.Note.{Note}
 use Rattle.la_base.specs.declared.wires.Out.{Out}
 use Rattle.la_base.specs.declared.wires.Out.TheVariants.{Note as NoteOut, Piece as PieceOut, Packet as PacketOut}
+use Rattle.la_io.specs.Causes.{AppendsFront}
+use Rattle.capture_any.specs.declared.end.ListingEnd.{ListingEnd}
+use Rattle.capture_any.specs.declared.end.ListingEnd.TheVariants.{Write, NoMemory}
+use Rattle.decoder_core.specs.Inputs.{Item}
 use Rattle.decoder_core.specs.Trees.{Node, given}
 use Rattle.decoder_set.specs.Kinds.{kind_row}
 use Rattle.decoder_set.specs.declared.kinds.Kind.{Kind}
@@ -44,6 +49,15 @@ note_line instances entry = line_by (slice_get instances entry.instance) entry.n
 abbrev pub note_lines : List Instance → List Entry → List ℕ
 note_lines instances entries = flat_map (note_line instances) entries
 
--- the listing of a stack: the notes of all instances that are shown, by start, then by instance, then as they were given
+-- the listing of a tree of decoders: the notes of all instances that are shown, by start, then by instance, then as they were given
+abbrev pub tree_listing : {S : Type 0} → (S → List Item → List Out) → List Instance → (ℕ → Bool) → List (Node S) → List ℕ → List ℕ
+tree_listing outputs instances shown nodes samples = note_lines instances (listed (shown_from shown 0 (map notes_of (given outputs samples nodes))))
+
+-- the listing of a stack
 abbrev pub decode_listing : List Instance → (ℕ → Bool) → List (Node Setup) → List ℕ → List ℕ
-decode_listing instances shown nodes samples = note_lines instances (listed (shown_from shown 0 (map notes_of (given outs_of samples nodes))))
+decode_listing instances shown nodes samples = tree_listing outs_of instances shown nodes samples
+
+-- what was written of a listing behind this end of a capture, by the answer: all of it, and the same end is answered; a front of it, where a
+-- write failed; or nothing, for want of memory
+abbrev pub Writes : ListingEnd → List ℕ → Option (List ℕ) → Option (List ℕ) → ListingEnd → Type 0
+Writes end listing old new result = ((result ≡ end) × Appends old new listing) ⊎ ((result ≡ Write) × AppendsFront old new listing) ⊎ ((result ≡ NoMemory) × (new ≡ old))

@@ -1,54 +1,73 @@
--- What the feeding of samples to decoders does.
-use Rattle.std.specs.Prelude.{ℕ, ◌≡◌, Bool, List, [], ◌∷◌, ◌++◌, map}
+-- What a tree of decoders is fed with, and what is gathered of it.
+use Rattle.std.specs.Prelude.{ℕ, ◌≡◌, ◌≢◌, ◌<◌, ◌≤◌, ◌^◌, Bool, true, false, List, [], ◌∷◌, map, length, Option, Some, None, Result, Ok, Err}
 use Rattle.std.specs.List.{filter}
+use Rattle.la_base.specs.Runs.{samples_of}
+use Rattle.la_base.specs.declared.samples.Run.{Run}
+use Rattle.la_base.specs.declared.wires.Mark.{Mark}
+use Rattle.la_base.specs.declared.wires.Mark.TheVariants.{Note as NoteMark, Piece as PieceMark, Floor as FloorMark, End as EndMark}
 use Rattle.la_base.specs.declared.wires.Note.{Note}
 use Rattle.la_base.specs.declared.wires.Out.{Out}
-use Rattle.decoder_core.specs.Inputs.{Item, Sample}
-use Rattle.note_order.specs.Order.{entries_from, entry_of, is_of, listed}
+use Rattle.la_io.specs.Capture.{Told}
+use Rattle.la_io.specs.declared.fault.CaptureError.{CaptureError}
+use Rattle.la_io.specs.declared.fault.CaptureError.TheVariants.{Fault as FaultError, Read as ReadError, NoMemory as NoMemoryError}
+use Rattle.capture_any.specs.Captures.{ToldAt}
+use Rattle.capture_any.specs.Listings.{Lists, ReadCause}
+use Rattle.capture_any.specs.Reading.{Stands, form_of, given_by, is_open_of, pins_of}
+use Rattle.capture_any.specs.Taking.{GaveMore}
+use Rattle.capture_any.specs.declared.capture.Capture.{Capture}
+use Rattle.capture_any.specs.declared.end.ListingEnd.{ListingEnd}
+use Rattle.capture_any.specs.declared.end.ListingEnd.TheVariants.{Done, Read, Write, Fault, NoMemory}
+use Rattle.decoder_core.specs.Inputs.{Item}
+use Rattle.decoder_core.specs.Trees.{Node, given}
+use Rattle.note_order.specs.Order.{entries_from, entry_of, is_of}
 use Rattle.note_order.specs.declared.entry.Entry.{Entry}
-use Rattle.stack_spec.specs.Instances.{Instance}
-use Rattle.ldecode.specs.Decoding.{note_lines, notes_of, shown_from, where_shown}
+use Rattle.ldecode.specs.Decoding.{notes_of, shown_from, where_shown}
+use Rattle.ldecode.specs.declared.capture_feed.CaptureFeed.{CaptureFeed}
 
--- these items were consumed, and the notes that they add were appended where the instance is shown
-pub record Fed (before after : List Item → Type 0) (outputs : List Item → List Out) (instance : ℕ) (shown : Bool) (items : List Item) (old new : List Entry) : Type 0 where
-  pub notes : List Note
-  pub appended : new ≡ old ++ map (entry_of instance) (where_shown shown notes)
-  pub consumes : (input : List Item) → before input → after (input ++ items)
-  pub gives : (input : List Item) → before input → notes_of (outputs (input ++ items)) ≡ notes_of (outputs input) ++ notes
+-- how a capture ended, where it answers that it has no more runs
+abbrev pub ended : Result Bool CaptureError → Option ListingEnd
+ended (Ok true) = None
+ended (Ok false) = Some Done
+ended (Err (FaultError fault)) = Some (Fault fault)
+ended (Err ReadError) = Some Read
+ended (Err NoMemoryError) = Some NoMemory
 
-module _ {M S : Type 0} (setup : M → S) (consumed : M → List Item → Type 0) (outputs : S → List Item → List Out) where
-  -- a machine consumed these items, which add these notes; its setup stays
-  pub record FedOne (items : List Item) (before after : M) (notes : List Note) : Type 0 where
-    pub same : setup after ≡ setup before
-    pub consumes : (input : List Item) → consumed before input → consumed after (input ++ items)
-    pub gives : (input : List Item) → consumed before input → notes_of (outputs (setup before) (input ++ items)) ≡ notes_of (outputs (setup before) input) ++ notes
+module _ {S : Type 0} (left : S → Option (List ℕ)) (faults : S → ℕ) where
+  -- from the first capture and source to these, samples were given; where the capture is closed, these are all that its bytes settle
+  abbrev pub Given : Bool → ListingEnd → Capture → Capture → S → S → List ℕ → Type 0
+  Given true end first now source_first source_now samples = GaveMore first now (left source_first) (left source_now) samples
+  Given false end first now source_first source_now samples = (before : List ℕ) (told : Told) → ToldAt told (left source_first) → Stands first before told []
+      → Lists (form_of first) (pins_of first) (λ settled. settled ≡ samples) (λ _. Unit {0}) before told (left source_first) (left source_now) end
 
-  -- each machine, at its place
-  abbrev pub FedEach : List Item → List M → List M → List (List Note) → Type 0
-  FedEach items [] [] [] = Unit {0}
-  FedEach items (before ∷ olds) (after ∷ news) (notes ∷ added) = FedOne items before after notes × FedEach items olds news added
-  FedEach items _ _ _ = ⊥
+  -- the source failed where the capture ended with Read, and nowhere else
+  abbrev pub Caused : Bool → ListingEnd → S → S → Type 0
+  Caused true end source_first source_now = faults source_now ≡ faults source_first
+  Caused false end source_first source_now = ReadCause (faults source_first) (faults source_now) end × (end ≢ Write)
 
-  -- each machine consumed these items, and the notes that they add were appended where their instance is shown
-  pub record FedAll (items : List Item) (shown : ℕ → Bool) (olds news : List M) (old new : List Entry) : Type 0 where
-    pub added : List (List Note)
-    pub each : FedEach items olds news added
-    pub appended : new ≡ old ++ entries_from 0 (shown_from shown 0 added)
+  -- a feed gave these runs since it was made
+  pub record GaveRuns (feed : CaptureFeed S) (runs : List Run) : Type 0 where
+    pub same_source : feed.source.ghost_name ≡ feed.first_source.value.ghost_name
+    pub form : form_of feed.capture.now ≡ form_of feed.first_capture.value.now
+    pub pins : pins_of feed.capture.now ≡ pins_of feed.first_capture.value.now
+    pub count : is_open_of feed.capture.now ≡ true → length (samples_of runs) ≤ given_by feed.capture.now
+    pub few : length (samples_of runs) ≤ 2 ^ 60
+    pub given : Given (is_open_of feed.capture.now) feed.end feed.first_capture.value.now feed.capture.now feed.first_source.value.now feed.source.now (samples_of runs)
+    pub cause : Caused (is_open_of feed.capture.now) feed.end feed.first_source.value.now feed.source.now
 
-  -- each of these machines has consumed the samples
-  abbrev pub Consumed : List ℕ → List M → Type 0
-  Consumed samples [] = Unit {0}
-  Consumed samples (machine ∷ machines) = consumed machine (map Sample samples) × Consumed samples machines
+-- the notes among marks
+abbrev pub notes_in : List Mark → List Note
+notes_in [] = []
+notes_in (NoteMark note ∷ marks) = note ∷ notes_in marks
+notes_in (PieceMark piece ∷ marks) = notes_in marks
+notes_in (FloorMark start ∷ marks) = notes_in marks
+notes_in (EndMark ∷ marks) = notes_in marks
 
--- the notes that decoders of samples give, each on all of them
-abbrev pub notes_on : {S : Type 0} → (S → List Item → List Out) → List S → List ℕ → List (List Note)
-notes_on outputs setups samples = map (λ setup. notes_of (outputs setup (map Sample samples))) setups
+-- the entries are the notes among the marks of each instance that is shown, in their order; of `count` instances
+pub record Keeps (shown : ℕ → Bool) (count : ℕ) (entries : List Entry) (marks : ℕ → List Mark) : Type 0 where
+  pub each : (instance : ℕ) → instance < count → filter (is_of instance) entries ≡ map (entry_of instance) (where_shown (shown instance) (notes_in (marks instance)))
+  pub none : (instance : ℕ) → count ≤ instance → filter (is_of instance) entries ≡ []
 
--- the entries are the notes of the instances that are shown, those of each instance in their order
-abbrev pub Gathered : {S : Type 0} → (S → List Item → List Out) → List S → (ℕ → Bool) → List Entry → List ℕ → Type 0
-Gathered outputs setups shown entries samples =
-    (instance : ℕ) → filter (is_of instance) entries ≡ filter (is_of instance) (entries_from 0 (shown_from shown 0 (notes_on outputs setups samples)))
-
--- the listing of decoders of samples
-abbrev pub samples_listing : {S : Type 0} → (S → List Item → List Out) → List S → List Instance → (ℕ → Bool) → List ℕ → List ℕ
-samples_listing outputs setups instances shown samples = note_lines instances (listed (shown_from shown 0 (notes_on outputs setups samples)))
+-- the entries are the notes that a tree of decoders gives on samples, of the instances that are shown, those of each in their order
+abbrev pub Gathered : {S : Type 0} → (S → List Item → List Out) → List (Node S) → (ℕ → Bool) → List Entry → List ℕ → Type 0
+Gathered outputs nodes shown entries samples =
+    (instance : ℕ) → filter (is_of instance) entries ≡ filter (is_of instance) (entries_from 0 (shown_from shown 0 (map notes_of (given outputs samples nodes))))

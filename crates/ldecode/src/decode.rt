@@ -1,58 +1,114 @@
 // The job `decode`: gathering all notes, and writing them in order.
-ghost use Rattle.std.specs.Prelude.{◌≡◌, ◌≢◌, [], ℕ, List, length, map, true, OnOk};
+ghost use Rattle.std.specs.Prelude.{◌≡◌, ◌≢◌, ◌≤◌, [], ℕ, All, List, length, map, true, OnOk};
 ghost use Rattle.std.specs.Io.KnownBytes.{Appends};
 ghost use Rattle.la_io.specs.Causes.{AppendsFront, HasCause};
 ghost use Rattle.la_io.specs.Capture.{Told};
 ghost use Rattle.capture_any.specs.Captures.{ToldAt};
 ghost use Rattle.capture_any.specs.Listings.{Lists, ReadCause, WriteCause};
 ghost use Rattle.capture_any.specs.Reading.{Stands, form_of, is_open_of, pins_of};
+ghost use Rattle.stack_direct.specs.Passing.{IsForest};
+ghost use Rattle.stack_direct.specs.Runs.{nodes_of};
 ghost use Rattle.stack_spec.specs.Accepting.{is_shown};
 ghost use Rattle.stack_spec.specs.Stacks.{instances_in, stack_meaning};
-ghost use Rattle.ldecode.specs.Decoding.{note_lines};
-ghost use Rattle.ldecode.specs.Feeding.{Consumed, Gathered, samples_listing};
+ghost use Rattle.note_order.specs.Order.{in_order};
+ghost use Rattle.ldecode.specs.Decoding.{Writes, note_lines, tree_listing};
+ghost use Rattle.ldecode.specs.Feeding.{Gathered};
 
-use crate::feed_all::feed_all;
+use crate::capture_feed::CaptureFeed;
 use crate::note_lines::write_notes;
-use capture_any::{Capture, ListingEnd, Runs};
-use decoder_core::{Machine, Outs};
+use crate::note_taker::NoteTaker;
+use capture_any::{Capture, ListingEnd};
+use decoder_core::{Machine, RunEnd};
 use la_base::NoMemory;
-use la_io::{Buffered, CaptureError, Failed, Sink, Source};
+use la_io::{Buffered, Failed, Sink, Source};
 use note_order::{Entry, sort_entries};
+use stack_direct::run_direct;
 use stack_spec::Stack;
 use std::alloc::Global;
 
-// Reads the capture to its end, and gathers the notes that the machines give. It takes many runs at once,
-// so that the loop over them has little else to do.
+// Capture and source behind a run, and how the run ended.
+struct Ran<'a, 'b, S: Source> {
+    capture: &'a mut Capture,
+    source: &'b mut S,
+    end: ListingEnd,
+}
+
+// Runs the tree of machines over the capture to its end, and gathers the notes that it gives.
+fn run_tree<'a, 'b, S: Source, M: Machine>(
+    capture: &'a mut Capture,
+    machines: &mut [M],
+    parents: &[Option<u32>],
+    source: &'b mut S,
+    notes: &mut NoteTaker,
+) -> Ran<'a, 'b, S>
+    requires is_open { is_open_of capture.old ≡ true }
+    requires forest { IsForest parents.now }
+    requires few { length parents.now ≤ 24 }
+    requires each { length machines.old ≡ length parents.now }
+    requires instances { length (instances_in notes.old.stack.now) ≡ length parents.now }
+    requires empty { notes.old.entries.items ≡ [] }
+    requires never { notes.old.stops ≡ 0 }
+    ensures same_source { result.source.ghost_name ≡ source.entry.ghost_name }
+    ensures gathers { (before : List ℕ) (told : Told) → ToldAt told (S.left source.old) → Stands capture.old before told [] → All (λ machine. M.consumed machine []) machines.old
+        → Lists (form_of capture.old) (pins_of capture.old) (Gathered M.outputs (nodes_of (map M.setup machines.old) parents.now) (is_shown (stack_meaning notes.old.stack.now).shown) notes.new.entries.items) (λ _. Unit {0}) before told (S.left source.old) (S.left result.source.now) result.end }
+    ensures read { ReadCause (S.faults source.old) (S.faults result.source.now) result.end }
+    ensures unwritten { result.end ≢ ListingEnd.Write }
+{
+    let mut feed = CaptureFeed::new(capture, source);
+    let ran = run_direct(machines, parents, &mut feed, notes);
+    let CaptureFeed {
+        capture,
+        source,
+        end,
+        ..
+    } = feed;
+    match ran {
+        RunEnd::Ended => Ran {
+            capture,
+            source,
+            end,
+        },
+        RunEnd::Stopped => Ran {
+            capture,
+            source,
+            end: ListingEnd::NoMemory,
+        },
+    }
+}
+
+// A reference ends here, with what stands behind it.
+fn goes_back<T>(lent: &mut T)
+    ensures { lent.new ≡ lent.old }
+{}
+
+// Reads the capture to its end, and gathers the notes that the tree of machines gives.
 fn collect<S: Source, M: Machine>(
-    stack: &Stack,
     capture: &mut Capture,
     machines: &mut [M],
+    parents: &[Option<u32>],
     source: &mut S,
-    entries: &mut Vec<Entry>,
+    notes: &mut NoteTaker,
 ) -> ListingEnd
     requires is_open { is_open_of capture.old ≡ true }
-    requires each { length machines.old ≡ length (instances_in stack.now) }
-    requires empty { entries.old.items ≡ [] }
-    ensures gathers { (before : List ℕ) (told : Told) → ToldAt told (S.left source.old) → Stands capture.old before told [] → Consumed M.setup M.consumed M.outputs [] machines.old
-        → Lists (form_of capture.old) (pins_of capture.old) (Gathered M.outputs (map M.setup machines.old) (is_shown (stack_meaning stack.now).shown) entries.new.items) (λ _. Unit {0}) before told (S.left source.old) (S.left source.new) result }
+    requires forest { IsForest parents.now }
+    requires few { length parents.now ≤ 24 }
+    requires each { length machines.old ≡ length parents.now }
+    requires instances { length (instances_in notes.old.stack.now) ≡ length parents.now }
+    requires empty { notes.old.entries.items ≡ [] }
+    requires never { notes.old.stops ≡ 0 }
+    ensures gathers { (before : List ℕ) (told : Told) → ToldAt told (S.left source.old) → Stands capture.old before told [] → All (λ machine. M.consumed machine []) machines.old
+        → Lists (form_of capture.old) (pins_of capture.old) (Gathered M.outputs (nodes_of (map M.setup machines.old) parents.now) (is_shown (stack_meaning notes.old.stack.now).shown) notes.new.entries.items) (λ _. Unit {0}) before told (S.left source.old) (S.left source.new) result }
     ensures read { ReadCause (S.faults source.old) (S.faults source.new) result }
     ensures unwritten { result ≢ ListingEnd.Write }
 {
-    // One for all steps, since to make it fills it with default values.
-    let mut outs = Outs::new();
-    let mut runs = Runs::new();
-    loop {
-        match capture.next_runs(source, &mut runs) {
-            Ok(true) => match feed_all(stack, machines, runs.list(), &mut outs, entries) {
-                Ok(()) => {}
-                Err(NoMemory) => return ListingEnd::NoMemory,
-            },
-            Ok(false) => return ListingEnd::Done,
-            Err(CaptureError::Fault(fault)) => return ListingEnd::Fault(fault),
-            Err(CaptureError::Read) => return ListingEnd::Read,
-            Err(CaptureError::NoMemory) => return ListingEnd::NoMemory,
-        }
-    }
+    let Ran {
+        capture: read,
+        source: read_from,
+        end,
+    } = run_tree(capture, machines, parents, source, notes);
+    goes_back(read);
+    goes_back(read_from);
+    end
 }
 
 // Writes the lines of notes through a buffer before the sink.
@@ -71,34 +127,55 @@ fn write_listing<K: Sink>(stack: &Stack, entries: &[Entry], sink: &mut K) -> Res
     }
 }
 
+// Writes the listing of entries behind this end of the capture.
+fn write_gathered<K: Sink>(
+    alloc: Global,
+    stack: &Stack,
+    entries: Vec<Entry>,
+    end: ListingEnd,
+    sink: &mut K,
+) -> ListingEnd
+    requires { (end ≢ ListingEnd.NoMemory) × (end ≢ ListingEnd.Write) }
+    ensures writes { Writes end (note_lines (instances_in stack.now) (in_order entries.items)) (K.written sink.old) (K.written sink.new) result }
+    ensures write { WriteCause (K.faults sink.old) (K.faults sink.new) result }
+{
+    let mut entries = entries;
+    match sort_entries(alloc, &mut entries) {
+        Ok(()) => match write_listing(stack, &entries, sink) {
+            Ok(()) => end,
+            Err(Failed) => ListingEnd::Write,
+        },
+        Err(NoMemory) => ListingEnd::NoMemory,
+    }
+}
+
 /// Reads the capture to its end, and then writes the notes that the machines give, those of the
-/// instances that are shown, in the order of a listing. Each machine reads the samples.
+/// instances that are shown, in the order of a listing. A machine with no parent reads the samples, each
+/// other one the packets of its parent.
 pub fn decode<S: Source, K: Sink, M: Machine + Drop>(
     alloc: Global,
     stack: &Stack,
     capture: &mut Capture,
     machines: Vec<M>,
+    parents: &[Option<u32>],
     source: &mut S,
     sink: &mut K,
 ) -> ListingEnd
     requires is_open { is_open_of capture.old ≡ true }
-    requires each { length machines.items ≡ length (instances_in stack.now) }
-    ensures lists { (before : List ℕ) (told : Told) → ToldAt told (S.left source.old) → Stands capture.old before told [] → Consumed M.setup M.consumed M.outputs [] machines.items
-        → Lists (form_of capture.old) (pins_of capture.old) (λ samples. Appends (K.written sink.old) (K.written sink.new) (samples_listing M.outputs (map M.setup machines.items) (instances_in stack.now) (is_shown (stack_meaning stack.now).shown) samples))
-        (λ samples. AppendsFront (K.written sink.old) (K.written sink.new) (samples_listing M.outputs (map M.setup machines.items) (instances_in stack.now) (is_shown (stack_meaning stack.now).shown) samples)) before told (S.left source.old) (S.left source.new) result }
+    requires forest { IsForest parents.now }
+    requires few { length parents.now ≤ 24 }
+    requires each { length machines.items ≡ length parents.now }
+    requires instances { length (instances_in stack.now) ≡ length parents.now }
+    ensures lists { (before : List ℕ) (told : Told) → ToldAt told (S.left source.old) → Stands capture.old before told [] → All (λ machine. M.consumed machine []) machines.items
+        → Lists (form_of capture.old) (pins_of capture.old) (λ samples. Appends (K.written sink.old) (K.written sink.new) (tree_listing M.outputs (instances_in stack.now) (is_shown (stack_meaning stack.now).shown) (nodes_of (map M.setup machines.items) parents.now) samples))
+        (λ samples. AppendsFront (K.written sink.old) (K.written sink.new) (tree_listing M.outputs (instances_in stack.now) (is_shown (stack_meaning stack.now).shown) (nodes_of (map M.setup machines.items) parents.now) samples)) before told (S.left source.old) (S.left source.new) result }
     ensures read { ReadCause (S.faults source.old) (S.faults source.new) result }
     ensures write { WriteCause (K.faults sink.old) (K.faults sink.new) result }
 {
     let mut machines = machines;
-    let mut entries = Vec::new(alloc);
-    match collect(stack, capture, &mut machines, source, &mut entries) {
+    let mut notes = NoteTaker::new(alloc, stack);
+    match collect(capture, &mut machines, parents, source, &mut notes) {
         ListingEnd::NoMemory => ListingEnd::NoMemory,
-        end => match sort_entries(alloc, &mut entries) {
-            Ok(()) => match write_listing(stack, &entries, sink) {
-                Ok(()) => end,
-                Err(Failed) => ListingEnd::Write,
-            },
-            Err(NoMemory) => ListingEnd::NoMemory,
-        },
+        end => write_gathered(alloc, stack, notes.into_entries(), end, sink),
     }
 }

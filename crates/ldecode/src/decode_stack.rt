@@ -46,5 +46,13 @@ pub fn decode_stack<S: Source, K: Sink>(
         Err(BindError::NoMemory) => return Status::NoMemory,
     };
     capture.select(bound.pins);
-    Status::from(decode(alloc, &stack, &mut capture, bound.machines, source, sink))
+    Status::from(decode(
+        alloc,
+        &stack,
+        &mut capture,
+        bound.machines,
+        &bound.parents,
+        source,
+        sink,
+    ))
 }

@@ -2,12 +2,12 @@
 #![tactic(auto)]
 
 mod alternatives;
+mod capture_feed;
 mod decode;
 mod decode_stack;
-mod feed;
-mod feed_all;
 mod form;
 mod note_lines;
+mod note_taker;
 mod notices;
 mod run;
 mod search;

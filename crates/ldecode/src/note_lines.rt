@@ -15,18 +15,22 @@ use stack_spec::Stack;
 use std::marker::Model;
 
 // The line of a note, `START-END NAME: TEXT`. Contracts see its bytes. One serves for all notes: to make it
-// fills it with zeros, and it keeps the digits of the places of the note before.
+// fills it with zeros, and it keeps the digits of the places and of the number of the note before.
 #[derive(Drop)]
 struct NoteLine {
     line: LineBuf,
     start: Decimal,
     end: Decimal,
+    number: Decimal,
+    kind_number: u32,
 }
 
 impl Model for NoteLine {
     ghost Value = { List ℕ };
 
     ghost view = { λ s. s.line };
+
+    ghost invariant = { λ s. s.number ≡ s.kind_number };
 }
 
 impl NoteLine {
@@ -36,6 +40,8 @@ impl NoteLine {
             line: LineBuf::new(),
             start: Decimal::new(),
             end: Decimal::new(),
+            number: Decimal::new(),
+            kind_number: 0,
         }
     }
 
@@ -45,6 +51,10 @@ impl NoteLine {
     {
         self.start.set(note.start);
         self.end.set(note.end);
+        if kind_number != self.kind_number {
+            self.number.set(u64::from(kind_number));
+            self.kind_number = kind_number;
+        }
         let line = &mut self.line;
         line.clear();
         line.push_short(self.start.text());
@@ -53,7 +63,7 @@ impl NoteLine {
         text(line, " ");
         text(line, kind_name(kind));
         text(line, "-");
-        line.push_number(u64::from(kind_number));
+        line.push_short(self.number.text());
         text(line, ": ");
         note_text(kind, note, line);
         text(line, "\n");

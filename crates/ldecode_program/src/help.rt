@@ -20,7 +20,9 @@ ldecode reads a recorded logic capture on standard input.
 
 ldecode [OPTION..] CHAIN..
     decodes it, and prints a line for each annotation: FIRST-LAST INSTANCE: TEXT.
-    A chain is DECODER:OPTION=VALUE:OPTION=VALUE; an instance is DECODER-NUMBER.
+    A chain is DECODER:OPTION=VALUE:OPTION=VALUE, and behind commas decoders of what
+    the one before them gives. It may begin with an earlier instance, which is
+    DECODER-NUMBER.
 ldecode --job find [OPTION..] ALTERNATIVE..
     prints a line for each sample at which an alternative holds: SAMPLE: NUMBERS.
     An alternative is `any`, or terms with commas between them: CHANNEL=LEVEL,
@@ -42,8 +44,9 @@ Decoders, and the options of each:
 
 // A whole example of each job.
 const EXAMPLES: &str = "
-An I2C bus on the first two of eight channels, a byte a sample:
+An I2C bus on the first two of eight channels, a byte a sample, and with an EEPROM:
     ldecode i2c:scl=D0:sda=D1 < capture.raw
+    ldecode i2c:scl=D0:sda=D1,eeprom24 < capture.raw
 Where D0 rises while D3 is low:
     ldecode --job find D0=r,D3=l < capture.raw
 ";

@@ -1,4 +1,4 @@
-use Rattle.std.proofs.Common.{ℕ, List, inr, sym, ◌∙◌, subst, Ok, Err}
+use Rattle.std.proofs.Common.{ℕ, List, map, Option, ap, inr, sym, ◌∙◌, subst, Ok, Err}
 use Rattle.la_base.specs.declared.samples.TheConstants.{MOST_PINS}
 use Rattle.la_base.specs.declared.samples.Rate.{Rate}
 use Rattle.capture_any.specs.Reading.{form_of, names_of, pins_of, rate_of}
@@ -13,10 +13,17 @@ use Rattle.ldecode.specs.Asking.{nodes_of}
 use Rattle.std.specs.Io.KnownBytes.{Appends}
 use Rattle.la_io.specs.Causes.{AppendsFront}
 use Rattle.capture_any.specs.Listings.{Lists}
+use Rattle.decoder_core.specs.Trees.{Node}
+use Rattle.decoder_set.specs.Opening.{setup_of}
+use Rattle.decoder_set.specs.Setups.{outs_of}
+use Rattle.stack_direct.specs.Passing.{IsForest}
+use Rattle.stack_direct.specs.Runs.{nodes_of as tree_nodes}
+use Rattle.decoder_set.specs.declared.setup.Setup.{Setup}
+use Rattle.ldecode.specs.Decoding.{tree_listing}
 use Rattle.ldecode.specs.Headline.{WorksOn}
 use Rattle.ldecode.specs.declared.status.Status.{Status}
 use Rattle.ldecode.specs.declared.status.Status.TheVariants.{Bind}
-use Rattle.ldecode.proofs.Stacked.{bound_listing, fresh, stack_asks, stack_refused, the_stack}
+use Rattle.ldecode.proofs.Stacked.{bound_nodes, stack_asks, stack_forest, stack_refused, the_stack}
 use Rattle.ldecode.proofs.Working.{binding_fails, decoding_ends, no_head_here, no_room, opening_fails}
 use Rattle.ldecode.proofs.decode_stack.decode_stack.Goals as goal
 
@@ -61,13 +68,19 @@ returns-clause-works g c =
     let new = g.K.Sink.written c.decode.new.sink in
     let left = g.S.Source.left in
     let asks = stack_asks values (names_of capture) (rate_of capture) accepted stacks bound.pins.items is_bound.read is_bound.reads is_bound.pins in
-    let lists = c.decode.ensures.lists opens.bytes opens.opened.0 opens.opened.1 (c.select.ensures.stands opens.bytes opens.opened.0 opens.opened.2) (fresh bound.machines.items is_bound.consumed) in
-    let same = bound_listing (names_of capture) (rate_of capture) accepted.instances bound is_bound c.in-Ok-bind.ensures.forest c.in-Ok-bind.ensures.kinds shown in
-    let lists_of = λ (f : List ℕ → List ℕ). Lists (form_of now) (pins_of now) (λ samples. Appends old new (f samples)) (λ samples. AppendsFront old new (f samples)) opens.bytes opens.opened.0 (left c.open.new.source) (left c.decode.new.source) c.decode.result in
-    let named = subst lists_of (λ i samples. same samples i) lists in
+    let lists = c.decode.ensures.lists opens.bytes opens.opened.0 opens.opened.1 (c.select.ensures.stands opens.bytes opens.opened.0 opens.opened.2) is_bound.consumed in
+    let lists_of = λ (some : List (Node Setup)). Lists (form_of now) (pins_of now) (λ samples. Appends old new (tree_listing outs_of accepted.instances shown some samples)) (λ samples. AppendsFront old new (tree_listing outs_of accepted.instances shown some samples)) opens.bytes opens.opened.0 (left c.open.new.source) (left c.decode.new.source) c.decode.result in
+    let named = subst lists_of (ap (λ (l : List (Option ℕ)). tree_nodes (map setup_of bound.machines.items) l) c.deref-2.ensures.value ∙ bound_nodes (names_of capture) (rate_of capture) accepted.instances bound is_bound) lists in
     subst (λ (status : Status). WorksOn values (left c.args.source.now) (left c.decode.new.source) old new status) (sym c.from.ensures)
     (decoding_ends values c.form_of.result c.form_of.ensures.named (inr (accepted, stacks)) (left c.args.source.now) (left c.open.new.source) old capture opens now bound.pins.items
     (c.select.ensures.form ∙ c.in-Ok-open.ensures.form) c.select.ensures.pins (left c.decode.new.source) new accepted nodes c.decode.result asks named)
 
 pub returns-in-Err-Fault-bind-clause-unread : goal.returns-in-Err-Fault-bind-clause-unread
 returns-in-Err-Fault-bind-clause-unread g c = λ names. c.in-Ok-open.ensures.unread (no_head_here (meaning_of c.args.settings.now) c.form_of.result c.form_of.ensures.named names)
+
+pub decode-requires-clause-forest : goal.decode-requires-clause-forest
+decode-requires-clause-forest g c =
+    let accepted = stack_meaning c.in-Ok.stack in
+    let bound = c.in-Ok-bind.bound in
+    let is_bound = subst (λ (n : List (List ℕ)). Binds MOST_PINS n c.rate.result accepted.instances (Ok bound)) c.names.ensures c.in-Ok-bind.ensures.binds in
+    subst IsForest (sym c.deref-2.ensures.value) (stack_forest accepted.instances bound.parents.items c.in-Ok-bind.ensures.forest is_bound.parents)
