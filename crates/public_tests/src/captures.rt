@@ -5,11 +5,11 @@ ghost use Rattle.la_io.specs.Capture.{AtEnd, Ends, Faulty};
 ghost use Rattle.la_io.specs.declared.fault.CaptureFault.TheVariants.{ShortUnit};
 ghost use Rattle.capture_raw.specs.Raw.{raw_capture, raw_names};
 
-use crate::rows::{bytes_of, numbers_of, parts_of, source_of};
+use crate::rows::{bytes_of, is_send, numbers_of, parts_of, source_of};
 use capture_any::{Capture, Form};
 use capture_raw::{RawReader, RawStep};
 use la_base::{MOST_PINS, Pins, Rate, Word};
-use la_io::{Failed, MemSource};
+use la_io::Failed;
 use std::alloc::Global;
 use std::process::Abort;
 use std::test::Fail;
@@ -69,36 +69,6 @@ const ANY_FORM: &str = "\
 64 1 8 [63] 0000000000000080 > [1] > None
 8 1 1 2 [0] 0100 > [1, 0] > Some(Read)";
 
-// What a row says: the numbers before its pins, the pins, the bytes, and what these give.
-#[derive(Drop)]
-struct Case<'a> {
-    channels: u64,
-    least: usize,
-    most: usize,
-    fails: Vec<u64>,
-    pins: Vec<u64>,
-    bytes: Vec<u8>,
-    want: &'a str,
-}
-
-fn case_of(alloc: Global, row: &str) -> Result<Case, Fail> {
-    let (numbers, pins, behind) = parts_of(row);
-    let (bytes, want) = behind.split_once("> ").unwrap_or(("", ""));
-    let numbers = numbers_of(alloc, numbers)?;
-    let [channels, least, most, fails @ ..] = numbers.as_slice() else {
-        return Err("a row has too few numbers".into());
-    };
-    Ok(Case {
-        channels: *channels,
-        least: *least as usize,
-        most: *most as usize,
-        fails: fails.to_vec(alloc)?,
-        pins: numbers_of(alloc, pins)?,
-        bytes: bytes_of(alloc, bytes)?,
-        want,
-    })
-}
-
 // The pins of these channels.
 fn chosen(rt: &impl Abort, channels: u32, pins: &[u64]) -> Pins
     ensures { (k : ℕ) → k < length result.items → slice_index result.items k < channels }
@@ -111,77 +81,61 @@ fn chosen(rt: &impl Abort, channels: u32, pins: &[u64]) -> Pins
     chosen
 }
 
-// A reader whose samples have these channels as bits.
-fn opened(rt: &impl Abort, channels: u64, pins: &[u64]) -> RawReader {
-    assert!(rt; 1 <= channels && channels <= 64);
+// What the raw reader gives of these bytes, in pieces of `size` and with these calls of the source failing: the value and
+// length of each run, each sample by itself, and the answer behind them. It is open behind runs alone.
+fn read_raw(
+    rt: &impl Abort,
+    alloc: Global,
+    (channels, pins): (u64, &[u64]),
+    bytes: &[u8],
+    size: usize,
+    fails: &[u64],
+) -> Result<(Vec<(Word, u64)>, Vec<Word>, Option<Result<RawStep, Failed>>), Fail> {
+    assert!(rt; 1 <= channels && channels <= 64 && 1 <= size);
+    let mut source = source_of(alloc, bytes, size, fails)?;
     let mut reader = RawReader::open(channels as u32, RATE);
+    is_send(&reader);
     reader.select(chosen(rt, channels as u32, pins));
-    reader
-}
-
-// What the raw reader gave: the value and length of each run, and the answer behind them.
-#[derive(Drop)]
-struct Given {
-    runs: Vec<(Word, u64)>,
-    last: Option<Result<RawStep, Failed>>,
-}
-
-// Reads to the end, and sees that the reader is open behind runs alone.
-fn read_all(alloc: Global, mut reader: RawReader, mut source: MemSource) -> Result<Given, Fail> {
     let mut runs = Vec::new(alloc);
+    let mut samples = Vec::new(alloc);
     let mut last = None;
     for _ in 0..MANY {
         if !reader.is_open() {
             break;
         }
         match reader.next(&mut source) {
-            Ok(RawStep::Run(run)) => runs.push((run.value, run.len))?,
+            Ok(RawStep::Run(run)) => {
+                runs.push((run.value, run.len))?;
+                for _ in 0..run.len {
+                    samples.push(run.value)?;
+                }
+            }
             end => {
                 last = Some(end);
-                if reader.is_open() {
-                    return Err("open behind the last answer".into());
-                }
+                assert!(rt; !reader.is_open());
             }
         }
     }
-    Ok(Given { runs, last })
+    Ok((runs, samples, last))
 }
 
-// Each sample by itself.
-fn samples_in(alloc: Global, runs: &[(Word, u64)]) -> Result<Vec<Word>, Fail> {
-    let mut samples = Vec::new(alloc);
-    for (value, len) in runs {
-        for _ in 0..*len {
-            samples.push(*value)?;
-        }
-    }
-    Ok(samples)
-}
-
-// Whether the raw reader gives what its row says, in runs or in samples.
-fn raw_holds(rt: &impl Abort, alloc: Global, case: &Case, size: usize) -> Result<bool, Fail>
-    requires { 1 ≤ size }
-{
-    let source = source_of(alloc, &case.bytes, size, &case.fails)?;
-    let given = read_all(alloc, opened(rt, case.channels, &case.pins), source)?;
-    let samples = samples_in(alloc, &given.runs)?;
-    let by_samples = format!(in alloc; "{:?} > {:?}", samples.as_slice(), given.last)?;
-    let by_runs = format!(in alloc; "{:?} > {:?}", given.runs.as_slice(), given.last)?;
-    Ok(by_samples.as_str() == case.want || by_runs.as_str() == case.want)
-}
-
-// Whether a capture of any form gives what its row says, and isn't open behind it.
-fn any_holds(rt: &impl Abort, alloc: Global, case: &Case, size: usize) -> Result<bool, Fail>
-    requires { 1 ≤ size }
-{
-    let mut source = source_of(alloc, &case.bytes, size, &case.fails)?;
-    assert!(rt; 1 <= case.channels && case.channels <= 64);
+// The samples that a capture of any form gives of these bytes, and the error behind them. It isn't open then.
+fn read_any(
+    rt: &impl Abort,
+    alloc: Global,
+    (channels, pins): (u64, &[u64]),
+    bytes: &[u8],
+    size: usize,
+    fails: &[u64],
+) -> Result<String, Fail> {
+    assert!(rt; 1 <= channels && channels <= 64 && 1 <= size);
+    let mut source = source_of(alloc, bytes, size, fails)?;
     let form = Form::Raw {
-        channels: case.channels as u32,
+        channels: channels as u32,
         rate: RATE,
     };
     let mut capture = Capture::open(alloc, form, &mut source)?;
-    let pins = chosen(rt, capture.names().count(), &case.pins);
+    let pins = chosen(rt, capture.names().count(), pins);
     capture.select(pins);
     let mut samples = Vec::new(alloc);
     let mut last = None;
@@ -199,8 +153,8 @@ fn any_holds(rt: &impl Abort, alloc: Global, case: &Case, size: usize) -> Result
             Err(error) => last = Some(error),
         }
     }
-    let told = format!(in alloc; "{:?} > {:?}", samples.as_slice(), last)?;
-    Ok(!capture.is_open() && told.as_str() == case.want)
+    assert!(rt; !capture.is_open());
+    Ok(format!(in alloc; "{:?} > {:?}", samples.as_slice(), last)?)
 }
 
 #[test]
@@ -211,37 +165,35 @@ fn rows_of_captures(rt: HostRuntime) -> Result<(), Fail> {
             if row.starts_with('#') {
                 continue;
             }
-            let case = case_of(alloc, row)?;
-            for size in case.least..=case.most {
-                assert!(rt; size >= 1);
-                let holds = if any_form {
-                    any_holds(&rt, alloc, &case, size)?
-                } else {
-                    raw_holds(&rt, alloc, &case, size)?
-                };
-                assert!(rt; holds, "{row}");
+            let (numbers, pins, behind) = parts_of(row);
+            let (bytes, want) = behind.split_once("> ").unwrap_or(("", ""));
+            let bytes = bytes_of(alloc, bytes)?;
+            let pins = numbers_of(alloc, pins)?;
+            let numbers = numbers_of(alloc, numbers)?;
+            let [channels, least, most, fails @ ..] = numbers.as_slice() else {
+                return Err("a row has too few numbers".into());
+            };
+            let of = (*channels, pins.as_slice());
+            for size in *least as usize..=*most as usize {
+                if any_form {
+                    let told = read_any(&rt, alloc, of, &bytes, size, fails)?;
+                    assert!(rt; told.as_str() == want, "{row}");
+                    continue;
+                }
+                let (runs, samples, last) = read_raw(&rt, alloc, of, &bytes, size, fails)?;
+                let by_runs = format!(in alloc; "{:?} > {last:?}", runs.as_slice())?;
+                let by_samples = format!(in alloc; "{:?} > {last:?}", samples.as_slice())?;
+                assert!(rt;
+                    by_runs.as_str() == want || by_samples.as_str() == want,
+                    "{row}"
+                );
             }
         }
     }
     Ok(())
 }
 
-// The sample of a unit: bit j is bit `pins[j]` of the unit, whose lowest byte comes first.
-fn plain_sample(pins: &[u64], unit: &[u8]) -> Result<Word, Fail> {
-    let mut sample = 0;
-    for place in 0..MOST_PINS {
-        let Some(pin) = pins.get(place as usize) else {
-            break;
-        };
-        let byte = unit.get((*pin / 8) as usize).ok_or("no such channel")?;
-        if byte >> (*pin % 8) & 1 == 1 {
-            sample |= 1 << place;
-        }
-    }
-    Ok(sample)
-}
-
-// The samples of bytes, unit by unit.
+// The samples of bytes, unit by unit: bit j of a sample is bit `pins[j]` of the unit, whose lowest byte comes first.
 fn plain_samples(
     alloc: Global,
     channels: u64,
@@ -252,18 +204,19 @@ fn plain_samples(
 {
     let mut samples = Vec::new(alloc);
     for unit in bytes.chunks_exact(channels.div_ceil(8) as usize) {
-        samples.push(plain_sample(pins, unit)?)?;
+        let mut sample = 0;
+        for place in 0..MOST_PINS {
+            let Some(pin) = pins.get(place as usize) else {
+                break;
+            };
+            let byte = unit.get((*pin / 8) as usize).ok_or("no such channel")?;
+            if byte >> (*pin % 8) & 1 == 1 {
+                sample |= 1 << place;
+            }
+        }
+        samples.push(sample)?;
     }
     Ok(samples)
-}
-
-// The number that comes next where numbers shall look random (xorshift).
-fn next_random(number: u64) -> u64 {
-    let mut next = number;
-    next ^= next << 13;
-    next ^= next >> 7;
-    next ^= next << 17;
-    next
 }
 
 // Bytes of units whose neighbours differ in noise alone, but for one channel, that changes behind
@@ -274,12 +227,15 @@ fn stretches(alloc: Global, channels: u64, noise: u64, most: u32) -> Result<Vec<
 {
     let unit = channels.div_ceil(8) as usize;
     let mut bytes = Vec::new(alloc);
-    let mut random = 1;
+    let mut random: u64 = 1;
     let mut value: u64 = 0x1234_5678_9abc_def0;
     for len in 1..most {
         value ^= 1 << (channels - 1);
         for _ in 0..len {
-            random = next_random(random);
+            // numbers that look like chance (xorshift)
+            random ^= random << 13;
+            random ^= random >> 7;
+            random ^= random << 17;
             let number = (value ^ (random & noise)).to_le_bytes();
             bytes.extend_from_slice(&number[..unit])?;
         }
@@ -287,29 +243,14 @@ fn stretches(alloc: Global, channels: u64, noise: u64, most: u32) -> Result<Vec<
     Ok(bytes)
 }
 
-// Whether a reader gives the samples of the plain program, in pieces of each size.
-fn are_plain(
-    rt: &impl Abort,
-    alloc: Global,
-    channels: u64,
-    pins: &[u64],
-    bytes: &[u8],
-) -> Result<bool, Fail>
-    requires { 1 ≤ channels }
-{
-    let plain = plain_samples(alloc, channels, pins, bytes)?;
-    for size in [1, 7, 64, 1000, 100_000] {
-        let source = source_of(alloc, bytes, size, &[])?;
-        let given = read_all(alloc, opened(rt, channels, pins), source)?;
-        if samples_in(alloc, &given.runs)?.as_slice() != plain.as_slice() {
-            return Ok(false);
-        }
-    }
-    Ok(true)
-}
+// The definition's names, written out; and what it gives for units of two bytes that end inside the third.
+fn worked_captures()
+    ensures names { raw_names 3 ≡ codes "D0" ∷ codes "D1" ∷ codes "D2" ∷ [] }
+    ensures unit { (rate : ItsRate) → Ends (raw_capture 9 rate (8 ∷ []) (0 ∷ 0 ∷ 1 ∷ 1 ∷ 2 ∷ []) AtEnd) (0 ∷ 1 ∷ []) (Faulty (ShortUnit 4)) }
+{}
 
 #[test]
-fn samples_are_those_of_each_unit_by_itself(rt: HostRuntime) -> Result<(), Fail> {
+fn samples_and_head_of_a_raw_capture(rt: HostRuntime) -> Result<(), Fail> {
     let alloc = rt.alloc();
     for channels in [1, 8, 9, 16, 17, 64] {
         assert!(rt; 1 <= channels && channels <= 64);
@@ -324,54 +265,43 @@ fn samples_are_those_of_each_unit_by_itself(rt: HostRuntime) -> Result<(), Fail>
             let bytes = stretches(alloc, channels, noise, most)?;
             let lists: [&[u64]; 6] = [&[], &[0], &[high], &[0, high], &[high, 0], &[channels / 2]];
             for pins in lists {
-                assert!(rt;
-                    are_plain(&rt, alloc, channels, pins, &bytes)?,
-                    "{channels} {pins:?}"
-                );
+                let plain = plain_samples(alloc, channels, pins, &bytes)?;
+                for size in [1, 7, 64, 1000, 100_000] {
+                    let (_, samples, _) = read_raw(
+                        &rt,
+                        alloc,
+                        (channels, pins),
+                        &bytes,
+                        size,
+                        &[],
+                    )?;
+                    assert!(rt;
+                        samples.as_slice() == plain.as_slice(),
+                        "{channels} {pins:?}"
+                    );
+                }
             }
         }
     }
-    Ok(())
-}
-
-fn is_send<T: Send>(_: &T) {}
-
-#[test]
-fn the_head_of_a_raw_capture(rt: HostRuntime) -> Result<(), Fail> {
-    is_send(&opened(&rt, 8, &[0]));
-    let mut source = source_of(rt.alloc(), &[], 1, &[0])?;
+    // names, rate, and no read
+    let mut source = source_of(alloc, &[], 1, &[0])?;
     let form = Form::Raw {
         channels: 12,
         rate: RATE,
     };
-    let capture = Capture::open(rt.alloc(), form, &mut source)?;
+    let capture = Capture::open(alloc, form, &mut source)?;
     is_send(&capture);
     let names = capture.names();
-    let found = [
-        names.find(b"D0"),
-        names.find(b"D11"),
-        names.find(b"D12"),
-        names.find(b"d1"),
-    ];
     assert!(rt; names.count() == 12 && capture.rate() == RATE && capture.is_open());
-    assert!(rt; found == [Some(0), Some(11), None, None]);
-    Ok(())
-}
-
-// The definition's names, written out.
-fn names_are_numbered()
-    ensures { raw_names 3 ≡ codes "D0" ∷ codes "D1" ∷ codes "D2" ∷ [] }
-{}
-
-// What the definition gives for units of two bytes that end inside the third.
-fn a_short_unit()
-    ensures { (rate : ItsRate) → Ends (raw_capture 9 rate (8 ∷ []) (0 ∷ 0 ∷ 1 ∷ 1 ∷ 2 ∷ []) AtEnd) (0 ∷ 1 ∷ []) (Faulty (ShortUnit 4)) }
-{}
-
-#[test]
-fn laws_are_called() {
-    names_are_numbered();
-    a_short_unit();
+    for (name, channel) in [
+        ("D0", Some(0)),
+        ("D11", Some(11)),
+        ("D12", None),
+        ("d1", None),
+    ] {
+        assert!(rt; names.find(name.as_bytes()) == channel, "{name}");
+    }
+    worked_captures();
     capture_raw::longer_extends();
     capture_raw::fault_stays();
     capture_raw::stands_fixes();
@@ -382,4 +312,5 @@ fn laws_are_called() {
     capture_any::head_stays();
     capture_any::pins_leave_the_head();
     capture_any::given_is_front();
+    Ok(())
 }

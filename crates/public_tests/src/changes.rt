@@ -1,8 +1,7 @@
-ghost use Rattle.std.specs.Prelude.{◌≤◌};
-
+// Value change dumps through their reader.
+use crate::rows::source_of;
 use capture_vcd::*;
 use la_base::{Pins, Run};
-use la_io::MemSource;
 use std::alloc::Global;
 use std::process::Abort;
 use std::test::Fail;
@@ -87,132 +86,63 @@ const HELD: [(u64, &str, &str); 12] = [
     ),
 ];
 
-// Headers at fault.
-const HEADERS: [(&str, &str); 18] = [
-    ("", "Fault(NoDefinitions)"),
-    ("$timescale 1 ns $end", "Fault(NoDefinitions)"),
+// Headers at fault, of one unit a sample.
+const HEADERS: [(u64, &str, &str); 18] = [
+    (1, "", "Fault(NoDefinitions)"),
+    (1, "$timescale 1 ns $end", "Fault(NoDefinitions)"),
     (
+        1,
         "$timescale 1 n s $end $enddefinitions",
         "Fault(NoDefinitions)",
     ),
-    ("$enddefinitions $end", "Fault(NoTimescale)"),
+    (1, "$enddefinitions $end", "Fault(NoTimescale)"),
     (
+        1,
         "$version $enddefinitions $end $timescale",
         "Fault(NoDefinitions)",
     ),
-    ("$timescale $end", "Fault(Token { at: 11 })"),
-    ("$timescale 2 ns $end", "Fault(Token { at: 11 })"),
-    ("$timescale 1 1 ns $end", "Fault(Token { at: 11 })"),
-    ("$timescale 1000 s $end", "Fault(Token { at: 11 })"),
-    ("$timescale 100 ks $end", "Fault(Token { at: 11 })"),
-    ("$end x $var wire 1 ! $end", "Fault(Token { at: 7 })"),
-    ("$var wire 0 ! A $end", "Fault(Token { at: 0 })"),
-    ("$var wire 65536 ! A $end", "Fault(Token { at: 0 })"),
-    ("$var wire +1 ! A $end", "Fault(Token { at: 0 })"),
-    ("$var real x \u{7f} A $end", "Fault(Token { at: 0 })"),
-    ("$var real x ! A $end", "Fault(NoDefinitions)"),
-    ("$var wire 65535 ! A $end", "Fault(TooMany { at: 0 })"),
+    (1, "$timescale $end", "Fault(Token { at: 11 })"),
+    (1, "$timescale 2 ns $end", "Fault(Token { at: 11 })"),
+    (1, "$timescale 1 1 ns $end", "Fault(Token { at: 11 })"),
+    (1, "$timescale 1000 s $end", "Fault(Token { at: 11 })"),
+    (1, "$timescale 100 ks $end", "Fault(Token { at: 11 })"),
+    (1, "$end x $var wire 1 ! $end", "Fault(Token { at: 7 })"),
+    (1, "$var wire 0 ! A $end", "Fault(Token { at: 0 })"),
+    (1, "$var wire 65536 ! A $end", "Fault(Token { at: 0 })"),
+    (1, "$var wire +1 ! A $end", "Fault(Token { at: 0 })"),
+    (1, "$var real x \u{7f} A $end", "Fault(Token { at: 0 })"),
+    (1, "$var real x ! A $end", "Fault(NoDefinitions)"),
+    (1, "$var wire 65535 ! A $end", "Fault(TooMany { at: 0 })"),
     (
+        1,
         "$var wire 4096 ! A $end $var wire 1 ! B $end",
         "Fault(TooMany { at: 24 })",
     ),
 ];
 
-// A source of these bytes in pieces of `size`, whose calls of these numbers, from 0 on, fail.
-fn source_of(alloc: Global, bytes: &[u8], size: usize, fails: &[u64]) -> Result<MemSource, Fail>
-    requires { 1 ≤ size }
-{
-    let mut pieces = Vec::new(alloc);
-    for piece in bytes.chunks(size) {
-        pieces.push(piece.to_vec(alloc)?)?;
-    }
-    Ok(MemSource::new(pieces, fails.to_vec(alloc)?))
-}
-
-// Tells a run, if there is one.
-fn tell(alloc: Global, told: &mut String, run: Option<Run>) -> Result<(), Fail> {
-    if let Some(run) = run {
-        told.push_str(&format!(in alloc; "{}x{} ", run.value, run.len)?)?;
-    }
-    Ok(())
-}
-
-// The runs of so many channels from the first on, each a value and a length, and how the capture
-// ends.
+// The runs of so many channels from the first on, each a value and a length, and how the capture ends. Where they are
+// joined, it has one channel: neighbouring runs of one value are one, and what is held is taken before each call of
+// `next`. The calls of the source of these numbers, from 0 on, fail.
 fn read(
     rt: &impl Abort,
     alloc: Global,
-    down: u64,
-    wide: u32,
-    text: &str,
-    size: usize,
-) -> Result<String, Fail>
-    requires wide { wide ≤ 64 }
-    requires some { 1 ≤ down }
-    requires few { down ≤ 1000000000 }
-    requires size { 1 ≤ size }
-{
-    let mut source = source_of(alloc, text.as_bytes(), size, &[])?;
-    let mut reader = match VcdReader::open(alloc, down, &mut source) {
-        Ok(reader) => reader,
-        Err(error) => return Ok(format!(in alloc; "{error:?}")?),
-    };
-    assert!(rt; wide <= reader.names().count());
-    let mut pins = Pins::new();
-    for pin in 0..wide {
-        pins.push(pin);
-    }
-    reader.select(pins);
-    let mut told = String::new(alloc);
-    for _ in 0..100 {
-        if !reader.is_open() {
-            break;
-        }
-        match reader.next(&mut source) {
-            Ok(Some(run)) => tell(alloc, &mut told, Some(run))?,
-            Ok(None) => told.push_str("end")?,
-            Err(error) => told.push_str(&format!(in alloc; "{error:?}")?)?,
-        }
-    }
-    Ok(told)
-}
-
-// A run joined to the last one, where both have one value; else the last one is told.
-fn join(alloc: Global, told: &mut String, last: Option<Run>, run: Run) -> Result<Run, Fail> {
-    match last {
-        Some(before) if before.value == run.value => Ok(Run {
-            value: run.value,
-            len: before.len.saturating_add(run.len),
-        }),
-        _ => {
-            tell(alloc, told, last)?;
-            Ok(run)
-        }
-    }
-}
-
-// The same of one channel, with neighbouring runs of one value joined, and with calls of the source that
-// fail. What is held is taken before each call of `next`.
-fn read_joined(
-    rt: &impl Abort,
-    alloc: Global,
-    down: u64,
+    (down, wide, joined): (u64, u32, bool),
     text: &str,
     size: usize,
     fails: &[u64],
-) -> Result<String, Fail>
-    requires some { 1 ≤ down }
-    requires few { down ≤ 1000000000 }
-    requires size { 1 ≤ size }
-{
+) -> Result<String, Fail> {
+    assert!(rt; 1 <= down && down <= 1_000_000_000 && wide <= 64 && 1 <= size);
     let mut source = source_of(alloc, text.as_bytes(), size, fails)?;
     let mut reader = match VcdReader::open(alloc, down, &mut source) {
         Ok(reader) => reader,
         Err(error) => return Ok(format!(in alloc; "{error:?}")?),
     };
-    assert!(rt; reader.names().count() == 1);
+    let count = reader.names().count();
+    assert!(rt; wide <= count && (!joined || count == 1));
     let mut pins = Pins::new();
-    pins.push(0);
+    for pin in 0..wide {
+        pins.push(pin);
+    }
     reader.select(pins);
     let mut told = String::new(alloc);
     let mut last: Option<Run> = None;
@@ -220,67 +150,32 @@ fn read_joined(
         if !reader.is_open() {
             break;
         }
-        let run = match reader.held_run() {
+        let held = if joined { reader.held_run() } else { None };
+        let answer = match held {
             Some(run) => Ok(Some(run)),
             None => reader.next(&mut source),
         };
-        match run {
-            Ok(Some(run)) => last = Some(join(alloc, &mut told, last, run)?),
-            Ok(None) => {
-                tell(alloc, &mut told, last)?;
-                told.push_str("end")?;
+        let (run, end) = match answer {
+            Ok(Some(run)) => (Some(run), String::new(alloc)),
+            Ok(None) => (None, String::from_str(alloc, "end")?),
+            Err(error) => (None, format!(in alloc; "{error:?}")?),
+        };
+        last = match (last, run) {
+            (Some(before), Some(run)) if joined && before.value == run.value => Some(Run {
+                value: run.value,
+                len: before.len.saturating_add(run.len),
+            }),
+            (Some(before), run) => {
+                write!(told, "{}x{} {end}", before.value, before.len)?;
+                run
             }
-            Err(error) => {
-                tell(alloc, &mut told, last)?;
-                told.push_str(&format!(in alloc; "{error:?}")?)?;
+            (None, run) => {
+                told.push_str(end.as_str())?;
+                run
             }
-        }
+        };
     }
     Ok(told)
-}
-
-#[test]
-fn bodies(rt: HostRuntime) -> Result<(), Fail> {
-    for (down, body, want) in BODIES {
-        assert!(rt; 1 <= down && down <= 1_000_000_000);
-        for size in [1, 7, 1000] {
-            let text = format!(in rt.alloc(); "{ONE}{body}")?;
-            let told = read(&rt, rt.alloc(), down, 1, &text, size)?;
-            assert_eq!(rt; told.as_str(), want, "{body}");
-        }
-    }
-    Ok(())
-}
-
-#[test]
-fn samples_that_are_held_back(rt: HostRuntime) -> Result<(), Fail> {
-    for (down, body, want) in HELD {
-        assert!(rt; 1 <= down && down <= 1_000_000_000);
-        for size in [1, 7, 1000] {
-            let text = format!(in rt.alloc(); "{ONE}{body}")?;
-            let told = read_joined(&rt, rt.alloc(), down, &text, size, &[])?;
-            assert_eq!(rt; told.as_str(), want, "{body}");
-        }
-    }
-    // one run of all that are held, and none is lost where a read fails
-    let text = format!(in rt.alloc(); "{ONE}#0 0! #2 1! #5 #9 #12 0! ")?;
-    let told = read(&rt, rt.alloc(), 1, 1, &text, 1000)?;
-    assert_eq!(rt; told.as_str(), "0x2 1x10 0x1 end");
-    let told = read_joined(&rt, rt.alloc(), 1, &text, 1000, &[1])?;
-    assert_eq!(rt; told.as_str(), "0x2 1x10 Read");
-    Ok(())
-}
-
-#[test]
-fn headers(rt: HostRuntime) -> Result<(), Fail> {
-    for (text, want) in HEADERS {
-        for size in [1, 7, 1000] {
-            let told = read(&rt, rt.alloc(), 1, 1, text, size)?;
-            assert_eq!(rt; told.as_str(), want, "{text}");
-        }
-    }
-    laws();
-    Ok(())
 }
 
 // a vector, a real, and two variables of one code
@@ -289,23 +184,36 @@ const WIDE: &str = "$timescale 10ns $end\n$var wire 4 ! q $end\n$var real 64 \" 
     $dumpvars b1 ! r0 \" $end\n#4\n#5 b1010 !\n#6 bx1 !\n#7\n";
 
 #[test]
-fn several_channels(rt: HostRuntime) -> Result<(), Fail> {
-    let told = read(&rt, rt.alloc(), 1, 5, WIDE, 9)?;
-    assert_eq!(rt; told.as_str(), "17x1 10x1 17x1 17x1 end");
-    let mut source = source_of(rt.alloc(), WIDE.as_bytes(), 9, &[])?;
-    if let Ok(reader) = VcdReader::open(rt.alloc(), 20, &mut source) {
-        assert_eq!(rt; reader.names().count(), 5);
-        assert_eq!(rt; reader.names().find(b"q.3"), Some(3));
-        assert_eq!(rt; reader.names().find(b"other[3]"), Some(4));
-        assert_eq!(rt;
-            (reader.rate().num, reader.rate().den),
-            (1_000_000_000, 200)
-        );
+fn captures_of_changes(rt: HostRuntime) -> Result<(), Fail> {
+    let alloc = rt.alloc();
+    for (table, header, joined) in [
+        (BODIES.as_slice(), ONE, false),
+        (HELD.as_slice(), ONE, true),
+        (HEADERS.as_slice(), "", false),
+    ] {
+        for (down, text, want) in table {
+            for size in [1, 7, 1000] {
+                let file = format!(in alloc; "{header}{text}")?;
+                let told = read(&rt, alloc, (*down, 1, joined), &file, size, &[])?;
+                assert!(rt; told.as_str() == *want, "{text}");
+            }
+        }
     }
-    Ok(())
-}
-
-fn laws() {
+    // one run of all that are held, and none is lost where a read fails
+    let text = format!(in alloc; "{ONE}#0 0! #2 1! #5 #9 #12 0! ")?;
+    let told = read(&rt, alloc, (1, 1, false), &text, 1000, &[])?;
+    assert!(rt; told.as_str() == "0x2 1x10 0x1 end");
+    let told = read(&rt, alloc, (1, 1, true), &text, 1000, &[1])?;
+    assert!(rt; told.as_str() == "0x2 1x10 Read");
+    let told = read(&rt, alloc, (1, 5, false), WIDE, 9, &[])?;
+    assert!(rt; told.as_str() == "17x1 10x1 17x1 17x1 end");
+    let mut source = source_of(alloc, WIDE.as_bytes(), 9, &[])?;
+    if let Ok(reader) = VcdReader::open(alloc, 20, &mut source) {
+        assert!(rt; reader.names().count() == 5);
+        assert!(rt; reader.names().find(b"q.3") == Some(3));
+        assert!(rt; reader.names().find(b"other[3]") == Some(4));
+        assert!(rt; (reader.rate().num, reader.rate().den) == (1_000_000_000, 200));
+    }
     worked_files_hold();
     faults_hold();
     sparse_holds();
@@ -314,4 +222,5 @@ fn laws() {
     pins_leave_the_head();
     pins_leave_the_ending();
     given_is_front();
+    Ok(())
 }

@@ -1,10 +1,7 @@
 use crate::rows::parts_of;
 use std::alloc::Global;
 use std::test::Fail;
-use words::{
-    Format, Job, Name, OPTIONS, Settings, Takes, WordsError, clap_reads_the_uses,
-    options_are_whole, read_words,
-};
+use words::{Format, Job, WordsError, read_words};
 
 // A row has words between brackets, before them how many words `a` stand in front, and behind them what
 // they give. In a word a star stands before the number of bytes `x` that go on; a dot stands for no word.
@@ -180,91 +177,63 @@ pub const TEXTS: &str = "\
 [D0=q a a a a a a a a a a a a a a a a a a a a a a a] 0:D0=q 1:a 2:a 3:a 4:a 5:a 6:a 7:a 8:a 9:a 10:a 11:a 12:a 13:a 14:a 15:a 16:a 17:a 18:a 19:a 20:a 21:a 22:a 23:a
 [a=h a=l a=r a=f a=e a=s a=h a=h --job=find] 0:a=h 1:a=l 2:a=r 3:a=f 4:a=e 5:a=s 6:a=h 7:a=h";
 
-// A word of a row.
-fn word_of(alloc: Global, text: &str) -> Result<String, Fail> {
-    let (begin, more) = text.split_once('*').unwrap_or((text, "0"));
-    let mut word = String::from_str(alloc, begin)?;
-    for _ in 0..more.parse::<u32>().unwrap_or(0) {
-        word.push_str("x")?;
-    }
-    Ok(word)
-}
-
-// What words give. They stand between single blanks, so that two blanks have an empty word between them.
-fn read(alloc: Global, count: &str, line: &str) -> Result<Result<Settings, WordsError>, Fail> {
-    let mut words = Vec::new(alloc);
-    for _ in 0..count.parse::<u32>().unwrap_or(0) {
-        words.push(word_of(alloc, "a")?)?;
-    }
-    for word in line.split(' ') {
-        if word != "." {
-            words.push(word_of(alloc, word)?)?;
-        }
-    }
-    Ok(read_words(alloc, &words))
-}
-
-// What options set.
-fn values(alloc: Global, settings: &Settings) -> Result<String, Fail> {
-    let job = if settings.job == Job::Find {
-        "find"
-    } else {
-        "decode"
-    };
-    let threads = if settings.threads { "yes" } else { "no" };
-    let mut told = format!(in alloc;
-        "{job} {} {}/{} {threads} {}",
-        settings.channels, settings.rate.num, settings.rate.den, settings.ring
-    )?;
-    if settings.format == Format::Vcd {
-        told.push_str(format!(in alloc; " vcd {}", settings.down)?.as_str())?;
-    }
-    Ok(told)
-}
-
-// The decoders that are shown, and the other words.
-fn texts(alloc: Global, settings: &Settings) -> Result<String, Fail> {
-    let mut told = String::new(alloc);
-    if let Some(show) = &settings.show {
-        told.push_str(format!(in alloc; "{}:{} of ", show.word, show.text)?.as_str())?;
-    }
-    for chain in &settings.chains {
-        told.push_str(format!(in alloc; "{}:{} ", chain.word, chain.text)?.as_str())?;
-    }
-    Ok(told)
-}
-
-/// Whether words give what their row says: their fault, or what they set.
+/// Whether words give what their row says: their fault, or what they set. They stand between single blanks, so that two
+/// blanks have an empty word between them.
 pub fn holds(alloc: Global, row: &str) -> Result<bool, Fail> {
     let (count, line, want) = parts_of(row);
-    Ok(match read(alloc, count, line)? {
-        Ok(settings) => {
-            values(alloc, &settings)?.as_str() == want
-                || texts(alloc, &settings)?.as_str().trim_end() == want
+    let mut words = Vec::new(alloc);
+    for _ in 0..count.parse::<u32>().unwrap_or(0) {
+        words.push(String::from_str(alloc, "a")?)?;
+    }
+    for text in line.split(' ') {
+        let (begin, more) = text.split_once('*').unwrap_or((text, "0"));
+        let mut word = String::from_str(alloc, begin)?;
+        for _ in 0..more.parse::<u32>().unwrap_or(0) {
+            word.push_str("x")?;
         }
+        if text != "." {
+            words.push(word)?;
+        }
+    }
+    let settings = match read_words(alloc, &words) {
+        Ok(settings) => settings,
         Err(WordsError::Fault(fault)) => {
             let told = format!(in alloc; "{} {} {:?}", fault.word, fault.at, fault.why)?;
-            told.as_str() == want
+            return Ok(told.as_str() == want);
         }
-        Err(WordsError::NoMemory) => false,
-    })
+        Err(WordsError::NoMemory) => return Ok(false),
+    };
+    let find = settings.job == Job::Find;
+    let mut values = format!(in alloc;
+        "{} {} {}/{} {} {}",
+        if find { "find" } else { "decode" },
+        settings.channels,
+        settings.rate.num,
+        settings.rate.den,
+        if settings.threads { "yes" } else { "no" },
+        settings.ring
+    )?;
+    if settings.format == Format::Vcd {
+        write!(values, " vcd {}", settings.down)?;
+    }
+    let mut texts = String::new(alloc);
+    if let Some(show) = &settings.show {
+        write!(texts, "{}:{} of ", show.word, show.text)?;
+    }
+    for chain in &settings.chains {
+        write!(texts, "{}:{} ", chain.word, chain.text)?;
+    }
+    Ok(values.as_str() == want || texts.as_str().trim_end() == want)
 }
 
-#[test]
-fn tells_options(rt: HostRuntime) -> Result<(), Fail> {
-    let alloc = rt.alloc();
-    let mut told = String::new(alloc);
-    for option in OPTIONS {
-        let row = option.row();
-        let usual = row.usual.unwrap_or("none");
-        told.push_str(format!(in alloc; "{} ({}) {usual}\n", row.name, row.takes)?.as_str())?;
-    }
-    assert_eq!(rt;
-        told.as_str(),
-        "job (decode, find) decode\nformat (raw, vcd) raw\nchannels (1 to 64) 8\nrate (N or N/D, N 1 to 1000000000000000, D 1 to 1000000000) 1000000\ndown (1 to 1000000000) 1\nthreads (yes, no) yes\nring (1 to 16384) 256\nshow (text) all\n"
-    );
-    assert!(rt; matches!(Name::Show.row().takes, Takes::Text));
-    options_are_whole();
-    clap_reads_the_uses();
-    Ok(())
-}
+/// What the table of options tells of each: its name, the values that it takes and the usual one.
+pub const OPTIONS_TOLD: &str = "\
+job (decode, find) decode
+format (raw, vcd) raw
+channels (1 to 64) 8
+rate (N or N/D, N 1 to 1000000000000000, D 1 to 1000000000) 1000000
+down (1 to 1000000000) 1
+threads (yes, no) yes
+ring (1 to 16384) 256
+show (text) all
+";

@@ -1,8 +1,11 @@
+// Lists that are cut, and notes that are put in order.
 ghost use Rattle.std.specs.Prelude.{◌==◌};
 
+use la_base::Note;
 use list_cuts::*;
-use std::process::Abort;
-use std::test::Fail;
+use note_order::{
+    Entry, instances_make_the_listing, one_order, order_keeps_each_instance, sort_entries,
+};
 
 // The numbers that equal one.
 #[derive(Clone, Copy)]
@@ -16,101 +19,84 @@ impl Test<u64> for Is {
     }
 }
 
-fn check_lists(rt: &impl Abort, lists: &Vec<Vec<u64>>, want: &[&[u64]]) {
-    assert_eq!(rt; lists.len(), want.len());
-    for (list, want) in lists.iter().zip(want) {
-        assert_eq!(rt; list.as_slice(), *want);
+const LIST: [u64; 7] = [5, 6, 7, 8, 9, 10, 11];
+
+// The groups of a size in that list, and how many numbers are in them.
+const GROUPS: [(usize, &[&[u64]], usize); 6] = [
+    (3, &[&[5, 6, 7], &[8, 9, 10]], 6),
+    (4, &[&[5, 6, 7, 8]], 4),
+    (7, &[&[5, 6, 7, 8, 9, 10, 11]], 7),
+    (8, &[], 0),
+    (1, &[&[5], &[6], &[7], &[8], &[9], &[10], &[11]], 7),
+    (0, &[], 0),
+];
+
+// Lists, and their parts from each 0 on.
+const PARTS: [(&[u64], &[&[u64]]); 4] = [
+    (&[4, 0, 1, 2, 0, 0, 3], &[&[0, 1, 2], &[0], &[0, 3]]),
+    (&[0], &[&[0]]),
+    (&[1, 2], &[]),
+    (&[], &[]),
+];
+
+// Lists, and where the last 7 stands.
+const LAST: [(&[u64], Option<usize>, Option<u64>); 5] = [
+    (&[7, 2, 7, 3], Some(2), Some(7)),
+    (&[7, 2, 2, 3], Some(0), Some(7)),
+    (&[1, 2, 3, 7], Some(3), Some(7)),
+    (&[1, 2, 3, 4], None, None),
+    (&[], None, None),
+];
+
+#[test]
+fn lists_are_cut(rt: HostRuntime) {
+    let alloc = rt.alloc();
+    for (size, groups, count) in GROUPS {
+        let found = groups_of(alloc, size, &LIST).expect(&rt, "memory");
+        assert!(rt; found.len() == groups.len());
+        for (list, want) in found.iter().zip(groups) {
+            assert!(rt; list.as_slice() == *want);
+        }
+        assert!(rt; after_groups_of(size, &LIST) == &LIST[count..], "{size}");
     }
-}
-
-#[test]
-fn groups_of_a_size(rt: HostRuntime) -> Result<(), Fail> {
-    let list = [5, 6, 7, 8, 9, 10, 11];
-    check_lists(
-        &rt,
-        &groups_of(rt.alloc(), 3, &list)?,
-        &[&[5, 6, 7], &[8, 9, 10]],
-    );
-    check_lists(&rt, &groups_of(rt.alloc(), 4, &list)?, &[&[5, 6, 7, 8]]);
-    check_lists(
-        &rt,
-        &groups_of(rt.alloc(), 7, &list)?,
-        &[&[5, 6, 7, 8, 9, 10, 11]],
-    );
-    check_lists(&rt, &groups_of(rt.alloc(), 8, &list)?, &[]);
-    check_lists(&rt, &groups_of(rt.alloc(), 0, &list)?, &[]);
-    for (size, want) in [(3, 6), (4, 4), (7, 7), (8, 0), (1, 7), (0, 0)] {
-        assert_eq!(rt; after_groups_of(size, &list), &list[want..], "{size}");
+    for (list, parts) in PARTS {
+        let found = parts_of(alloc, &Is(0), list).expect(&rt, "memory");
+        assert!(rt; found.len() == parts.len());
+        for (list, want) in found.iter().zip(parts) {
+            assert!(rt; list.as_slice() == *want);
+        }
     }
-    Ok(())
-}
-
-#[test]
-fn parts_at_marks(rt: HostRuntime) -> Result<(), Fail> {
-    check_lists(
-        &rt,
-        &parts_of(rt.alloc(), &Is(0), &[4, 0, 1, 2, 0, 0, 3])?,
-        &[&[0, 1, 2], &[0], &[0, 3]],
-    );
-    check_lists(&rt, &parts_of(rt.alloc(), &Is(0), &[0])?, &[&[0]]);
-    check_lists(&rt, &parts_of(rt.alloc(), &Is(0), &[1, 2])?, &[]);
-    check_lists(&rt, &parts_of(rt.alloc(), &Is(0), &[])?, &[]);
-    Ok(())
-}
-
-#[test]
-fn parts_between_marks(rt: HostRuntime) -> Result<(), Fail> {
     // 1 begins, 9 ends
     let list = [5, 9, 1, 2, 3, 9, 4, 9, 1, 1, 6];
-    let parts = parts_between(rt.alloc(), &Is(1), &Is(9), &list)?;
+    let parts = parts_between(alloc, &Is(1), &Is(9), &list).expect(&rt, "memory");
     let wants: [(&[u64], Option<u64>); 3] = [
         (&[1, 2, 3], Some(9)),
         (&[1], Some(1)),
         (&[1, 6], None),
     ];
-    assert_eq!(rt; parts.len(), 3);
+    assert!(rt; parts.len() == 3);
     for (part, want) in parts.iter().zip(&wants) {
-        assert_eq!(rt; part.items.as_slice(), want.0);
-        assert_eq!(rt; part.ended_by, want.1);
+        assert!(rt; part.items.as_slice() == want.0);
+        assert!(rt; part.ended_by == want.1);
     }
-    Ok(())
 }
 
 #[test]
-fn the_last_that_passes(rt: HostRuntime) {
-    for (list, place) in [
-        ([7, 2, 7, 3], Some(2)),
-        ([7, 2, 2, 3], Some(0)),
-        ([1, 2, 3, 7], Some(3)),
-        ([1, 2, 3, 4], None),
-    ] {
-        assert_eq!(rt; last_where(&Is(7), &list), place);
-        assert_eq!(rt; last_that(&Is(7), &list), place.map(|_| 7));
+fn the_last_and_the_rising(rt: HostRuntime) {
+    for (list, place, found) in LAST {
+        assert!(rt; last_where(&Is(7), list) == place);
+        assert!(rt; last_that(&Is(7), list) == found);
     }
-    assert_eq!(rt; last_where(&Is(7), &[]), None);
-    assert_eq!(rt; last_that(&Is(7), &[]), None);
-}
-
-#[test]
-fn places_where_numbers_rise(rt: HostRuntime) -> Result<(), Fail> {
-    // the first number has none before it, and an equal one doesn't rise
-    assert_eq!(rt;
-        events_of(rt.alloc(), &Rises, &[3, 4, 4, 1, 2, 9])?.as_slice(),
-        [1, 4, 5].as_slice()
-    );
-    assert_eq!(rt;
-        events_of(rt.alloc(), &Rises, &[3])?.as_slice(),
-        [].as_slice()
-    );
-    assert_eq!(rt;
-        events_of(rt.alloc(), &Rises, &[])?.as_slice(),
-        [].as_slice()
-    );
-    Ok(())
-}
-
-#[test]
-fn laws_hold() {
+    // where numbers rise: the first has none before it, and an equal one doesn't rise
+    let rising: [(&[u64], &[usize]); 3] = [
+        (&[3, 4, 4, 1, 2, 9], &[1, 4, 5]),
+        (&[3], &[]),
+        (&[], &[]),
+    ];
+    for (list, places) in rising {
+        let found = events_of(rt.alloc(), &Rises, list).expect(&rt, "memory");
+        assert!(rt; found.as_slice() == places);
+    }
     group_laws::<u64>();
     neighbour_laws::<u64, usize>();
     part_laws::<u64>();
@@ -119,4 +105,76 @@ fn laws_hold() {
     along_laws::<u64, usize>();
     bit_laws();
     place_laws::<u64>();
+}
+
+// A note of an instance that starts there; its class tells it apart.
+fn entry(instance: u32, start: u64, class: u16) -> Entry {
+    Entry {
+        instance,
+        note: Note {
+            class,
+            start,
+            end: u64::MAX,
+            a: 0,
+            b: 0,
+        },
+    }
+}
+
+#[test]
+fn entries_stand_by_start_then_instance_then_as_given(rt: HostRuntime) {
+    let alloc = rt.alloc();
+    let cases: [(&[Entry], &[u16]); 6] = [
+        (&[], &[]),
+        (&[entry(0, 7, 1)], &[1]),
+        // later starts behind earlier ones
+        (
+            &[entry(0, 9, 1), entry(0, 2, 2), entry(0, 5, 3)],
+            &[2, 3, 1],
+        ),
+        // of those that start alike the lower instance first
+        (
+            &[
+                entry(2, 4, 1),
+                entry(0, 4, 2),
+                entry(1, 4, 3),
+                entry(1, 3, 4),
+            ],
+            &[4, 2, 3, 1],
+        ),
+        // also of more instances than are grouped
+        (
+            &[
+                entry(70, 4, 1),
+                entry(0, 9, 2),
+                entry(0, 4, 3),
+                entry(70, 2, 4),
+            ],
+            &[4, 3, 1, 2],
+        ),
+        // one instance keeps its order where starts are alike
+        (
+            &[
+                entry(1, 6, 9),
+                entry(0, 6, 8),
+                entry(1, 6, 7),
+                entry(0, 6, 6),
+                entry(1, 6, 5),
+                entry(0, 1, 4),
+            ],
+            &[4, 8, 6, 9, 7, 5],
+        ),
+    ];
+    for (given, classes) in cases {
+        let mut entries = given.to_vec(alloc).expect(&rt, "memory");
+        assert!(rt; sort_entries(alloc, &mut entries).is_ok());
+        let mut sorted = Vec::new(alloc);
+        for entry in &entries {
+            sorted.push(entry.note.class).expect(&rt, "memory");
+        }
+        assert!(rt; sorted.as_slice() == classes);
+    }
+    one_order();
+    order_keeps_each_instance();
+    instances_make_the_listing();
 }

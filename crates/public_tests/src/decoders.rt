@@ -1,6 +1,105 @@
 // What is wanted is worked by hand, in tables that are texts. On all of these lists, on all short ones and on some long
 // ones a decoder is compared with its plain program.
+mod eeprom24;
 mod feeding;
 mod i2c;
 mod spi;
+mod trees;
 mod uart;
+
+use dec_uart::{Uart, UartOpts};
+use decoder_core::OptFault;
+use decoder_set::{Kind, kind_of, note_text};
+use la_base::{Note, Rate};
+use line_text::LineBuf;
+
+// A kind, a class, two values, and the text of such a note, whatever its span is.
+const TEXTS: &str = "\
+i2c 0 0 0|Start
+i2c 1 0 0|Start repeat
+i2c 2 0 0|Stop
+i2c 3 80 0|Address write: 50
+i2c 4 127 0|Address read: 7F
+i2c 5 0 0|Data write: 00
+i2c 6 195 0|Data read: C3
+i2c 7 0 0|ACK
+i2c 8 0 0|NACK
+i2c 9 0 0|General call
+i2c 10 121 0|Prefix write: 79
+i2c 11 336 0|Address 10-bit write: 0150
+i2c 12 80 0|Address 10-bit read: 0050
+i2c 13 122 0|Prefix read: 7A
+i2c 14 6 0|General call command: reset and write address
+i2c 14 4 0|General call command: write address
+i2c 14 2 0|General call command: 02
+i2c 14 67 0|General call command: hardware master 21
+i2c 15 1 0|
+i2c 65535 1 0|
+spi 0 0 0|Select
+spi 1 159 291|MOSI 9F MISO 123
+spi 1 18446744073709551615 10|MOSI FFFFFFFFFFFFFFFF MISO 0A
+spi 2 0 5|MOSI 00
+spi 3 5 195|MISO C3
+spi 4 1 1|Deselect
+spi 5 1 1|
+spi 65535 1 1|
+uart 5 1 0|
+i2c 3 80 7|Address write: 50
+spi 1 80 7|MOSI 50 MISO 07
+uart 1 80 7|50
+eeprom24 1 80 7|Write 0007: 50";
+
+#[test]
+fn settings_and_texts(rt: HostRuntime) {
+    for row in TEXTS.split('\n') {
+        let (numbers, want) = row.split_once('|').unwrap_or(("", "?"));
+        let mut words = numbers.split(' ');
+        let kind = kind_of(words.next().unwrap_or("").as_bytes()).expect(&rt, "a kind");
+        let class = words.next().unwrap_or("").parse().unwrap_or(0);
+        let a = words.next().unwrap_or("").parse().unwrap_or(0);
+        let b = words.next().unwrap_or("").parse().unwrap_or(0);
+        for (start, end) in [(0, 0), (3, 17)] {
+            let note = Note {
+                class,
+                start,
+                end,
+                a,
+                b,
+            };
+            let mut buf = LineBuf::new();
+            match kind {
+                Kind::I2c => dec_i2c::text(note, &mut buf),
+                Kind::Spi => dec_spi::text(note, &mut buf),
+                Kind::Uart => dec_uart::text(note, &mut buf),
+                _ => dev_eeprom24::text(note, &mut buf),
+            }
+            assert!(rt; buf.bytes() == want.as_bytes(), "{row}");
+            let mut buf = LineBuf::new();
+            note_text(kind, note, &mut buf);
+            assert!(rt; buf.bytes() == want.as_bytes(), "{row}");
+        }
+    }
+    for row in uart::SETTINGS.split('\n') {
+        let mut words = row.split(' ');
+        let opts = UartOpts {
+            rx: words.next().unwrap_or("").parse().unwrap_or(0),
+            baud: words.next().unwrap_or("").parse().unwrap_or(0),
+            bits: words.next().unwrap_or("").parse().unwrap_or(0),
+            parity: words.next().unwrap_or("").parse().unwrap_or(0),
+            stop: words.next().unwrap_or("").parse().unwrap_or(0),
+            sp: words.next().unwrap_or("").parse().unwrap_or(0),
+        };
+        let num: u64 = words.next().unwrap_or("").parse().unwrap_or(0);
+        let den: u64 = words.next().unwrap_or("").parse().unwrap_or(0);
+        let rate = Rate {
+            num: num.clamp(1, 1_000_000_000_000_000),
+            den: den.max(1),
+        };
+        let becomes = match Uart::open(opts, rate) {
+            Ok(_) => "opens",
+            Err(OptFault::Range) => "Range",
+            Err(OptFault::Rate) => "Rate",
+        };
+        assert!(rt; becomes == words.next().unwrap_or("?"), "{row}");
+    }
+}

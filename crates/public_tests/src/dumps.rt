@@ -61,6 +61,10 @@ pub const FAULTS: &str = "\
 [--job find B=h] $timescale 1 us > 3 > ldecode: capture at 0: NoDefinitions| > 
 [--job find any] $timescale 1 us $end $var wire 1 > 3 > ldecode: capture at 0: NoDefinitions| > 
 [--job find any] $comment x $enddefinitions $end > 3 > ldecode: capture at 0: NoDefinitions| > 
+[--job find any] $timescale 1 us $end $date a > 3 > ldecode: capture at 0: NoDefinitions| > 
+[--job find any] $timescale 1 us $end $version a > 3 > ldecode: capture at 0: NoDefinitions| > 
+[--job find any] $timescale 1 us $end $scope module t > 3 > ldecode: capture at 0: NoDefinitions| > 
+[--job find any] $timescale 1 us $end $upscope > 3 > ldecode: capture at 0: NoDefinitions| > 
 [--job find any] $timescale 1 us $end $enddefinitions > 3 > ldecode: capture at 0: NoDefinitions| > 
 [--job find B=h] $enddefinitions $end > 3 > ldecode: capture at 0: NoTimescale| > 
 [--job find any] $timescale 2 ns $end $enddefinitions $end > 3 > ldecode: capture at 11: Token| > 
@@ -77,6 +81,7 @@ pub const FAULTS: &str = "\
 [--job find A=h] @ #0 1! #1 s*65535 ! > 3 > ldecode: capture at 72: TooLong| > 0: 0|
 [--job find A=h] @ #0 1! #1 s*65536 ! > 3 > ldecode: capture at 72: TooLong| > 0: 0|
 [--job find A=h] @ #0 1! #2 r1 > 3 > ldecode: capture at 72: Token| > 0: 0|1: 0|
+[--job find A=h] @ #0 1! #3 1 > 3 > ldecode: capture at 72: Token| > 0: 0|1: 0|2: 0|
 [--job find A=h] @ #0 1! #2 q > 3 > ldecode: capture at 72: Token| > 0: 0|1: 0|
 [--job find A=h] @ #0 1! #1 H! > 3 > ldecode: capture at 72: Token| > 0: 0|
 [--job find any] @ # > 3 > ldecode: capture at 63: Token| > 
@@ -90,8 +95,12 @@ pub const FAULTS: &str = "\
 1[--job find A=h,B=h] @  > 1 > ldecode: entry 0 item 1: Unknown| > 
 0[--job find B=h] @ #0 > 2 > ldecode: read fault| > ";
 
-// The bytes of the file of a row.
-fn bytes_of(alloc: Global, text: &str) -> Result<Vec<u8>, Fail> {
+/// Whether a run gives what its row says, in any cut of the file where no read fails.
+pub fn holds(alloc: Global, row: &str) -> Result<bool, Fail> {
+    let (fails, words, behind) = parts_of(row);
+    let fails = numbers_of(alloc, fails)?;
+    let (text, want) = behind.split_once(" > ").unwrap_or(("", ""));
+    let words = format!(in alloc; "--format vcd {words}")?;
     let (begin, more) = text.split_once('*').unwrap_or((text, "0"));
     let (count, rest) = more.split_once(' ').unwrap_or((more, ""));
     let mut bytes = Vec::new(alloc);
@@ -109,16 +118,6 @@ fn bytes_of(alloc: Global, text: &str) -> Result<Vec<u8>, Fail> {
         bytes.push(b' ')?;
     }
     bytes.extend_from_slice(rest.as_bytes())?;
-    Ok(bytes)
-}
-
-/// Whether a run gives what its row says, in any cut of the file where no read fails.
-pub fn holds(alloc: Global, row: &str) -> Result<bool, Fail> {
-    let (fails, words, behind) = parts_of(row);
-    let fails = numbers_of(alloc, fails)?;
-    let (text, want) = behind.split_once(" > ").unwrap_or(("", ""));
-    let words = format!(in alloc; "--format vcd {words}")?;
-    let bytes = bytes_of(alloc, text)?;
     for length in [WHOLE, 7, 1] {
         if length == WHOLE || fails.is_empty() {
             let told = run_over(

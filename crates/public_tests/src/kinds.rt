@@ -1,47 +1,85 @@
 // The table of kinds, by hand from the options and classes that each kind has.
 ghost use Rattle.std.specs.Prelude.{◌≡◌, ◌≤◌, ◌^◌, ◌++◌, ◌∷◌, [], None};
 
+use crate::rows::is_send;
 use decoder_core::{Machine, OptFault, Outs};
 use decoder_set::{
     AnyDecoder, Kind, MOST_OPTIONS, OptValues, Setup, asked_of, class_of, groups_of, input_of,
-    kind_name, kind_of, kinds_are_whole, kinds_read_their_wires, note_text, number_of,
+    kind_name, kind_of, kinds_are_whole, kinds_read_their_wires, number_of,
     one_input_makes_one_decoder, options_of, output_of, values_in_range_fit,
 };
 use la_base::{Feed, Note, Out, Packet, PacketKind, Rate, Run, Wire};
-use line_text::LineBuf;
-use std::alloc::{AllocError, Global};
-use std::test::Fail;
 
 const RATE: Rate = Rate {
     num: 1_000_000,
     den: 1,
 };
 
-// The values of I2C's two lines.
-fn lines(scl: Option<u64>, sda: Option<u64>) -> OptValues {
-    let mut given = [None; MOST_OPTIONS];
-    given[0] = scl;
-    given[1] = sda;
-    OptValues { given }
-}
+// Each kind, what it reads and gives, and its options, each with its usual number.
+const KINDS: [(&str, Kind, Wire, Wire, &[(&str, u64)]); 4] = [
+    (
+        "i2c",
+        Kind::I2c,
+        Wire::Logic,
+        Wire::I2c,
+        &[("scl", 0), ("sda", 0)],
+    ),
+    (
+        "spi",
+        Kind::Spi,
+        Wire::Logic,
+        Wire::Spi,
+        &[
+            ("sck", 0),
+            ("mosi", 0),
+            ("miso", 0),
+            ("cs", 0),
+            ("cpol", 0),
+            ("cpha", 0),
+            ("bits", 8),
+            ("mode", 0),
+        ],
+    ),
+    (
+        "uart",
+        Kind::Uart,
+        Wire::Logic,
+        Wire::Uart,
+        &[
+            ("rx", 0),
+            ("baud", 9600),
+            ("bits", 8),
+            ("parity", 0),
+            ("stop", 1),
+            ("sp", 50),
+        ],
+    ),
+    (
+        "eeprom24",
+        Kind::Eeprom24,
+        Wire::I2c,
+        Wire::Nothing,
+        &[("addr", 0), ("size", 0), ("page", 0), ("gcall", 0)],
+    ),
+];
 
 #[test]
-fn kinds_have_their_names_and_wires(rt: HostRuntime) {
-    for (name, kind, output) in [
-        ("i2c", Kind::I2c, Wire::I2c),
-        ("spi", Kind::Spi, Wire::Spi),
-        ("uart", Kind::Uart, Wire::Uart),
-    ] {
-        assert_eq!(rt; kind_of(name.as_bytes()), Some(kind));
-        assert_eq!(rt; kind_name(kind), name);
-        assert_eq!(rt; input_of(kind), Wire::Logic);
-        assert_eq!(rt; output_of(kind), output);
-        assert_eq!(rt; asked_of(kind).len(), 0);
+fn kinds_have_their_names_wires_and_options(rt: HostRuntime) {
+    for (name, kind, input, output, options) in KINDS {
+        assert!(rt; kind_of(name.as_bytes()) == Some(kind));
+        assert!(rt; kind_name(kind) == name);
+        assert!(rt; input_of(kind) == input);
+        assert!(rt; output_of(kind) == output);
+        assert!(rt; asked_of(kind).len() == 0);
+        assert!(rt; options_of(kind).len() == options.len());
+        for (row, (option, usual)) in options_of(kind).iter().zip(options) {
+            assert!(rt; row.name == *option && number_of(row.form, None) == *usual);
+        }
     }
     for name in ["I2C", "i2c-1", "i2", "uarts", ""] {
-        assert_eq!(rt; kind_of(name.as_bytes()), None);
+        assert!(rt; kind_of(name.as_bytes()) == None);
     }
-    assert_eq!(rt; groups_of(Kind::Spi).len(), 1);
+    assert!(rt; groups_of(Kind::Spi).len() == 1);
     for (kind, class, want) in [
         (Kind::I2c, "write", Some(0)),
         (Kind::I2c, "read", Some(1)),
@@ -50,38 +88,14 @@ fn kinds_have_their_names_and_wires(rt: HostRuntime) {
         (Kind::Spi, "miso", Some(1)),
         (Kind::Uart, "data", Some(0)),
         (Kind::Uart, "read", None),
+        (Kind::Eeprom24, "write", Some(0)),
+        (Kind::Eeprom24, "read", Some(1)),
     ] {
-        assert_eq!(rt; class_of(kind, class.as_bytes()), want);
+        assert!(rt; class_of(kind, class.as_bytes()) == want);
     }
     kinds_are_whole();
     kinds_read_their_wires();
     values_in_range_fit();
-}
-
-// The options of a kind, each with its usual number.
-fn options_in(alloc: Global, kind: Kind) -> Result<String, AllocError> {
-    let mut text = String::new(alloc);
-    for row in options_of(kind) {
-        let usual = number_of(row.form, None);
-        let part = format!(in alloc; "{} {usual},", row.name)?;
-        text.push_str(&part)?;
-    }
-    Ok(text)
-}
-
-#[test]
-fn kinds_have_their_options(rt: HostRuntime) -> Result<(), Fail> {
-    for (kind, options) in [
-        (Kind::I2c, "scl 0,sda 0,"),
-        (
-            Kind::Spi,
-            "sck 0,mosi 0,miso 0,cs 0,cpol 0,cpha 0,bits 8,mode 0,",
-        ),
-        (Kind::Uart, "rx 0,baud 9600,bits 8,parity 0,stop 1,sp 50,"),
-    ] {
-        assert!(rt; options_in(rt.alloc(), kind)?.as_str() == options);
-    }
-    Ok(())
 }
 
 // A row for each opening: the kind, its values, with a hyphen for one that isn't given, and the answer at a
@@ -122,63 +136,77 @@ uart 0 9600 8 5 > range
 uart 0 9600 8 0 0 > range
 uart 0 9600 8 0 3 > range
 uart 0 9600 8 0 1 0 > range
-uart 0 9600 8 0 1 100 > range";
-
-// The answer of an opening.
-fn opened(row: &str) -> Option<&'static str> {
-    let (left, _) = row.split_once(" > ")?;
-    let mut words = left.split(' ');
-    let kind = kind_of(words.next()?.as_bytes())?;
-    let mut given = [None; MOST_OPTIONS];
-    for (place, word) in words.enumerate() {
-        if place < MOST_OPTIONS {
-            given[place] = word.parse::<u64>().ok();
-        }
-    }
-    match AnyDecoder::open(kind, OptValues { given }, RATE) {
-        Ok(decoder) => {
-            one_input_makes_one_decoder(&decoder, &decoder);
-            Some("ok")
-        }
-        Err(OptFault::Range) => Some("range"),
-        Err(OptFault::Rate) => Some("rate"),
-    }
-}
+uart 0 9600 8 0 1 100 > range
+eeprom24 > ok
+eeprom24 7 6 4 1 > ok
+eeprom24 8 > range
+eeprom24 0 7 > range
+eeprom24 0 0 5 > range
+eeprom24 0 0 0 2 > range";
 
 #[test]
 fn values_are_judged_by_their_rows(rt: HostRuntime) {
     for row in OPENINGS.split('\n') {
-        assert!(rt;
-            opened(row).is_some_and(|answer| row.ends_with(answer)),
-            "{row}"
-        );
+        let (left, want) = row.split_once(" > ").unwrap_or(("", "?"));
+        let mut words = left.split(' ');
+        let kind = kind_of(words.next().unwrap_or("").as_bytes()).expect(&rt, "a kind");
+        let mut given = [None; MOST_OPTIONS];
+        for (place, word) in words.enumerate() {
+            if place < MOST_OPTIONS {
+                given[place] = word.parse::<u64>().ok();
+            }
+        }
+        let answer = match AnyDecoder::open(kind, OptValues { given }, RATE) {
+            Ok(decoder) => {
+                one_input_makes_one_decoder(&decoder, &decoder);
+                "ok"
+            }
+            Err(OptFault::Range) => "range",
+            Err(OptFault::Rate) => "rate",
+        };
+        assert!(rt; answer == want, "{row}");
     }
-    let mut values = lines(Some(0), Some(1));
+    let mut given = [None; MOST_OPTIONS];
+    given[0] = Some(0);
+    given[1] = Some(1);
+    let setup = Setup {
+        kind: Kind::I2c,
+        values: OptValues { given },
+        rate: RATE,
+    };
+    given[0] = Some(1);
+    let other = Setup {
+        values: OptValues { given },
+        ..setup
+    };
+    assert!(rt; setup == setup);
+    assert!(rt; setup != other);
+    let mut values = setup.values;
     values.given[2] = Some(u64::MAX);
     assert!(rt; AnyDecoder::open(Kind::I2c, values, RATE).is_ok());
-    assert_eq!(rt; values.at(8), None);
-    assert_eq!(rt; values.number(options_of(Kind::I2c), 2), 0);
+    assert!(rt; values.at(8) == None);
+    assert!(rt; values.number(options_of(Kind::I2c), 2) == 0);
 }
-
-fn is_send<T: Send + Drop>(_: &T) {}
 
 // START: SDA falls while SCL is high.
 #[test]
 fn an_opened_decoder_takes_any_feed(rt: HostRuntime) {
-    let values = lines(Some(1), Some(0));
-    match AnyDecoder::open(Kind::I2c, values, RATE) {
+    let mut given = [None; MOST_OPTIONS];
+    given[0] = Some(1);
+    given[1] = Some(0);
+    match AnyDecoder::open(Kind::I2c, OptValues { given }, RATE) {
         Ok(mut decoder) => {
             is_send(&decoder);
             one_input_makes_one_decoder(&decoder, &decoder);
             let mut outs = Outs::new();
-            assert_eq!(rt; decoder.wants(), Wire::Logic);
-            assert_eq!(rt; decoder.floor(), 0);
+            assert!(rt; decoder.wants() == Wire::Logic);
+            assert!(rt; decoder.floor() == 0);
             let high = Feed::Run(Run { value: 3, len: 2 });
-            assert_eq!(rt; decoder.step(high, &mut outs), None);
+            assert!(rt; decoder.step(high, &mut outs) == None);
             assert!(rt; outs.list().is_empty());
             let start = Feed::Run(Run { value: 2, len: 3 });
             let left = Feed::Run(Run { value: 2, len: 2 });
-            assert_eq!(rt; decoder.step(start, &mut outs), Some(left));
+            assert!(rt; decoder.step(start, &mut outs) == Some(left));
             let note = Note {
                 class: 0,
                 start: 2,
@@ -193,58 +221,70 @@ fn an_opened_decoder_takes_any_feed(rt: HostRuntime) {
                 a: 0,
                 b: 0,
             };
-            assert_eq!(rt;
-                outs.list(),
-                [Out::Note(note), Out::Packet(packet)].as_slice()
-            );
+            assert!(rt; outs.list() == [Out::Note(note), Out::Packet(packet)].as_slice());
             outs.clear();
-            assert_eq!(rt; decoder.step(Feed::Packet(packet), &mut outs), None);
+            assert!(rt; decoder.step(Feed::Packet(packet), &mut outs) == None);
             assert!(rt; outs.list().is_empty());
             outs.clear();
-            assert_eq!(rt; decoder.step(Feed::End, &mut outs), None);
+            assert!(rt; decoder.step(Feed::End, &mut outs) == None);
             assert!(rt; outs.list().is_empty());
-            assert_eq!(rt; decoder.floor(), 3);
+            assert!(rt; decoder.floor() == 3);
             let low = [Run { value: 0, len: 2 }, Run { value: 1, len: 1 }];
-            assert_eq!(rt; decoder.pass_runs(&low), 2);
-            assert_eq!(rt; decoder.floor(), 6);
+            assert!(rt; decoder.pass_runs(&low) == 2);
+            assert!(rt; decoder.floor() == 6);
         }
         Err(_) => assert!(rt; false),
     }
 }
 
+// A byte of a word address, behind a START, an address and its acknowledge bit.
 #[test]
-fn notes_have_the_texts_of_their_kind(rt: HostRuntime) {
-    for (kind, class, text) in [
-        (Kind::I2c, 3, "Address write: 50"),
-        (Kind::Spi, 1, "MOSI 50 MISO 07"),
-        (Kind::Uart, 1, "50"),
-    ] {
-        let mut buf = LineBuf::new();
-        let note = Note {
-            class,
-            start: 3,
-            end: 17,
-            a: 0x50,
-            b: 7,
-        };
-        note_text(kind, note, &mut buf);
-        assert_eq!(rt; buf.bytes(), text.as_bytes());
-    }
-}
-
-#[test]
-fn setups_are_compared_by_their_parts(rt: HostRuntime) {
-    let setup = Setup {
-        kind: Kind::I2c,
-        values: lines(Some(0), Some(1)),
-        rate: RATE,
+fn a_decoder_of_packets_takes_any_feed(rt: HostRuntime) {
+    let values = OptValues {
+        given: [None; MOST_OPTIONS],
     };
-    assert_eq!(rt; setup, setup);
-    assert_ne!(rt;
-        setup,
-        Setup {
-            values: lines(Some(1), Some(0)),
-            ..setup
+    match AnyDecoder::open(Kind::Eeprom24, values, RATE) {
+        Ok(mut decoder) => {
+            is_send(&decoder);
+            one_input_makes_one_decoder(&decoder, &decoder);
+            let mut outs = Outs::new();
+            assert!(rt; decoder.wants() == Wire::I2c);
+            assert!(rt; decoder.floor() == 0);
+            for (kind, at, a) in [
+                (PacketKind::I2cStart, 10, 0),
+                (PacketKind::I2cAddress, 20, 0x50),
+                (PacketKind::I2cAck, 30, 0),
+                (PacketKind::SpiWord, 40, 0),
+                (PacketKind::I2cData, 5, 9),
+                (PacketKind::I2cData, 50, 0xA7),
+            ] {
+                outs.clear();
+                let packet = Packet {
+                    kind,
+                    start: at,
+                    end: at + 5,
+                    a,
+                    b: 0,
+                };
+                assert!(rt; decoder.step(Feed::Packet(packet), &mut outs) == None);
+                assert!(rt; outs.list().is_empty() == (at != 50));
+                assert!(rt; decoder.floor() == 10);
+            }
+            let word = Note {
+                class: 0,
+                start: 50,
+                end: 55,
+                a: 0xA7,
+                b: 0,
+            };
+            assert!(rt; outs.list() == [Out::Note(word)].as_slice());
+            outs.clear();
+            assert!(rt; decoder.step_run(Run { value: 3, len: 7 }, &mut outs) == None);
+            assert!(rt; outs.list().is_empty());
+            outs.clear();
+            assert!(rt; decoder.step(Feed::End, &mut outs) == None);
+            assert!(rt; outs.list().is_empty());
         }
-    );
+        Err(_) => assert!(rt; false),
+    }
 }

@@ -21,10 +21,6 @@ mod kinds;
 #[cfg(test)]
 mod lines;
 #[cfg(test)]
-mod numbers;
-#[cfg(test)]
-mod order;
-#[cfg(test)]
 mod outputs;
 #[cfg(test)]
 mod programs;

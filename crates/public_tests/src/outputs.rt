@@ -1,25 +1,20 @@
-// Outputs in their order, and the texts of faults.
-use decoder_core::{OptFault, Outs, note_at, packet_at, span_note, span_packet, span_piece};
+// Outputs, by hand.
+use crate::rows::is_send;
+use decoder_core::{Outs, note_at, packet_at, span_note, span_packet, span_piece};
 use la_base::{Note, Out, Packet, PacketKind, Piece};
-use std::test::Fail;
-
-fn is_send<T: Send>(_: &T) {}
 
 #[test]
-fn outputs_are_kept_in_their_order(rt: HostRuntime) {
+fn outputs_in_their_order(rt: HostRuntime) {
     let mut outs = Outs::new();
     is_send(&outs);
     let later = note_at(0, 4, 1);
     let earlier = note_at(0, 2, 0);
     outs.push(later);
     outs.push(earlier);
-    assert_eq!(rt; outs.list(), [later, earlier].as_slice());
+    assert!(rt; outs.list() == [later, earlier].as_slice());
     outs.clear();
     assert!(rt; outs.list().is_empty());
-}
-
-#[test]
-fn outputs_of_one_sample_and_of_several(rt: HostRuntime) {
+    // outputs of one sample, and of several
     for (start, made) in [
         (9, note_at(3, 9, 7)),
         (6, span_note(3, 6, 9, 7, 0)),
@@ -32,7 +27,7 @@ fn outputs_of_one_sample_and_of_several(rt: HostRuntime) {
             a: 7,
             b: 0,
         };
-        assert_eq!(rt; made, Out::Note(note));
+        assert!(rt; made == Out::Note(note));
     }
     let kind = PacketKind::UartFrame;
     for (start, made) in [
@@ -46,7 +41,7 @@ fn outputs_of_one_sample_and_of_several(rt: HostRuntime) {
             a: 7,
             b: 0,
         };
-        assert_eq!(rt; made, Out::Packet(packet));
+        assert!(rt; made == Out::Packet(packet));
     }
     let piece = Piece {
         class: 1,
@@ -54,18 +49,5 @@ fn outputs_of_one_sample_and_of_several(rt: HostRuntime) {
         end: 9,
         byte: 0xA5,
     };
-    assert_eq!(rt; span_piece(1, 6, 9, 0xA5), Out::Piece(piece));
-}
-
-#[test]
-fn faults_say_what_is_wrong(rt: HostRuntime) -> Result<(), Fail> {
-    let alloc = rt.alloc();
-    for (fault, text) in [
-        (OptFault::Range, "an option is out of range"),
-        (OptFault::Rate, "the rate is too low"),
-    ] {
-        let told = format!(in alloc; "{fault}").ok().ok_or("no memory")?;
-        assert_eq!(rt; told.as_str(), text);
-    }
-    Ok(())
+    assert!(rt; span_piece(1, 6, 9, 0xA5) == Out::Piece(piece));
 }

@@ -55,8 +55,9 @@ const FAILURES: &str = "\
 --help <  > 4 >  > ;--version x <  > 4 >  > ;--job find D0=r < 01 > 4 > ldecode: write fault
  > ";
 
-// The words of a text up to a `<`.
-fn words_of(alloc: Global, text: &str) -> Result<Vec<String>, Fail> {
+// What the words of a text up to a `<` ask for, and what comes of them over a capture of these bytes, where these writes
+// fail.
+fn run(alloc: Global, text: &str, bytes: &str, fails: &[u64]) -> Result<(String, String), Fail> {
     let mut words = Vec::new(alloc);
     for word in text.split_whitespace() {
         if word == "<" {
@@ -64,73 +65,56 @@ fn words_of(alloc: Global, text: &str) -> Result<Vec<String>, Fail> {
         }
         words.push(String::from_str(alloc, word)?)?;
     }
-    Ok(words)
-}
-
-// What comes of the words of a text over a capture of these bytes, where these writes fail.
-fn run(alloc: Global, text: &str, bytes: &str, fails: &[u64]) -> Result<String, Fail> {
+    let asked = format!(in alloc; "{:?}", request_of(&words))?;
     let mut pieces = Vec::new(alloc);
     pieces.push(bytes.as_bytes().to_vec(alloc)?)?;
     let mut source = MemSource::new(pieces, Vec::new(alloc));
     let mut sink = MemSink::new(alloc, 4_096, fails.to_vec(alloc)?, 4_096)?;
     let mut notices = MemSink::new(alloc, 256, Vec::new(alloc), 256)?;
-    let words = words_of(alloc, text)?;
     let code = program(alloc, &words, &mut source, &mut sink, &mut notices);
     let noticed = String::from_utf8_lossy(alloc, notices.written())?;
     let wrote = String::from_utf8_lossy(alloc, sink.written())?;
-    Ok(format!(in alloc; "{code} > {noticed} > {wrote}")?)
-}
-
-// Whether a run gives what its row says, where these writes fail.
-fn holds(alloc: Global, row: &str, fails: &[u64]) -> Result<bool, Fail> {
-    let (words, rest) = row.split_once(" < ").unwrap_or(("", ""));
-    let (bytes, want) = rest.split_once(" > ").unwrap_or(("", ""));
-    Ok(run(alloc, words, bytes, fails)?.as_str() == want)
+    let told = format!(in alloc; "{code} > {noticed} > {wrote}")?;
+    Ok((asked, told))
 }
 
 #[test]
-fn the_exit_status_is_that_of_the_run(rt: HostRuntime) -> Result<(), Fail> {
+fn the_program_tells_its_help_and_its_status(rt: HostRuntime) -> Result<(), Fail> {
     let alloc = rt.alloc();
-    for row in RUNS.split(';') {
-        assert!(rt; holds(alloc, row, &[])?, "{row}");
+    for (table, fails) in [(RUNS, [].as_slice()), (FAILURES, [0].as_slice())] {
+        for row in table.split(';') {
+            let (words, rest) = row.split_once(" < ").unwrap_or(("", ""));
+            let (bytes, want) = rest.split_once(" > ").unwrap_or(("", ""));
+            let (_, told) = run(alloc, words, bytes, fails)?;
+            assert!(rt; told.as_str() == want, "{row}");
+        }
     }
-    for row in FAILURES.split(';') {
-        assert!(rt; holds(alloc, row, &[0])?, "{row}");
-    }
-    Ok(())
-}
-
-#[test]
-fn the_first_word_alone_asks_for_help(rt: HostRuntime) -> Result<(), Fail> {
-    let alloc = rt.alloc();
+    // the first word alone asks for help
     for row in REQUESTS.split('\n') {
         let (words, want) = row.split_once(" > ").unwrap_or(("", ""));
-        let asked = request_of(&words_of(alloc, words)?);
-        assert!(rt; format!(in alloc; "{asked:?}")?.as_str() == want, "{row}");
+        let (asked, _) = run(alloc, words, "", &[])?;
+        assert!(rt; asked.as_str() == want, "{row}");
     }
-    Ok(())
-}
-
-#[test]
-fn the_help_tells_options_decoders_and_examples_that_run(rt: HostRuntime) -> Result<(), Fail> {
-    let alloc = rt.alloc();
+    // the help has these lines, and examples that run
     let text = help_text(alloc)?;
     for row in HELP.split('\n') {
-        assert!(rt; text.as_str().split('\n').any(|line| line == row), "{row}");
+        let mut found = false;
+        for line in text.as_str().split('\n') {
+            found |= line == row;
+        }
+        assert!(rt; found, "{row}");
     }
-    let told = run(alloc, "--help", "", &[])?;
+    let (_, told) = run(alloc, "--help", "", &[])?;
     assert!(rt; told.as_str().strip_prefix("0 >  > ") == Some(text.as_str()));
     let mut any = false;
     for line in text.as_str().split('\n') {
         if let Some(example) = line.strip_prefix(EXAMPLE) {
             any = true;
-            assert!(rt;
-                run(alloc, example, "", &[])?.as_str() == "0 >  > ",
-                "{example}"
-            );
+            let (_, told) = run(alloc, example, "", &[])?;
+            assert!(rt; told.as_str() == "0 >  > ", "{example}");
         }
     }
     assert!(rt; any);
-    assert_eq!(rt; VERSION, "ldecode 0.1.0\n");
+    assert!(rt; VERSION == "ldecode 0.1.0\n");
     Ok(())
 }

@@ -24,17 +24,6 @@ pub fn numbers_of(alloc: Global, text: &str) -> Result<Vec<u64>, Fail> {
     Ok(numbers)
 }
 
-// The value of a hexadecimal digit.
-fn digit(byte: u8) -> u8
-    ensures { result ≤ 15 }
-{
-    match byte {
-        b'0'..=b'9' => byte - b'0',
-        b'a'..=b'f' => byte - b'a' + 10,
-        _ => 0,
-    }
-}
-
 /// The bytes that hexadecimal digits write: behind a star stands how often the digits before it do.
 pub fn bytes_of(alloc: Global, text: &str) -> Result<Vec<u8>, Fail> {
     let mut bytes = Vec::new(alloc);
@@ -42,9 +31,8 @@ pub fn bytes_of(alloc: Global, text: &str) -> Result<Vec<u8>, Fail> {
         let (digits, times) = part.split_once('*').unwrap_or((part, "1"));
         for _ in 0..times.parse::<u32>().unwrap_or(0) {
             for pair in digits.as_bytes().chunks_exact(2) {
-                let high = pair.first().map_or(0, |byte| digit(*byte));
-                let low = pair.last().map_or(0, |byte| digit(*byte));
-                bytes.push((high << 4) | low)?;
+                let digits = str::from_utf8(pair).unwrap_or("");
+                bytes.push(u8::from_str_radix(digits, 16).unwrap_or(0))?;
             }
         }
     }
@@ -87,3 +75,6 @@ pub fn is_front(told: &str, head: &str, whole: &str, length: usize) -> bool {
         None => false,
     }
 }
+
+/// Takes what may move to another thread.
+pub fn is_send<T: Send>(_: &T) {}

@@ -26,34 +26,28 @@ const LISTING: &str =
 
 const BUS: &str = "i2c:scl=D0:sda=D1";
 
-// How many bytes of the rises' lines the first so many samples give.
-fn settled(samples: usize) -> usize {
-    match samples {
-        0..=2 => 0,
-        3..=5 => 5,
-        6..=9 => 10,
-        10..=14 => 15,
-        15..=16 => 21,
-        17..=21 => 27,
-        22..=24 => 33,
-        25..=27 => 39,
-        28..=29 => 45,
-        30..=34 => 51,
-        35..=37 => 57,
-        _ => 63,
-    }
-}
+// From so many samples on so many bytes of those lines are given.
+const RISEN: [(usize, usize); 11] = [
+    (3, 5),
+    (6, 10),
+    (10, 15),
+    (15, 21),
+    (17, 27),
+    (22, 33),
+    (25, 39),
+    (28, 45),
+    (30, 51),
+    (35, 57),
+    (38, 63),
+];
 
-// How many bytes of the bus's lines the first so many samples give.
-fn decoded(samples: usize) -> usize {
-    match samples {
-        0..=1 => 0,
-        2..=17 => 17,
-        18..=19 => 47,
-        20..=22 => 64,
-        _ => 82,
-    }
-}
+const NOTED: [(usize, usize); 4] = [(2, 17), (18, 47), (20, 64), (23, 82)];
+
+// The words of a run, a capture, how many samples it has, the lines, and how these grow.
+const CASES: [(&str, &str, usize, &str, &[(usize, usize)]); 2] = [
+    (SEARCH, CAPTURE, 40, RISES, &RISEN),
+    (BUS, WRITE_OF_50, 23, LISTING, &NOTED),
+];
 
 // Runs over whole captures. A row has the words between brackets, the samples in hexadecimal, the exit status, the notices
 // and what is written, where a bar stands for the end of a line.
@@ -69,7 +63,8 @@ pub const SEARCHES: &str = "\
 [--job find --channels 9 D8=r] 0000010102 > 3 > ldecode: capture at 4: ShortUnit| > 1: 0|";
 
 // The second capture has a start again after seven bits, which give nothing; the next ones have a second
-// bus, one sample behind the first; the last one has a byte for nine channels too few.
+// bus, one sample behind the first; the next has a byte for nine channels too few. Behind them are EEPROMs on a bus,
+// of which the last two are read behind a general call's reset.
 pub const DECODINGS: &str = "\
 [i2c:scl=D0:sda=D1] 0301020300010203000100010001000100010001000103 > 0 >  > 1-1 i2c-1: Start|3-17 i2c-1: Address write: 50|19-19 i2c-1: ACK|22-22 i2c-1: Stop|
 [--job=decode i2c:sda=1:scl=0] 0301020300010203000100010001000100010001000103 > 0 >  > 1-1 i2c-1: Start|3-17 i2c-1: Address write: 50|19-19 i2c-1: ACK|22-22 i2c-1: Stop|
@@ -80,7 +75,12 @@ pub const DECODINGS: &str = "\
 [i2c:scl=D0:sda=D1 i2c:scl=D2:sda=D3 --show=i2c-2] 0f0d060b0c01060b0c0104010401040104010401040107 0f > 0 >  > 2-2 i2c-2: Start|4-18 i2c-2: Address write: 50|20-20 i2c-2: ACK|23-23 i2c-2: Stop|
 [i2c:scl=D0:sda=D1 --show all i2c:scl=D2:sda=D3 i2c:scl=D0:sda=D1] 0f0d060b0c01060b0c0104010401040104010401040107 0f > 0 >  > 1-1 i2c-1: Start|1-1 i2c-3: Start|2-2 i2c-2: Start|3-17 i2c-1: Address write: 50|3-17 i2c-3: Address write: 50|4-18 i2c-2: Address write: 50|19-19 i2c-1: ACK|19-19 i2c-3: ACK|20-20 i2c-2: ACK|22-22 i2c-1: Stop|22-22 i2c-3: Stop|23-23 i2c-2: Stop|
 [--show i2c-2,i2c-1 i2c:scl=D0:sda=D1 i2c:scl=D2:sda=D3 i2c:scl=D0:sda=D1] 0f0d060b0c01060b0c0104010401040104010401040107 0f > 0 >  > 1-1 i2c-1: Start|2-2 i2c-2: Start|3-17 i2c-1: Address write: 50|4-18 i2c-2: Address write: 50|19-19 i2c-1: ACK|20-20 i2c-2: ACK|22-22 i2c-1: Stop|23-23 i2c-2: Stop|
-[--channels 9 i2c:scl=D0:sda=D1] 03000100020003000000010002000300000001000000010000000100000001000000010000000100000001000300 03 > 3 > ldecode: capture at 46: ShortUnit| > 1-1 i2c-1: Start|3-17 i2c-1: Address write: 50|19-19 i2c-1: ACK|22-22 i2c-1: Stop|";
+[--channels 9 i2c:scl=D0:sda=D1] 03000100020003000000010002000300000001000000010000000100000001000000010000000100000001000300 03 > 3 > ldecode: capture at 46: ShortUnit| > 1-1 i2c-1: Start|3-17 i2c-1: Address write: 50|19-19 i2c-1: ACK|22-22 i2c-1: Stop|
+[i2c:scl=D0:sda=D1,eeprom24] 030301010202030300000101020203030000010100000101000001010000010100000101000001010000010100000101000001010202030300000101000001010000010100000101000001010202030300000101020203030000010102020303000001010202030302020303000001010000010103030303 > 0 >  > 2-2 i2c-1: Start|6-34 i2c-1: Address write: 50|38-38 i2c-1: ACK|42-70 i2c-1: Data write: 10|42-70 eeprom24-1: Word address: 0010|74-74 i2c-1: ACK|78-106 i2c-1: Data write: AB|78-106 eeprom24-1: Write 0010: AB|110-110 i2c-1: ACK|116-116 i2c-1: Stop|
+[i2c:scl=D0:sda=D1,eeprom24 i2c-1,eeprom24:addr=1] 030301010202030300000101020203030000010100000101000001010202030300000101000001010000010100000101000001010202030300000101000001010000010100000101000001010202030300000101020203030000010102020303000001010202030302020303000001010000010103030303 > 0 >  > 2-2 i2c-1: Start|6-34 i2c-1: Address write: 51|38-38 i2c-1: ACK|42-70 i2c-1: Data write: 10|42-70 eeprom24-2: Word address: 0010|74-74 i2c-1: ACK|78-106 i2c-1: Data write: AB|78-106 eeprom24-2: Write 0010: AB|110-110 i2c-1: ACK|116-116 i2c-1: Stop|
+[--show eeprom24-2 i2c:scl=D0:sda=D1,eeprom24 i2c-1,eeprom24:addr=1] 030301010202030300000101020203030000010100000101000001010202030300000101000001010000010100000101000001010202030300000101000001010000010100000101000001010202030300000101020203030000010102020303000001010202030302020303000001010000010103030303 > 0 >  > 42-70 eeprom24-2: Word address: 0010|78-106 eeprom24-2: Write 0010: AB|
+[--show eeprom24-1 i2c:scl=D0:sda=D1,eeprom24:gcall=1] 030301010202030300000101020203030000010100000101000001010000010100000101000001010000010100000101000001010202030300000101000001010000010100000101000001010000010103030303030301010000010100000101000001010000010100000101000001010000010100000101000001010000010100000101000001010000010100000101020203030202030300000101000001010000010103030303030301010202030300000101020203030000010100000101000001010000010102020303000001010000010102020303000001010000010100000101000001010000010102020303020203030000010103030303 > 0 >  > 42-70 eeprom24-1: Word address: 0010|210-238 eeprom24-1: Read 0000: 41|
+[--show eeprom24-1 i2c:scl=D0:sda=D1,eeprom24:gcall=0] 030301010202030300000101020203030000010100000101000001010000010100000101000001010000010100000101000001010202030300000101000001010000010100000101000001010000010103030303030301010000010100000101000001010000010100000101000001010000010100000101000001010000010100000101000001010000010100000101020203030202030300000101000001010000010103030303030301010202030300000101020203030000010100000101000001010000010102020303000001010000010102020303000001010000010100000101000001010000010102020303020203030000010103030303 > 0 >  > 42-70 eeprom24-1: Word address: 0010|210-238 eeprom24-1: Read 0010: 41|";
 
 // A byte is written to ten-bit address 150h; then one is read from it, behind a repeated start. A third line, D2,
 // stays high.
@@ -116,6 +116,7 @@ pub const REFUSALS: &str = "\
 [can:rx=D0] 00 > 1 > ldecode: stack word 0 at 0: Unknown| > 
 [spi:sck=D0:cs=D2] 00 > 1 > ldecode: stack word 0 at 0: Missing| > 
 [i2c:scl=D0:sda=D1,spi:sck=D0:mosi=D1] 00 > 1 > ldecode: stack word 0 at 18: Mismatch| > 
+[uart:rx=D0,eeprom24] 00 > 1 > ldecode: stack word 0 at 11: Mismatch| > 
 [uart:rx=D0:parity=mark] 00 > 1 > ldecode: stack word 0 at 11: Value| > 
 [uart:rx=D0:bits=10] 00 > 1 > ldecode: stack word 0 at 11: Range| > 
 [--rate 1000 uart:rx=D0] 00 > 1 > ldecode: entry 0 item 0: Rate| > 
@@ -129,34 +130,8 @@ pub const REFUSALS: &str = "\
 [--job find D9=h] 00 > 1 > ldecode: entry 0 item 0: Unknown| > 
 [--job find D0=r D1=h,skip=3,D8=l] 00 > 1 > ldecode: entry 1 item 2: Unknown| > ";
 
-// What a run of these words over these samples gives: the exit status, the notices and what is written.
-// Reads take `length` bytes and writes `most`; those of these numbers fail; there is room for so many bytes.
-fn run(
-    alloc: Global,
-    words: &str,
-    samples: &str,
-    length: usize,
-    read_fails: &[u64],
-    most: usize,
-    write_fails: &[u64],
-    room: usize,
-) -> Result<String, Fail>
-    requires { (1 ≤ length) × (1 ≤ most) }
-{
-    let bytes = bytes_of(alloc, samples)?;
-    run_over(
-        alloc,
-        words,
-        &bytes,
-        length,
-        read_fails,
-        most,
-        write_fails,
-        room,
-    )
-}
-
-/// The same of a run over these bytes.
+/// What a run of these words over these bytes gives: the exit status, the notices and what is written. Reads take
+/// `length` bytes and writes `most`; those of these numbers fail; there is room for so many bytes.
 pub fn run_over(
     alloc: Global,
     words: &str,
@@ -177,12 +152,9 @@ pub fn run_over(
     let mut sink = MemSink::new(alloc, most, write_fails.to_vec(alloc)?, room)?;
     let mut notices = MemSink::new(alloc, AMPLE, Vec::new(alloc), AMPLE)?;
     let status = run_here(alloc, &texts, &mut source, &mut sink, &mut notices);
-    told(alloc, exit_code(&status), notices.written(), sink.written())
-}
-
-fn told(alloc: Global, code: u8, notices: &[u8], written: &[u8]) -> Result<String, Fail> {
-    let notices = barred(alloc, notices)?;
-    let written = barred(alloc, written)?;
+    let code = exit_code(&status);
+    let notices = barred(alloc, notices.written())?;
+    let written = barred(alloc, sink.written())?;
     Ok(format!(in alloc; "{code} > {notices} > {written}")?)
 }
 
@@ -190,102 +162,119 @@ fn told(alloc: Global, code: u8, notices: &[u8], written: &[u8]) -> Result<Strin
 pub fn holds(alloc: Global, row: &str, read_fails: &[u64]) -> Result<bool, Fail> {
     let (_, words, behind) = parts_of(row);
     let (samples, want) = behind.split_once("> ").unwrap_or(("", ""));
-    let told = run(alloc, words, samples, AMPLE, read_fails, AMPLE, &[], AMPLE)?;
+    let bytes = bytes_of(alloc, samples)?;
+    let told = run_over(alloc, words, &bytes, AMPLE, read_fails, AMPLE, &[], AMPLE)?;
     Ok(told.as_str() == want)
 }
 
-#[test]
-fn any_cut_of_the_input_gives_the_same(rt: HostRuntime) -> Result<(), Fail> {
-    let alloc = rt.alloc();
-    for length in 1..10 {
-        for most in 1..4 {
-            let rises = run(alloc, SEARCH, CAPTURE, length, &[], most, &[], AMPLE)?;
-            assert!(rt; is_front(rises.as_str(), "0 >  > ", RISES, 63));
-            let notes = run(alloc, BUS, WRITE_OF_50, length, &[], most, &[], AMPLE)?;
-            assert!(rt; is_front(notes.as_str(), "0 >  > ", LISTING, 82));
-        }
-    }
-    Ok(())
-}
+// The words of a run, and its bytes; the bytes of a read, the reads that fail, the bytes of a write, the writes that fail
+// and the room; and what it gives.
+const FAILURES: [(&str, &str, usize, &[u64], usize, &[u64], usize, &str); 5] = [
+    (
+        "--job find D0=h",
+        "01",
+        AMPLE,
+        &[0],
+        AMPLE,
+        &[],
+        AMPLE,
+        "2 > ldecode: read fault| > ",
+    ),
+    (
+        "--job find D0=h",
+        "01",
+        1,
+        &[],
+        AMPLE,
+        &[0],
+        AMPLE,
+        "4 > ldecode: write fault| > ",
+    ),
+    (
+        "--threads no i2c:scl=D0:sda=D1",
+        WRITE_OF_50,
+        1,
+        &[10],
+        AMPLE,
+        &[],
+        AMPLE,
+        "2 > ldecode: read fault| > 1-1 i2c-1: Start|",
+    ),
+    (
+        BUS,
+        WRITE_OF_50,
+        AMPLE,
+        &[],
+        1,
+        &[5],
+        AMPLE,
+        "4 > ldecode: write fault| > 1-1 i",
+    ),
+    // no room for the last byte
+    (
+        BUS,
+        WRITE_OF_50,
+        7,
+        &[],
+        AMPLE,
+        &[],
+        81,
+        "4 > ldecode: write fault| > 1-1 i2c-1: Start|3-17 i2c-1: Address write: 50|19-19 i2c-1: ACK|22-22 i2c-1: Stop",
+    ),
+];
 
-// A read that fails, in pieces of 1 to 9 bytes, the first to the one behind all.
+// In reads of 1 to 9 bytes: without a failure, and where each of them fails, from the first to the one behind all. Then
+// where each write fails.
 #[test]
-fn an_interrupted_source_loses_nothing(rt: HostRuntime) -> Result<(), Fail> {
+fn any_cut_gives_the_same_and_a_failure_a_front(rt: HostRuntime) -> Result<(), Fail> {
     let alloc = rt.alloc();
-    let head = "2 > ldecode: read fault| > ";
-    for length in 1..10 {
-        for number in 0..41 {
-            let before = number * length;
-            if before < 40 + length {
-                let gave = run(
-                    alloc,
-                    SEARCH,
-                    CAPTURE,
-                    length,
-                    &[number as u64],
-                    1,
-                    &[],
-                    AMPLE,
-                )?;
-                assert!(rt;
-                    is_front(gave.as_str(), head, RISES, settled(before)),
-                    "{before}"
-                );
+    for (words, capture, count, lines, steps) in CASES {
+        let bytes = bytes_of(alloc, capture)?;
+        assert!(rt; count < 100);
+        for length in 1..10 {
+            for most in 1..4 {
+                let gave = run_over(alloc, words, &bytes, length, &[], most, &[], AMPLE)?;
+                assert!(rt; is_front(gave.as_str(), "0 >  > ", lines, lines.len()));
             }
-            if before < 23 + length {
-                let gave = run(
-                    alloc,
-                    BUS,
-                    WRITE_OF_50,
-                    length,
-                    &[number as u64],
-                    1,
-                    &[],
-                    AMPLE,
-                )?;
-                assert!(rt;
-                    is_front(gave.as_str(), head, LISTING, decoded(before)),
-                    "{before}"
-                );
+            for number in 0..41 {
+                let before = number * length;
+                if before >= count + length {
+                    break;
+                }
+                let mut settled = 0;
+                for (least, bytes) in steps {
+                    if before >= *least {
+                        settled = *bytes;
+                    }
+                }
+                let fails = [number as u64];
+                let gave = run_over(alloc, words, &bytes, length, &fails, 1, &[], AMPLE)?;
+                let head = "2 > ldecode: read fault| > ";
+                assert!(rt; is_front(gave.as_str(), head, lines, settled), "{before}");
             }
         }
-    }
-    Ok(())
-}
-
-#[test]
-fn a_failed_write_leaves_a_front(rt: HostRuntime) -> Result<(), Fail> {
-    let alloc = rt.alloc();
-    let head = "4 > ldecode: write fault| > ";
-    for number in 0..82 {
-        if number < 63 {
-            let gave = run(alloc, SEARCH, CAPTURE, 7, &[], 1, &[number as u64], AMPLE)?;
-            assert!(rt; is_front(gave.as_str(), head, RISES, number), "{number}");
+        for number in 0..lines.len() {
+            let fails = [number as u64];
+            let gave = run_over(alloc, words, &bytes, 7, &[], 1, &fails, AMPLE)?;
+            let head = "4 > ldecode: write fault| > ";
+            assert!(rt; is_front(gave.as_str(), head, lines, number), "{number}");
         }
-        let gave = run(alloc, BUS, WRITE_OF_50, 7, &[], 1, &[number as u64], AMPLE)?;
-        assert!(rt; is_front(gave.as_str(), head, LISTING, number), "{number}");
     }
-    // No room for the last byte.
-    let gave = run(alloc, BUS, WRITE_OF_50, 7, &[], AMPLE, &[], 81)?;
-    assert!(rt; is_front(gave.as_str(), head, LISTING, 81));
-    Ok(())
-}
-
-#[test]
-fn tells_failures_of_source_and_sink(rt: HostRuntime) -> Result<(), Fail> {
-    let alloc = rt.alloc();
-    let row = "[--job find D0=h] 01 > 2 > ldecode: read fault| > ";
-    assert!(rt; holds(alloc, row, &[0])?);
-    let gave = run(alloc, "--job find D0=h", "01", 1, &[], AMPLE, &[0], AMPLE)?;
-    assert_eq!(rt; gave.as_str(), "4 > ldecode: write fault| > ");
-    let words = "--threads no i2c:scl=D0:sda=D1";
-    let gave = run(alloc, words, WRITE_OF_50, 1, &[10], AMPLE, &[], AMPLE)?;
-    assert_eq!(rt;
-        gave.as_str(),
-        "2 > ldecode: read fault| > 1-1 i2c-1: Start|"
-    );
-    let gave = run(alloc, BUS, WRITE_OF_50, AMPLE, &[], 1, &[5], AMPLE)?;
-    assert_eq!(rt; gave.as_str(), "4 > ldecode: write fault| > 1-1 i");
+    for (words, capture, length, read_fails, most, write_fails, room, want) in FAILURES {
+        let bytes = bytes_of(alloc, capture)?;
+        assert!(rt; length >= 1 && most >= 1);
+        let gave = run_over(
+            alloc,
+            words,
+            &bytes,
+            length,
+            read_fails,
+            most,
+            write_fails,
+            room,
+        )?;
+        assert!(rt; gave.as_str() == want);
+    }
     let fault = Status::Capture(CaptureFault::Bytes);
     assert!(rt; exit_code(&fault) == 3 && exit_code(&Status::NoMemory) == 5);
     Ok(())

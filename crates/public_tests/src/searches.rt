@@ -6,10 +6,10 @@ use crate::rows::{barred, is_front, parts_of, source_of};
 use capture_any::{Capture, Form};
 use find_job::{find, find_buffered};
 use la_base::{Names, Pins, Rate};
-use la_io::{MemSink, MemSource};
+use la_io::MemSink;
 use std::alloc::Global;
 use std::test::Fail;
-use wait_cond::{Alt, Cond, bind_alt, read_alt};
+use wait_cond::{Cond, bind_alt, read_alt};
 
 // More than any test writes.
 const AMPLE: usize = 4096;
@@ -32,66 +32,56 @@ pub const CONDITIONS: &str = "\
 [D1=l D1=l D0=f] 0: 0,1|1: 0,1|4: 2|
 [D0=h,skip=3 D7=l,skip=2] 1: 1|3: 1|";
 
-// How many bytes of the lines the first so many samples give.
-fn settled(samples: usize) -> usize {
-    match samples {
-        0..=1 => 0,
-        2 => 7,
-        3 => 12,
-        4 => 17,
-        _ => 22,
-    }
-}
+// From so many samples on so many bytes of the lines are given.
+const SETTLED: [(usize, usize); 4] = [(2, 7), (3, 12), (4, 17), (5, 22)];
 
-// One alternative, bound to channels.
-fn bound(alloc: Global, word: &str, names: &Names, pins: &mut Pins) -> Result<Alt, Fail>
-    requires { Distinct pins.old.items }
-    ensures distinct { Distinct pins.new.items }
-    ensures below { AllBelow (length names.now) pins.old.items → AllBelow (length names.now) pins.new.items }
-{
-    if word.len() > 4096 {
-        return Err("a long word".into());
-    }
-    let Ok(words) = read_alt(alloc, word) else {
-        return Err("a fault".into());
-    };
-    match bind_alt(&words, names, pins) {
-        Ok(alt) => Ok(alt),
-        Err(_) => Err("no channel".into()),
-    }
-}
-
-// A condition of these alternatives, between blanks.
+// A condition of these alternatives, between blanks, bound to channels.
 fn condition(alloc: Global, words: &str, names: &Names, pins: &mut Pins) -> Result<Cond, Fail>
     requires distinct { Distinct pins.old.items }
     requires below { AllBelow (length names.now) pins.old.items }
     ensures { AllBelow (length names.now) pins.new.items }
 {
-    let mut words = words.split(' ');
-    let Some(first) = words.next() else {
-        return Err("no alternative".into());
-    };
-    let mut cond = Cond::one(bound(alloc, first, names, pins)?);
-    for word in words {
-        let alt = bound(alloc, word, names, pins)?;
-        if cond.count() < 8 {
-            cond.add(alt);
+    let mut cond: Option<Cond> = None;
+    for word in words.split(' ') {
+        if word.len() > 4096 {
+            return Err("a long word".into());
         }
+        let Ok(words) = read_alt(alloc, word) else {
+            return Err("a fault".into());
+        };
+        let Ok(alt) = bind_alt(&words, names, pins) else {
+            return Err("no channel".into());
+        };
+        cond = match cond {
+            None => Some(Cond::one(alt)),
+            Some(mut more) => {
+                if more.count() < 8 {
+                    more.add(alt);
+                }
+                Some(more)
+            }
+        };
     }
-    Ok(cond)
+    Ok(cond.ok_or("no alternative")?)
 }
 
-// How a search of a capture of so many channels ends, and what it writes.
+// How a search of a capture of so many channels ends, and what it writes: in reads of `length` bytes and writes of
+// `most`, where these calls fail.
 fn search(
     alloc: Global,
     words: &str,
     channels: u32,
-    mut source: MemSource,
-    mut sink: MemSink,
+    length: usize,
+    read_fails: &[u64],
+    most: usize,
+    write_fails: &[u64],
     buffered: bool,
 ) -> Result<String, Fail>
-    requires { (1 ≤ channels) × (channels ≤ 64) }
+    requires channels { (1 ≤ channels) × (channels ≤ 64) }
+    requires parts { (1 ≤ length) × (1 ≤ most) }
 {
+    let mut source = source_of(alloc, &SAMPLES, length, read_fails)?;
+    let mut sink = MemSink::new(alloc, most, write_fails.to_vec(alloc)?, AMPLE)?;
     let rate = Rate {
         num: 1_000_000,
         den: 1,
@@ -109,67 +99,46 @@ fn search(
     Ok(format!(in alloc; "{end:?} {written}")?)
 }
 
-// A search of the samples, in reads of `length` bytes and writes of `most`, where these calls fail.
-fn search_in_parts(
-    alloc: Global,
-    words: &str,
-    channels: u32,
-    length: usize,
-    read_fails: &[u64],
-    most: usize,
-    write_fails: &[u64],
-    buffered: bool,
-) -> Result<String, Fail>
-    requires channels { (1 ≤ channels) × (channels ≤ 64) }
-    requires parts { (1 ≤ length) × (1 ≤ most) }
-{
-    let source = source_of(alloc, &SAMPLES, length, read_fails)?;
-    let sink = MemSink::new(alloc, most, write_fails.to_vec(alloc)?, AMPLE)?;
-    search(alloc, words, channels, source, sink, buffered)
-}
-
 /// Whether a search gives what its row says.
 pub fn holds(alloc: Global, row: &str) -> Result<bool, Fail> {
     let (_, words, want) = parts_of(row);
-    let told = search_in_parts(alloc, words, 8, 2, &[], AMPLE, &[], true)?;
+    let told = search(alloc, words, 8, 2, &[], AMPLE, &[], true)?;
     Ok(told.as_str().strip_prefix("Done ") == Some(want))
 }
 
 #[test]
-fn the_lines_of_all_stops_however_the_capture_is_cut(rt: HostRuntime) -> Result<(), Fail> {
+fn any_cut_gives_the_lines_and_a_failure_a_front(rt: HostRuntime) -> Result<(), Fail> {
     let alloc = rt.alloc();
     for buffered in [true, false] {
         for length in 1..7 {
             for most in 1..4 {
-                let told = search_in_parts(alloc, WORDS, 8, length, &[], most, &[], buffered)?;
+                let told = search(alloc, WORDS, 8, length, &[], most, &[], buffered)?;
                 assert!(rt; is_front(told.as_str(), "Done ", LINES, 22));
             }
         }
-    }
-    Ok(())
-}
-
-#[test]
-fn a_failure_leaves_a_front(rt: HostRuntime) -> Result<(), Fail> {
-    let alloc = rt.alloc();
-    for buffered in [true, false] {
         for number in 0..6 {
-            let told = search_in_parts(alloc, WORDS, 8, 1, &[number as u64], 2, &[], buffered)?;
+            let mut settled = 0;
+            for (least, bytes) in SETTLED {
+                if number >= least {
+                    settled = bytes;
+                }
+            }
+            let told = search(alloc, WORDS, 8, 1, &[number as u64], 2, &[], buffered)?;
             assert!(rt;
-                is_front(told.as_str(), "Read ", LINES, settled(number)),
+                is_front(told.as_str(), "Read ", LINES, settled),
                 "{number}"
             );
         }
         for number in 0..22 {
-            let told = search_in_parts(alloc, WORDS, 8, 2, &[], 1, &[number as u64], buffered)?;
+            let told = search(alloc, WORDS, 8, 2, &[], 1, &[number as u64], buffered)?;
             assert!(rt;
                 is_front(told.as_str(), "Write ", LINES, number),
                 "{number}"
             );
         }
         // Two whole units, and one byte of a third.
-        let told = search_in_parts(alloc, "D8=h", 16, 1, &[], 2, &[], buffered)?;
-        assert_eq!(rt; told.as_str(), "Fault(ShortUnit { at: 4 }) 0: 0|1: 0|");
+        let told = search(alloc, "D8=h", 16, 1, &[], 2, &[], buffered)?;
+        assert!(rt; told.as_str() == "Fault(ShortUnit { at: 4 }) 0: 0|1: 0|");
     }
     Ok(())
 }

@@ -2,12 +2,11 @@
 // behind a comma or a colon at 18.
 // A row has between brackets the chains, and behind bars what `show` and `binary` name; before the brackets
 // how many such buses stand in front; behind them what they give.
-ghost use Rattle.std.specs.Prelude.{◌≤◌, ◌<◌, All, IfOk, IfSome, length};
+ghost use Rattle.std.specs.Prelude.{◌≤◌, IfOk, length};
 ghost use Rattle.std.specs.String.{string_bytes};
-ghost use Rattle.stack_spec.specs.Stacks.{instances_in};
 
-use crate::rows::parts_of;
-use decoder_core::{Machine, Outs};
+use crate::rows::{is_send, parts_of};
+use decoder_core::{Machine, OptFault, Outs};
 use decoder_set::kind_name;
 use la_base::{Feed, Names, Rate, Run};
 use stack_spec::{
@@ -52,13 +51,18 @@ pub const FAULTS: &str = "\
 [i2c:scl=D0:sda=D1,] 0 18 Unknown
 [i2c:scl=D0:sda=D1,,] 0 18 Unknown
 [i2c:scl=D0:sda=D1,i2c-1] 0 18 Unknown
-[i2c:scl=D0:sda=D1,eeprom24] 0 18 Unknown
+[i2c:scl=D0:sda=D1,can] 0 18 Unknown
 [i2c:scl=D0:sda=D1,i2c] 0 18 Mismatch
 [i2c:scl=D0:sda=D1,i2c:x] 0 18 Mismatch
 [i2c:scl=D0:sda=D1,i2c:scl=D0:sda=D1] 0 18 Mismatch
 [i2c:scl=D0:sda=D1 i2c-1,] 1 6 Unknown
 [i2c:scl=D0:sda=D1 i2c-1,i2c-1] 1 6 Unknown
 [i2c:scl=D0:sda=D1 i2c-1,i2c] 1 6 Mismatch
+[i2c:scl=D0:sda=D1,eeprom24,eeprom24] 0 27 Mismatch
+[uart:rx=D0,eeprom24] 0 11 Mismatch
+[eeprom24] 0 0 NoParent
+[i2c:scl=D0:sda=D1 eeprom24:addr=1] 1 0 NoParent
+[i2c:scl=D0:sda=D1 i2c-1,eeprom24:addr] 1 15 Value
 # options: no `=`, then no such option, then given before, then no value
 [i2c:] 0 4 Value
 [i2c::scl=D0] 0 4 Value
@@ -82,6 +86,13 @@ pub const FAULTS: &str = "\
 [i2c:scl=D0:sda=D1:x=D2] 0 18 Unknown
 [i2c:scl=é:x] 0 11 Value
 [i2c:scl=D0:sda=D1 i2c:scl=D2:scl=D3] 1 11 Repeat
+[i2c:scl=D0:sda=D1,eeprom24:] 0 27 Value
+[i2c:scl=D0:sda=D1,eeprom24:size=0256] 0 27 Value
+[i2c:scl=D0:sda=D1,eeprom24:size=512] 0 27 Value
+[i2c:scl=D0:sda=D1,eeprom24:page=4] 0 27 Value
+[i2c:scl=D0:sda=D1,eeprom24:addr=8] 0 27 Range
+[i2c:scl=D0:sda=D1,eeprom24:gcall=2] 0 27 Range
+[i2c:scl=D0:sda=D1,eeprom24:addr=1:addr=1] 0 34 Repeat
 # both lines have to be given
 [i2c] 0 0 Missing
 [i2c:scl=D0] 0 0 Missing
@@ -142,6 +153,8 @@ pub const STACKS: &str = "\
 [i2c:scl=D0:sda=D1 i2c:sda=7:scl=Clock|i2c-2|i2c-1:read] (i2c-1) i2c-2 class 1 of 0
 [i2c:scl=D0:sda=D1 i2c:sda=7:scl=Clock|i2c-2,i2c-1] i2c-1 i2c-2
 [i2c:scl=D0:sda=D1 i2c:sda=7:scl=Clock|i2c-1,i2c-1] i2c-1 (i2c-2)
+[i2c:scl=D0:sda=D1,eeprom24 i2c-1,eeprom24:addr=07:size=4096:page=32:gcall=1||eeprom24-2:read] i2c-1 eeprom24-1 eeprom24-2 class 1 of 2
+[i2c:scl=D0:sda=D1,eeprom24|eeprom24-1] (i2c-1) eeprom24-1
 24[i2c-24] i2c-1 i2c-2 i2c-3 i2c-4 i2c-5 i2c-6 i2c-7 i2c-8 i2c-9 i2c-10 i2c-11 i2c-12 i2c-13 i2c-14 i2c-15 i2c-16 i2c-17 i2c-18 i2c-19 i2c-20 i2c-21 i2c-22 i2c-23 i2c-24
 23[i2c:scl=D0:sda=D1] i2c-1 i2c-2 i2c-3 i2c-4 i2c-5 i2c-6 i2c-7 i2c-8 i2c-9 i2c-10 i2c-11 i2c-12 i2c-13 i2c-14 i2c-15 i2c-16 i2c-17 i2c-18 i2c-19 i2c-20 i2c-21 i2c-22 i2c-23 i2c-24
 23[i2c:scl=D0:sda=D1||i2c-24:read] i2c-1 i2c-2 i2c-3 i2c-4 i2c-5 i2c-6 i2c-7 i2c-8 i2c-9 i2c-10 i2c-11 i2c-12 i2c-13 i2c-14 i2c-15 i2c-16 i2c-17 i2c-18 i2c-19 i2c-20 i2c-21 i2c-22 i2c-23 i2c-24 class 1 of 23";
@@ -180,102 +193,75 @@ fn word(alloc: Global, word: u32, text: &str) -> Result<ChainWord, Fail>
     Ok(ChainWord { word, text })
 }
 
-fn optional(alloc: Global, number: u32, text: Option<&str>) -> Result<Option<ChainWord>, Fail>
-    ensures { IfOk result (λ chain. IfSome chain (λ c. length (string_bytes c.text) ≤ 4096)) }
-{
-    match text {
-        Some(text) => Ok(Some(word(alloc, number, text)?)),
-        None => Ok(None),
-    }
-}
-
-// So many buses, and the chains of a line: they stand between single blanks, so that two blanks have an
-// empty chain between them.
-fn chains(alloc: Global, count: &str, line: &str) -> Result<Vec<ChainWord>, Fail>
-    ensures { IfOk result (λ v. All (λ chain. length (string_bytes chain.text) ≤ 4096) v.items) }
-{
+// What so many buses and the chains of a line give: the chains stand between single blanks, so that two blanks have an
+// empty chain between them. Two bars stand where `binary` is named, and `show` isn't.
+fn read(alloc: Global, count: &str, line: &str) -> Result<Result<Stack, StackError>, Fail> {
+    let mut parts = line.split('|');
     let mut chains = Vec::new(alloc);
     let count = count.parse::<u32>().unwrap_or(0);
     for number in 0..count {
         chains.push(word(alloc, number, "i2c:scl=D0:sda=D1")?)?;
     }
     let mut number = count;
-    for text in line.split(' ') {
+    for text in parts.next().unwrap_or("").split(' ') {
         chains.push(word(alloc, number, text)?)?;
         number = number.wrapping_add(1);
     }
-    Ok(chains)
-}
-
-// What such chains give. Two bars stand where `binary` is named, and `show` isn't.
-fn read(alloc: Global, count: &str, line: &str) -> Result<Result<Stack, StackError>, Fail> {
-    let mut parts = line.split('|');
-    let chains = chains(alloc, count, parts.next().unwrap_or(""))?;
     let show = parts.next();
-    let binary = optional(alloc, BINARY, parts.next())?;
+    let binary = match parts.next() {
+        Some(text) => Some(word(alloc, BINARY, text)?),
+        None => None,
+    };
     let left_out = binary.is_some() && show == Some("");
-    let show = optional(alloc, SHOW, if left_out { None } else { show })?;
+    let show = match show {
+        Some(text) if !left_out => Some(word(alloc, SHOW, text)?),
+        _ => None,
+    };
     Ok(read_stack(alloc, &chains, show.as_ref(), binary.as_ref()))
 }
 
-// The name of an instance, between brackets where it isn't shown.
-fn name(alloc: Global, stack: &Stack, instance: u32) -> Result<String, Fail>
-    requires { instance < length (instances_in stack.now) }
-{
-    let name = kind_name(stack.kind(instance));
-    let number = stack.number(instance);
-    if stack.shown(instance) {
-        return Ok(format!(in alloc; " {name}-{number}")?);
-    }
-    Ok(format!(in alloc; " ({name}-{number})")?)
-}
-
-// The instances of a stack, and the class whose binary data is wanted.
-fn told(alloc: Global, stack: &Stack) -> Result<String, Fail> {
-    let mut told = String::new(alloc);
-    for instance in 0..stack.count() {
-        told.push_str(name(alloc, stack, instance)?.as_str())?;
-    }
-    if let Some((instance, class)) = stack.binary() {
-        told.push_str(format!(in alloc; " class {class} of {instance}")?.as_str())?;
-    }
-    Ok(told)
-}
-
-/// Whether chains give what their row says: their fault, or a stack.
+/// Whether chains give what their row says: their fault, or a stack, as its instances, between brackets where they aren't
+/// shown, and the class whose binary data is wanted.
 pub fn holds(alloc: Global, row: &str) -> Result<bool, Fail> {
     let (count, line, want) = parts_of(row);
-    let told = match read(alloc, count, line)? {
-        Ok(stack) => told(alloc, &stack)?,
-        Err(StackError::Fault(fault)) => {
-            format!(in alloc; " {} {} {:?}", fault.word, fault.at, fault.why)?
+    let mut told = String::new(alloc);
+    match read(alloc, count, line)? {
+        Ok(stack) => {
+            for instance in 0..stack.count() {
+                let name = kind_name(stack.kind(instance));
+                let number = stack.number(instance);
+                if stack.shown(instance) {
+                    write!(told, " {name}-{number}")?;
+                } else {
+                    write!(told, " ({name}-{number})")?;
+                }
+            }
+            if let Some((instance, class)) = stack.binary() {
+                write!(told, " class {class} of {instance}")?;
+            }
         }
-        Err(StackError::NoMemory) => String::new(alloc),
-    };
+        Err(StackError::Fault(fault)) => {
+            write!(told, " {} {} {:?}", fault.word, fault.at, fault.why)?;
+        }
+        Err(StackError::NoMemory) => {}
+    }
     Ok(told.as_str().trim_start() == want)
 }
 
-// So many channels, named D0 and on.
-fn named(alloc: Global, count: u32) -> Result<Names, Fail> {
+// What binding to so many channels, named D0 and on, gives.
+fn bound(alloc: Global, line: &str, channels: u32) -> Result<Result<Bound, BindError>, Fail> {
     let mut names = Names::new(alloc);
-    for channel in 0..count {
+    for channel in 0..channels {
         let name = format!(in alloc; "D{channel}")?;
         if names.count() < 4096 {
             names.push(name.as_bytes())?;
         }
     }
-    Ok(names)
-}
-
-fn bound(alloc: Global, line: &str, channels: u32) -> Result<Result<Bound, BindError>, Fail> {
-    let names = named(alloc, channels)?;
     match read(alloc, "", line)? {
         Ok(stack) => Ok(bind(alloc, &stack, &names, RATE)),
         Err(_) => Err("the stack has a fault".into()),
     }
 }
-
-fn is_send<T: Send>(_: &T) {}
 
 /// Whether binding to the channels that a row tells gives what it says.
 pub fn binds(alloc: Global, row: &str) -> Result<bool, Fail> {
@@ -309,23 +295,19 @@ fn decoders_read_the_bits_of_their_pins(rt: HostRuntime) -> Result<(), Fail> {
     ] {
         match bound(alloc, line, 8)? {
             Ok(mut bound) => {
-                assert_eq!(rt; bound.machines.len(), 3);
-                for (machine, start) in bound.machines.iter_mut().zip(starts) {
+                assert!(rt; bound.machines.len() == 3);
+                for (machine, start) in bound.machines.iter_mut().zip(&starts) {
                     let mut outs = Outs::new();
                     machine.step(Feed::Run(Run { value: 7, len: 1 }), &mut outs);
                     outs.clear();
                     machine.step(Feed::Run(Run { value, len: 1 }), &mut outs);
-                    assert_eq!(rt; outs.list().len() == 2, start);
+                    assert!(rt; (outs.list().len() == 2) == *start);
                 }
             }
             Err(_) => assert!(rt; false),
         }
     }
-    Ok(())
-}
-
-#[test]
-fn faults_say_what_is_wrong(rt: HostRuntime) -> Result<(), Fail> {
+    // what faults say
     let fault = StackFault {
         word: 2,
         at: 18,
@@ -336,10 +318,12 @@ fn faults_say_what_is_wrong(rt: HostRuntime) -> Result<(), Fail> {
         item: 1,
         why: BindWhy::Unknown,
     };
-    let told = format!(in rt.alloc(); "{fault}; {unbound}")?;
-    assert_eq!(rt;
-        told.as_str(),
-        "word 2 byte 18: it can't stand on this decoder; entry 3 item 1: no such channel"
+    let told = format!(in alloc; "{fault}; {unbound}")?;
+    assert!(rt;
+        told.as_str()
+            == "word 2 byte 18: it can't stand on this decoder; entry 3 item 1: no such channel"
     );
+    let told = format!(in alloc; "{}; {}", OptFault::Range, OptFault::Rate)?;
+    assert!(rt; told.as_str() == "an option is out of range; the rate is too low");
     Ok(())
 }

@@ -1,13 +1,12 @@
-// Samples are scripts of a bus. 0 and 1 are a bit: SCL is low, then high. Behind a 1 or at the front, S is SDA
-// falling while SCL stays high: a START. Behind a 0, P is SDA rising so: a STOP. What is wanted is worked by hand
-// from where they change; at the end the decoder is compared with a plain program. Tables are texts, a row a line.
-use super::feeding::{decoded, runs_of};
-use dec_i2c::{I2c, I2cOpts, text};
+// Samples are scripts of a bus. What is wanted is worked by hand from where they change; the decoder is compared with a
+// plain program. Tables are texts, a row a line.
+use super::feeding::{decoded, runs_of, waves_of};
+use crate::rows::is_send;
+use dec_i2c::{I2c, I2cOpts};
 use decoder_core::{Driver, Machine, OptFault, Outs};
-use la_base::{Feed, Note, Out, Rate, Run, Word};
-use line_text::LineBuf;
+use la_base::{Feed, Out, Rate, Run, Word};
 use plain_decoders::i2c::outputs_of;
-use std::alloc::{AllocError, Global};
+use std::alloc::Global;
 use std::process::Abort;
 use std::test::Fail;
 
@@ -19,56 +18,9 @@ const RATE: Rate = Rate {
 // The lines of all samples.
 const LINES: I2cOpts = I2cOpts { scl: 0, sda: 1 };
 
-// The samples of a script: line 0 is SCL, line 1 is SDA.
-fn waves_of(alloc: Global, script: &str) -> Result<Vec<Word>, AllocError> {
-    let mut samples = Vec::new(alloc);
-    for letter in script.bytes() {
-        let (first, second) = match letter {
-            b'0' => (0, 1),
-            b'1' => (2, 3),
-            b'S' => (3, 1),
-            b'P' => (1, 3),
-            _ => continue,
-        };
-        samples.push(first)?;
-        samples.push(second)?;
-    }
-    Ok(samples)
-}
-
-fn opened() -> Result<Driver<I2c>, Fail> {
-    match I2c::open(LINES, RATE) {
-        Ok(machine) => Ok(Driver::new(machine)),
-        Err(_) => Err("not opened".into()),
-    }
-}
-
-fn sample(value: Word) -> Feed {
-    Feed::Run(Run { value, len: 1 })
-}
-
-// After each sample: the clock of a byte that isn't given yet, or the number of samples.
 #[test]
-fn floors_of_a_write(rt: HostRuntime) -> Result<(), Fail> {
-    let mut driver = opened()?;
-    let mut outs = Outs::new();
-    let mut floors = format!(in rt.alloc(); "{}", driver.floor())?;
-    for value in &waves_of(rt.alloc(), "S 10100000 0 0P")? {
-        outs.clear();
-        driver.step(sample(*value), &mut outs);
-        write!(floors, " {}", driver.floor())?;
-    }
-    assert_eq!(rt;
-        floors.as_str(),
-        "0 1 2 3 3 3 3 3 3 3 3 3 3 3 3 3 3 3 18 19 20 21 21 21 24"
-    );
-    Ok(())
-}
-
-fn is_send<T: Send>(_: &T) {}
-
-#[test]
-fn lines_are_bits_of_a_sample(rt: HostRuntime) {
+fn lines_and_floors(rt: HostRuntime) {
+    // lines are bits of a sample
     for (scl, sda, opens) in [
         (0, 1, true),
         (63, 63, true),
@@ -81,57 +33,28 @@ fn lines_are_bits_of_a_sample(rt: HostRuntime) {
                 is_send(&machine);
                 assert!(rt; opens);
             }
-            Err(fault) => {
-                assert!(rt; !opens);
-                assert_eq!(rt; fault, OptFault::Range);
-            }
+            Err(fault) => assert!(rt; !opens && fault == OptFault::Range),
         }
     }
-}
-
-// A class, a value, and the text of such a note.
-const TEXTS: &str = "\
-0 0 Start
-1 0 Start repeat
-2 0 Stop
-3 80 Address write: 50
-4 127 Address read: 7F
-5 0 Data write: 00
-6 195 Data read: C3
-7 0 ACK
-8 0 NACK
-9 0 General call
-10 121 Prefix write: 79
-11 336 Address 10-bit write: 0150
-12 80 Address 10-bit read: 0050
-13 122 Prefix read: 7A
-14 6 General call command: reset and write address
-14 4 General call command: write address
-14 2 General call command: 02
-14 67 General call command: hardware master 21
-15 1 \n65535 1 ";
-
-#[test]
-fn texts_of_notes(rt: HostRuntime) -> Result<(), Fail> {
-    for row in TEXTS.split('\n') {
-        let mut parts = row.splitn(3, ' ');
-        let class = parts.next().unwrap_or("").parse().unwrap_or(0);
-        let a = parts.next().unwrap_or("").parse().unwrap_or(0);
-        let mut buf = LineBuf::new();
-        let note = Note {
-            class,
-            start: 0,
-            end: 0,
-            a,
-            b: 0,
+    // after each sample of a write: the clock of a byte that isn't given yet, or the number of samples
+    let floors = [
+        1, 2, 3, 3, 3, 3, 3, 3, 3, 3, 3, 3, 3, 3, 3, 3, 3, 18, 19, 20, 21, 21, 21, 24,
+    ];
+    let waves = waves_of(rt.alloc(), "S 10100000 0 0P").expect(&rt, "memory");
+    assert!(rt; waves.len() == floors.len());
+    let machine = I2c::open(LINES, RATE).expect(&rt, "a decoder");
+    let mut driver = Driver::new(machine);
+    let mut outs = Outs::new();
+    assert!(rt; driver.floor() == 0);
+    for (value, floor) in waves.iter().zip(&floors) {
+        outs.clear();
+        let run = Run {
+            value: *value,
+            len: 1,
         };
-        text(note, &mut buf);
-        assert!(rt;
-            buf.bytes() == parts.next().unwrap_or("?").as_bytes(),
-            "{row}"
-        );
+        driver.step(Feed::Run(run), &mut outs);
+        assert!(rt; driver.floor() == *floor);
     }
-    Ok(())
 }
 
 // What the decoder gives of samples, which has to be what the plain program gives.
@@ -145,32 +68,6 @@ fn check(rt: &impl Abort, alloc: Global, samples: &[Word]) -> Result<Vec<Out>, F
         }
         Err(_) => Err("not opened".into()),
     }
-}
-
-#[test]
-fn all_short_lists_by_the_plain_program(rt: HostRuntime) -> Result<(), Fail> {
-    for (len, count) in [
-        (0, 1),
-        (1, 4),
-        (2, 16),
-        (3, 64),
-        (4, 256),
-        (5, 1024),
-        (6, 4096),
-        (7, 16_384),
-    ] {
-        for number in 0..count {
-            // the number's digits to base 4
-            let mut samples = Vec::new(rt.alloc());
-            let mut rest: u32 = number;
-            for _ in 0..len {
-                samples.push(Word::from(rest % 4))?;
-                rest /= 4;
-            }
-            check(&rt, rt.alloc(), &samples)?;
-        }
-    }
-    Ok(())
 }
 
 // A script, and the classes of its notes. First ten-bit addresses: one is written to and read from, twice; a prefix
@@ -206,36 +103,45 @@ S 10100001 0 00110010 P > 0 4 7 6 2
 10100000 0 11000011 1 S 10100000 0 > 0 3 7
 S 10100000 0 0P 10100001 0 11110000 0 0P > 0 3 7 2 2";
 
-// The classes of notes, as a text.
-fn classes_of(alloc: Global, outs: &[Out]) -> Result<String, AllocError> {
-    let mut classes = String::new(alloc);
-    for out in outs {
-        if let Out::Note(note) = out {
-            write!(classes, " {}", note.class)?;
+// All short lists, each script, and each script that lost one of its samples.
+#[test]
+fn lists_by_the_plain_program(rt: HostRuntime) -> Result<(), Fail> {
+    let alloc = rt.alloc();
+    for (len, count) in [
+        (0, 1),
+        (1, 4),
+        (2, 16),
+        (3, 64),
+        (4, 256),
+        (5, 1024),
+        (6, 4096),
+        (7, 16_384),
+    ] {
+        for number in 0..count {
+            // the number's digits to base 4
+            let mut samples = Vec::new(alloc);
+            let mut rest: u32 = number;
+            for _ in 0..len {
+                samples.push(Word::from(rest % 4))?;
+                rest /= 4;
+            }
+            check(&rt, alloc, &samples)?;
         }
     }
-    Ok(classes)
-}
-
-// Checks the samples that are left where one of them is lost.
-fn check_losses(rt: &impl Abort, alloc: Global, samples: &[Word]) -> Result<(), Fail> {
-    for lost in 0..samples.len() {
-        let mut others = Vec::from_slice(alloc, samples)?;
-        others.remove(lost);
-        check(rt, alloc, &others)?;
-    }
-    Ok(())
-}
-
-#[test]
-fn long_lists_by_the_plain_program(rt: HostRuntime) -> Result<(), Fail> {
-    let alloc = rt.alloc();
     for row in SCRIPTS.split('\n') {
-        if let Some((script, want)) = row.split_once('>') {
-            let samples = waves_of(alloc, script)?;
-            let classes = classes_of(alloc, &check(&rt, alloc, &samples)?)?;
-            assert!(rt; classes.as_str() == want, "{script}");
-            check_losses(&rt, alloc, &samples)?;
+        let (script, want) = row.split_once('>').unwrap_or(("", "?"));
+        let samples = waves_of(alloc, script)?;
+        let mut classes = String::new(alloc);
+        for out in &check(&rt, alloc, &samples)? {
+            if let Out::Note(note) = out {
+                write!(classes, " {}", note.class)?;
+            }
+        }
+        assert!(rt; classes.as_str() == want, "{script}");
+        for lost in 0..samples.len() {
+            let mut others = Vec::from_slice(alloc, &samples)?;
+            others.remove(lost);
+            check(&rt, alloc, &others)?;
         }
     }
     Ok(())

@@ -1,13 +1,13 @@
 // Samples are hexadecimal digits.
 ghost use Rattle.std.specs.Prelude.{◌≤◌};
 
-use super::feeding::{Told, decoded, runs_of};
-use dec_spi::{Spi, SpiOpts, text};
+use super::feeding::{Told, decoded, runs_of, said};
+use crate::rows::is_send;
+use dec_spi::{Spi, SpiOpts};
 use decoder_core::OptFault;
-use la_base::{Note, Out, PacketKind, Rate, Word};
-use line_text::LineBuf;
+use la_base::{Rate, Word};
 use plain_decoders::spi::outputs_of;
-use std::alloc::{AllocError, Global};
+use std::alloc::Global;
 use std::process::Abort;
 use std::test::Fail;
 
@@ -69,17 +69,13 @@ const ROWS: &str = "\
 63 - 63 63 1 1 32 4 [] Range
 63 - - 63 1 1 32 3 [] Range";
 
-fn line_of(word: &str) -> Option<u32> {
-    word.parse().ok()
-}
-
 fn opts_of(settings: &str) -> SpiOpts {
     let mut words = settings.split(' ');
     SpiOpts {
         sck: words.next().unwrap_or("").parse().unwrap_or(0),
-        mosi: line_of(words.next().unwrap_or("")),
-        miso: line_of(words.next().unwrap_or("")),
-        cs: line_of(words.next().unwrap_or("")),
+        mosi: words.next().unwrap_or("").parse().ok(),
+        miso: words.next().unwrap_or("").parse().ok(),
+        cs: words.next().unwrap_or("").parse().ok(),
         cpol: words.next().unwrap_or("").parse().unwrap_or(0),
         cpha: words.next().unwrap_or("").parse().unwrap_or(0),
         bits: words.next().unwrap_or("").parse().unwrap_or(0),
@@ -87,71 +83,7 @@ fn opts_of(settings: &str) -> SpiOpts {
     }
 }
 
-fn samples_of(alloc: Global, digits: &str) -> Result<Vec<Word>, AllocError> {
-    let mut samples = Vec::new(alloc);
-    for digit in digits.chars() {
-        samples.push(Word::from(digit.to_digit(16).unwrap_or(0)))?;
-    }
-    Ok(samples)
-}
-
-// What a decoder says: behind its span the text of each note, each piece behind a point and its class, the values of
-// each packet behind a number sign and its kind; and the floor.
-#[tactic(auto, using(line_text::proofs::Widths::hex_room))]
-fn said(alloc: Global, told: &Told) -> Result<Vec<u8>, AllocError> {
-    let mut all = Vec::new(alloc);
-    for out in &told.outs {
-        let mut buf = LineBuf::new();
-        match out {
-            Out::Note(note) => {
-                buf.push_bytes(b" ");
-                buf.push_number(note.start);
-                buf.push_bytes(b"-");
-                buf.push_number(note.end);
-                buf.push_bytes(b" ");
-                text(*note, &mut buf);
-            }
-            Out::Piece(piece) => {
-                buf.push_bytes(b" ");
-                buf.push_number(piece.start);
-                buf.push_bytes(b"-");
-                buf.push_number(piece.end);
-                buf.push_bytes(b" ");
-                buf.push_bytes(b".");
-                buf.push_number(piece.class as u64);
-                buf.push_bytes(b" ");
-                buf.push_hex(piece.byte as u64, 2);
-            }
-            Out::Packet(packet) => {
-                buf.push_bytes(b" ");
-                buf.push_number(packet.start);
-                buf.push_bytes(b"-");
-                buf.push_number(packet.end);
-                buf.push_bytes(b" ");
-                buf.push_bytes(match packet.kind {
-                    PacketKind::SpiSelect => b"#S ",
-                    PacketKind::SpiWord => b"#W ",
-                    PacketKind::SpiDeselect => b"#D ",
-                    _ => b"#? ",
-                });
-                buf.push_hex(packet.a, 1);
-                buf.push_bytes(b"/");
-                buf.push_hex(packet.b, 1);
-            }
-        }
-        all.extend_from_slice(buf.bytes())?;
-    }
-    let mut buf = LineBuf::new();
-    buf.push_bytes(b" @");
-    buf.push_number(told.near);
-    all.extend_from_slice(buf.bytes())?;
-    Ok(all)
-}
-
-fn is_send<T: Send>(_: &T) {}
-
-// What the decoder says of samples, which has to be what the plain program says, however they are cut into runs; or that
-// it can't be opened.
+// What the decoder says of samples, which has to be what the plain program says, however they are cut into runs.
 fn answer(rt: &impl Abort, alloc: Global, opts: SpiOpts, samples: &[Word]) -> Result<Told, Fail> {
     let mut last = Told {
         outs: Vec::new(alloc),
@@ -165,8 +97,7 @@ fn answer(rt: &impl Abort, alloc: Global, opts: SpiOpts, samples: &[Word]) -> Re
                 last = decoded(alloc, machine, &runs_of(alloc, samples, most)?)?;
                 assert!(rt; last.outs.as_slice() == want.as_slice());
             }
-            Err(OptFault::Range) => return Err(" Range".into()),
-            Err(OptFault::Rate) => return Err(" Rate".into()),
+            Err(_) => return Err("not opened".into()),
         }
     }
     Ok(last)
@@ -174,56 +105,28 @@ fn answer(rt: &impl Abort, alloc: Global, opts: SpiOpts, samples: &[Word]) -> Re
 
 #[test]
 fn samples_worked_by_hand(rt: HostRuntime) -> Result<(), Fail> {
+    let alloc = rt.alloc();
     for row in ROWS.split('\n') {
-        if let Some((settings, rest)) = row.split_once('[') {
-            let (digits, want) = rest.split_once(']').unwrap_or(("", "?"));
-            let opts = opts_of(settings);
-            let samples = samples_of(rt.alloc(), digits)?;
-            if want == " Range" {
-                assert!(rt;
-                    Spi::open(opts, RATE).err() == Some(OptFault::Range),
-                    "{row}"
-                );
-            } else {
-                let told = answer(&rt, rt.alloc(), opts, &samples)?;
-                let says = said(rt.alloc(), &told)?;
-                assert!(rt; says.as_slice() == want.as_bytes(), "{row}");
-            }
+        if row.starts_with('#') {
+            continue;
         }
-    }
-    Ok(())
-}
-
-// A class, two values, and the text of such a note.
-const TEXTS: &str = "\
-0 0 0 Select
-1 159 291 MOSI 9F MISO 123
-1 18446744073709551615 10 MOSI FFFFFFFFFFFFFFFF MISO 0A
-2 0 5 MOSI 00
-3 5 195 MISO C3
-4 1 1 Deselect
-5 1 1 \n65535 1 1 ";
-
-#[test]
-fn texts_of_notes(rt: HostRuntime) -> Result<(), Fail> {
-    for row in TEXTS.split('\n') {
-        let mut parts = row.splitn(4, ' ');
-        let class = parts.next().unwrap_or("").parse().unwrap_or(0);
-        let a = parts.next().unwrap_or("").parse().unwrap_or(0);
-        let b = parts.next().unwrap_or("").parse().unwrap_or(0);
-        let mut buf = LineBuf::new();
-        let note = Note {
-            class,
-            start: 0,
-            end: 0,
-            a,
-            b,
-        };
-        text(note, &mut buf);
-        assert!(rt;
-            buf.bytes() == parts.next().unwrap_or("?").as_bytes(),
-            "{row}"
-        );
+        let (settings, rest) = row.split_once('[').unwrap_or(("", ""));
+        let (digits, want) = rest.split_once(']').unwrap_or(("", "?"));
+        let opts = opts_of(settings);
+        let mut samples = Vec::new(alloc);
+        for digit in digits.chars() {
+            samples.push(Word::from(digit.to_digit(16).unwrap_or(0)))?;
+        }
+        if want == " Range" {
+            assert!(rt;
+                Spi::open(opts, RATE).err() == Some(OptFault::Range),
+                "{row}"
+            );
+            continue;
+        }
+        let told = answer(&rt, alloc, opts, &samples)?;
+        let says = said(alloc, true, &told)?;
+        assert!(rt; says.as_slice() == want.as_bytes(), "{row}");
     }
     Ok(())
 }
@@ -234,53 +137,6 @@ const SHORT: &str = "\
 4 0 1 - 2 0 1 2 3
 4 0 1 2 - 0 0 2 0
 5 0 - 1 2 1 0 2 2";
-
-// The digits of a number to base 8, so many.
-fn digits_of(alloc: Global, number: u32, len: u32) -> Result<Vec<Word>, AllocError> {
-    let mut digits = Vec::new(alloc);
-    let mut rest = number;
-    for _ in 0..len {
-        digits.push(Word::from(rest % 8))?;
-        rest /= 8;
-    }
-    Ok(digits)
-}
-
-#[test]
-fn all_short_lists_by_the_plain_program(rt: HostRuntime) -> Result<(), Fail> {
-    for row in SHORT.split('\n') {
-        let (longest, settings) = row.split_once(' ').unwrap_or(("", ""));
-        let opts = opts_of(settings);
-        for len in 0..longest.parse::<u32>().unwrap_or(0).min(9) + 1 {
-            for number in 0..8u32.wrapping_pow(len) {
-                let samples = digits_of(rt.alloc(), number, len)?;
-                answer(&rt, rt.alloc(), opts, &samples)?;
-            }
-        }
-    }
-    Ok(())
-}
-
-// So many samples: the data lines are drawn anew at each, the clock changes at each second one or so, the select line
-// at one in 64.
-fn drawn(alloc: Global, len: u32) -> Result<Vec<Word>, AllocError> {
-    let mut samples = Vec::new(alloc);
-    let mut number: u64 = 7;
-    let mut steady: u64 = 4;
-    for _ in 0..len {
-        number = number
-            .wrapping_mul(6_364_136_223_846_793_005)
-            .wrapping_add(1);
-        if number >> 63 == 1 {
-            steady ^= 1;
-        }
-        if (number >> 56) % 64 == 0 {
-            steady ^= 4;
-        }
-        samples.push(steady | (number >> 50) & 10)?;
-    }
-    Ok(samples)
-}
 
 // The lines of a decoder, its polarity and its phase.
 const LINES: &str = "\
@@ -297,9 +153,42 @@ const LINES: &str = "\
 0 - 3 2 1 0
 0 - 3 2 1 1";
 
+// All short lists, and one long one: the data lines are drawn anew at each sample, the clock changes at each second one
+// or so, the select line at one in 64.
 #[test]
-fn long_lists_by_the_plain_program(rt: HostRuntime) -> Result<(), Fail> {
-    let samples = drawn(rt.alloc(), 1000)?;
+fn lists_by_the_plain_program(rt: HostRuntime) -> Result<(), Fail> {
+    let alloc = rt.alloc();
+    for row in SHORT.split('\n') {
+        let (longest, settings) = row.split_once(' ').unwrap_or(("", ""));
+        let opts = opts_of(settings);
+        for len in 0..longest.parse::<u32>().unwrap_or(0).min(9) + 1 {
+            for number in 0..8u32.wrapping_pow(len) {
+                // the number's digits to base 8
+                let mut samples = Vec::new(alloc);
+                let mut rest: u32 = number;
+                for _ in 0..len {
+                    samples.push(Word::from(rest % 8))?;
+                    rest /= 8;
+                }
+                answer(&rt, alloc, opts, &samples)?;
+            }
+        }
+    }
+    let mut samples = Vec::new(alloc);
+    let mut number: u64 = 7;
+    let mut steady: u64 = 4;
+    for _ in 0..1000 {
+        number = number
+            .wrapping_mul(6_364_136_223_846_793_005)
+            .wrapping_add(1);
+        if number >> 63 == 1 {
+            steady ^= 1;
+        }
+        if (number >> 56) % 64 == 0 {
+            steady ^= 4;
+        }
+        samples.push(steady | (number >> 50) & 10)?;
+    }
     for row in LINES.split('\n') {
         for bits in [1, 7, 8, 17, 32] {
             for mode in 0..4 {
@@ -308,7 +197,7 @@ fn long_lists_by_the_plain_program(rt: HostRuntime) -> Result<(), Fail> {
                     mode,
                     ..opts_of(row)
                 };
-                answer(&rt, rt.alloc(), opts, &samples)?;
+                answer(&rt, alloc, opts, &samples)?;
             }
         }
     }

@@ -1,30 +1,30 @@
 ghost use Rattle.std.specs.Prelude.{◌≤◌, ◌^◌};
 
-use super::feeding::{Told, decoded, runs_of};
-use dec_uart::{Line, Uart, UartOpts, text};
-use decoder_core::OptFault;
-use la_base::{Note, Out, Rate, Run, Word};
-use line_text::LineBuf;
+use super::feeding::{Told, decoded, runs_of, said};
+use crate::rows::is_send;
+use dec_uart::{Line, Uart, UartOpts};
+use la_base::{Out, Rate, Run, Word};
 use plain_decoders::uart::{near_of, outputs_of};
-use std::alloc::{AllocError, Global};
+use std::alloc::Global;
 use std::process::Abort;
 use std::test::Fail;
 
 const KILOHERTZ: Rate = Rate { num: 1000, den: 1 };
 
-// Line 0, read in the middle of a bit.
-fn line(baud: u64, bits: u64, parity: u64, stop: u64) -> UartOpts {
-    UartOpts {
-        rx: 0,
-        baud,
-        bits,
-        parity,
-        stop,
-        sp: 50,
-    }
-}
+// Samples in which line 0 has a level and the other lines are high.
+const HIGH: Word = u64::MAX;
 
-fn is_send<T: Send>(_: &T) {}
+const LOW: Word = u64::MAX - 1;
+
+// Line 0, read in the middle of a bit.
+const LINE: UartOpts = UartOpts {
+    rx: 0,
+    baud: 1,
+    bits: 8,
+    parity: 0,
+    stop: 1,
+    sp: 50,
+};
 
 // What the decoder gives of samples, which has to be what the plain program gives, however they are cut into runs.
 fn check(
@@ -53,42 +53,6 @@ fn check(
         assert!(rt; last.near == near_of(alloc, line, samples)?);
     }
     Ok(last)
-}
-
-// What a line says: the span and the text of each note, each piece behind a point, the values of each packet behind a
-// number sign, and the floor.
-#[tactic(auto, using(line_text::proofs::Widths::hex_room))]
-fn said(alloc: Global, told: &Told) -> Result<Vec<u8>, AllocError> {
-    let mut all = Vec::new(alloc);
-    for out in &told.outs {
-        let mut buf = LineBuf::new();
-        match out {
-            Out::Note(note) => {
-                buf.push_bytes(b" ");
-                buf.push_number(note.start);
-                buf.push_bytes(b"-");
-                buf.push_number(note.end);
-                buf.push_bytes(b" ");
-                text(*note, &mut buf);
-            }
-            Out::Piece(piece) => {
-                buf.push_bytes(b" .");
-                buf.push_hex(piece.byte as u64, 2);
-            }
-            Out::Packet(packet) => {
-                buf.push_bytes(b" #");
-                buf.push_hex(packet.a, 1);
-                buf.push_bytes(b"/");
-                buf.push_hex(packet.b, 1);
-            }
-        }
-        all.extend_from_slice(buf.bytes())?;
-    }
-    let mut buf = LineBuf::new();
-    buf.push_bytes(b" @");
-    buf.push_number(told.near);
-    all.extend_from_slice(buf.bytes())?;
-    Ok(all)
 }
 
 // Lines at 1,000 samples a second, one in each row: bits a second, data bits, parity, stop bits, and how many samples
@@ -142,68 +106,42 @@ const ROWS: &str = "\
 # the last bit isn't read yet
 250 8 0 1 4 [1 0 10000010] @4";
 
-// The five numbers of a row.
-fn numbers_of(settings: &str) -> [u64; 5] {
-    let mut numbers = [0; 5];
-    for (place, number) in settings.split(' ').enumerate() {
-        if place < 5 {
-            numbers[place] = number.parse::<u64>().unwrap_or(0);
-        }
-    }
-    numbers
-}
-
-// A sample in which line 0 has a level and the other lines are high.
-fn sample(level: bool) -> Word {
-    if level { u64::MAX } else { u64::MAX - 1 }
-}
-
-// The samples of a row, each level so many times.
-fn samples_of(alloc: Global, wave: &str, times: u64) -> Result<Vec<Word>, AllocError> {
-    let mut samples = Vec::new(alloc);
-    for letter in wave.bytes() {
-        if letter != b' ' {
-            for _ in 0..times {
-                samples.push(sample(letter == b'1'))?;
-            }
-        }
-    }
-    Ok(samples)
-}
-
-// What a row's line says, as the decoder and the plain program have it.
-fn row_says(rt: &impl Abort, alloc: Global, settings: &str, wave: &str) -> Result<Vec<u8>, Fail> {
-    let [baud, bits, parity, stop, times] = numbers_of(settings);
-    let samples = samples_of(alloc, wave, times)?;
-    let told = check(
-        rt,
-        alloc,
-        line(baud, bits, parity, stop),
-        KILOHERTZ,
-        &samples,
-    )?;
-    Ok(said(alloc, &told)?)
-}
-
 #[test]
 fn lines_worked_by_hand(rt: HostRuntime) -> Result<(), Fail> {
+    let alloc = rt.alloc();
     for row in ROWS.split('\n') {
-        match row.split_once('[') {
-            Some((settings, rest)) => match rest.split_once(']') {
-                Some((wave, want)) => {
-                    let says = row_says(&rt, rt.alloc(), settings, wave)?;
-                    assert_eq!(rt; says.as_slice(), want.as_bytes(), "{row}");
-                }
-                None => assert!(rt; false),
-            },
-            None => assert!(rt; row.starts_with('#')),
+        if row.starts_with('#') {
+            continue;
         }
+        let (settings, rest) = row.split_once('[').unwrap_or(("", ""));
+        let (wave, want) = rest.split_once(']').unwrap_or(("", "?"));
+        let mut numbers = [0; 5];
+        for (place, number) in settings.split(' ').enumerate() {
+            if place < 5 {
+                numbers[place] = number.parse::<u64>().unwrap_or(0);
+            }
+        }
+        let [baud, bits, parity, stop, times] = numbers;
+        let mut samples = Vec::new(alloc);
+        for letter in wave.bytes() {
+            if letter != b' ' {
+                for _ in 0..times {
+                    samples.push(if letter == b'1' { HIGH } else { LOW })?;
+                }
+            }
+        }
+        let opts = UartOpts {
+            baud,
+            bits,
+            parity,
+            stop,
+            ..LINE
+        };
+        let told = check(&rt, alloc, opts, KILOHERTZ, &samples)?;
+        let says = said(alloc, false, &told)?;
+        assert!(rt; says.as_slice() == want.as_bytes(), "{row}");
     }
-    Ok(())
-}
-
-#[test]
-fn a_bit_a_second_at_the_highest_rate(rt: HostRuntime) -> Result<(), Fail> {
+    // a bit a second at the highest rate
     let second = 1_000_000_000_000_000;
     let rate = Rate {
         num: second,
@@ -219,10 +157,10 @@ fn a_bit_a_second_at_the_highest_rate(rt: HostRuntime) -> Result<(), Fail> {
     ];
     let want =
         " 10-9500000000000010 00 10-9500000000000010 Frame error .00 #0/2 10-10000000000000010 Break #0/0 @10000000000000017";
-    match Uart::open(line(1, 8, 0, 1), rate) {
+    match Uart::open(LINE, rate) {
         Ok(machine) => {
-            let told = decoded(rt.alloc(), machine, &runs)?;
-            assert_eq!(rt; said(rt.alloc(), &told)?.as_slice(), want.as_bytes());
+            let told = decoded(alloc, machine, &runs)?;
+            assert!(rt; said(alloc, false, &told)?.as_slice() == want.as_bytes());
         }
         Err(_) => return Err("not opened".into()),
     }
@@ -232,7 +170,7 @@ fn a_bit_a_second_at_the_highest_rate(rt: HostRuntime) -> Result<(), Fail> {
 // Settings, and what becomes of them: the bit of the line, bits a second, data bits, parity, stop bits, hundredths, and
 // the two numbers of the rate. First each option at the ends of its range and behind them; then rates that are just high
 // enough and just not, among them a million samples a second as a fraction whose parts are as large as they can be.
-const SETTINGS: &str = "\
+pub const SETTINGS: &str = "\
 63 500 9 4 2 50 1000 1 opens
 64 500 8 0 1 50 1000 1 Range
 0 0 8 0 1 50 1000 1 Range
@@ -254,113 +192,39 @@ const SETTINGS: &str = "\
 0 990001 8 0 1 99 1000000000000000 1000000000 Rate
 0 10000000 8 0 1 99 1 18446744073709551615 Rate";
 
-// The word for what becomes of options at a rate.
-fn opened(opts: UartOpts, rate: Rate) -> &'static str
-    requires { rate.num ≤ 10 ^ 15 }
-{
-    match Uart::open(opts, rate) {
-        Ok(_) => "opens",
-        Err(OptFault::Range) => "Range",
-        Err(OptFault::Rate) => "Rate",
-    }
-}
-
-#[test]
-fn settings_and_rates(rt: HostRuntime) {
-    for row in SETTINGS.split('\n') {
-        let mut words = row.split(' ');
-        let opts = UartOpts {
-            rx: words.next().unwrap_or("").parse().unwrap_or(0),
-            baud: words.next().unwrap_or("").parse().unwrap_or(0),
-            bits: words.next().unwrap_or("").parse().unwrap_or(0),
-            parity: words.next().unwrap_or("").parse().unwrap_or(0),
-            stop: words.next().unwrap_or("").parse().unwrap_or(0),
-            sp: words.next().unwrap_or("").parse().unwrap_or(0),
-        };
-        let num: u64 = words.next().unwrap_or("").parse().unwrap_or(0);
-        let den: u64 = words.next().unwrap_or("").parse().unwrap_or(0);
-        let rate = Rate {
-            num: num.clamp(1, 1_000_000_000_000_000),
-            den: den.max(1),
-        };
-        assert!(rt; opened(opts, rate) == words.next().unwrap_or("?"), "{row}");
-    }
-}
-
-#[test]
-fn a_class_without_a_text(rt: HostRuntime) {
-    let mut buf = LineBuf::new();
-    let note = Note {
-        class: 5,
-        start: 0,
-        end: 0,
-        a: 1,
-        b: 0,
-    };
-    text(note, &mut buf);
-    assert!(rt; buf.bytes().is_empty());
-}
-
 // A sample a bit and a little more, and three samples for two bits.
 const ONE: Rate = Rate { num: 102, den: 100 };
 
 const THREE_FOR_TWO: Rate = Rate { num: 3, den: 2 };
 
-// The binary digits of a number below its highest one, the lowest first: each list of up to 12 levels has its number.
-fn short_line(alloc: Global, number: u32) -> Result<Vec<Word>, AllocError> {
-    let mut samples = Vec::new(alloc);
-    for place in 0..12_u32 {
-        if number >> place > 1 {
-            samples.push(sample((number >> place) & 1 == 1))?;
-        }
-    }
-    Ok(samples)
-}
-
+// All short lists; and long ones, whose levels stand for up to two bits of four samples, and at times for a frame and
+// more: numbers that look like chance, from a seed.
 #[test]
-fn all_short_lists_by_the_plain_program(rt: HostRuntime) -> Result<(), Fail> {
+fn lists_by_the_plain_program(rt: HostRuntime) -> Result<(), Fail> {
+    let alloc = rt.alloc();
     for (rate, sp, parity, stop) in [(ONE, 99, 0, 1), (ONE, 99, 1, 2), (THREE_FOR_TWO, 67, 0, 1)] {
         let opts = UartOpts {
+            bits: 5,
+            parity,
+            stop,
             sp,
-            ..line(1, 5, parity, stop)
+            ..LINE
         };
         for number in 1..8192 {
-            let samples = short_line(rt.alloc(), number)?;
-            check(&rt, rt.alloc(), opts, rate, &samples)?;
+            // the binary digits below the highest one, the lowest first: each list of up to 12 levels has its number
+            let mut samples = Vec::new(alloc);
+            let mut rest: u32 = number;
+            for _ in 0..12u32 {
+                if rest > 1 {
+                    samples.push(if rest & 1 == 1 { HIGH } else { LOW })?;
+                    rest /= 2;
+                }
+            }
+            check(&rt, alloc, opts, rate, &samples)?;
         }
     }
-    Ok(())
-}
-
-// A line whose levels stand for up to two bits of four samples, and at times for a frame and more: numbers that look
-// like chance, from a seed.
-fn line_by_chance(alloc: Global, seed: u32) -> Result<Vec<Word>, AllocError> {
-    let mut samples = Vec::new(alloc);
-    let mut number = seed;
-    for place in 0..60 {
-        number = number.wrapping_mul(1_103_515_245).wrapping_add(12345);
-        let most = if number & 7 == 0 { 63 } else { 7 };
-        for _ in 0..(number >> 16) & most {
-            samples.push(sample(place % 2 == 0))?;
-        }
-    }
-    Ok(samples)
-}
-
-// The classes of notes, each as a bit.
-fn classes_of(told: &Told) -> u64 {
-    let mut classes = 0;
-    for out in &told.outs {
-        if let Out::Note(note) = out {
-            classes |= 1 << note.class.min(5);
-        }
-    }
-    classes
-}
-
-#[test]
-fn long_lists_by_the_plain_program(rt: HostRuntime) -> Result<(), Fail> {
-    let mut seen = 0;
+    // the classes of notes, each as a bit
+    let mut seen: u64 = 0;
     for seed in 0..75 {
         let (rate, baud, stop, sp) = match seed / 25 {
             0 => (KILOHERTZ, 300, 1, 50),
@@ -368,13 +232,29 @@ fn long_lists_by_the_plain_program(rt: HostRuntime) -> Result<(), Fail> {
             _ => (THREE_FOR_TWO, 1, 1, 67),
         };
         let opts = UartOpts {
+            baud,
+            bits: 5 + seed % 5,
+            parity: seed / 5 % 5,
+            stop,
             sp,
-            ..line(baud, 5 + seed % 5, seed / 5 % 5, stop)
+            ..LINE
         };
-        let samples = line_by_chance(rt.alloc(), seed as u32)?;
-        seen |= classes_of(&check(&rt, rt.alloc(), opts, rate, &samples)?);
+        let mut samples = Vec::new(alloc);
+        let mut number = seed as u32;
+        for place in 0..60 {
+            number = number.wrapping_mul(1_103_515_245).wrapping_add(12345);
+            let most = if number & 7 == 0 { 63 } else { 7 };
+            for _ in 0..(number >> 16) & most {
+                samples.push(if place % 2 == 0 { HIGH } else { LOW })?;
+            }
+        }
+        for out in &check(&rt, alloc, opts, rate, &samples)?.outs {
+            if let Out::Note(note) = out {
+                seen |= 1 << note.class.min(5);
+            }
+        }
     }
     // each class came
-    assert_eq!(rt; seen, 31);
+    assert!(rt; seen == 31);
     Ok(())
 }
