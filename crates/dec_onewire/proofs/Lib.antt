@@ -1,0 +1,2 @@
+mod PulseLaws
+mod SegmentLaws

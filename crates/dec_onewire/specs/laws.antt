@@ -1,0 +1,12 @@
+-- The machines' view, and lemmas that laws of machines cite.
+pub mod LinkMachine
+pub mod LinkPushed
+pub mod LinkSound
+pub mod LinkLaws
+pub mod LinkMachineLaws
+pub mod PacketWalks
+pub mod NetMachine
+pub mod CutLaws
+pub mod NetPushed
+pub mod NetSound
+pub mod NetLaws

@@ -1,0 +1,83 @@
+// The link as a decoder of samples: it sleeps from edge to edge.
+ghost use Rattle.std.specs.Prelude.{◌≡◌, ◌<◌, ◌^◌, ◌∷◌, [], ℕ, List};
+ghost use Rattle.la_base.specs.declared.samples.TheConstants.{MOST_PINS};
+ghost use Rattle.la_base.specs.declared.wires.Wire.TheVariants.{OwLink as LinkWire};
+ghost use Rattle.dec_onewire.specs.Link.{link_outs, link_near};
+ghost use Rattle.dec_onewire.specs.Opening.{StandsFor, alts_of};
+ghost use Rattle.dec_onewire.specs.laws.LinkMachine.{edge_alt};
+ghost use Rattle.dec_onewire.specs.laws.LinkLaws.{link_nothing, link_prefix, link_order, link_few, link_on_wire};
+ghost use Rattle.dec_onewire.specs.laws.LinkMachineLaws.{machine_quiet, one_link, link_one_stop};
+
+use super::pulses::{give, near, next};
+use super::{Line, OwLink};
+use decoder_core::{LogicMachine, Outs};
+use la_base::{MOST_PINS, Word, pin};
+use wait_cond::{Alt, Cond, Waiter};
+
+// An edge of a line.
+fn edge_alt(line: u32) -> Alt
+    requires { line < MOST_PINS }
+    ensures { result ≡ edge_alt line }
+{
+    Alt {
+        low: 0,
+        high: 0,
+        rise: 0,
+        fall: 0,
+        edge: 1 << line,
+        steady: 0,
+        skip: 0,
+    }
+}
+
+impl LogicMachine for OwLink {
+    type Setup = Line;
+
+    ghost setup = { λ machine. machine.line };
+
+    ghost outs = { λ line list. link_outs line.opts line.rate list };
+
+    ghost near = { λ line list. link_near line.opts list };
+
+    ghost gives = { λ _. LinkWire };
+
+    ghost stands = { λ machine list. StandsFor machine list };
+
+    ghost alts = { λ machine. alts_of machine };
+
+    fn cond(&self) -> Cond {
+        Cond::one(edge_alt(self.line.opts.dq))
+    }
+
+    fn wait(&self, waiter: &mut Waiter) {
+        waiter.renew_one(edge_alt(self.line.opts.dq));
+    }
+
+    // The same edges are waited for all the time.
+    fn resume(&mut self, at: u64, value: Word, _met: u8, into: &mut Outs) -> bool {
+        let level = pin(value, self.line.opts.dq);
+        give(&self.lengths, self.held, at, level, into);
+        self.held = next(&self.lengths, self.held, at, level);
+        false
+    }
+
+    fn floor(&self, next: u64) -> u64 {
+        near(self.held, next)
+    }
+
+    ghost quiet = { λ machine seen more stands rests. machine_quiet machine seen more stands rests };
+
+    ghost nothing = { λ machine. link_nothing machine.line.opts machine.line.rate };
+
+    ghost prefix = { λ machine. link_prefix machine.line.opts machine.line.rate };
+
+    ghost order = { λ machine. link_order machine.line.opts machine.line.rate };
+
+    ghost few = { λ machine. link_few machine.line.opts machine.line.rate };
+
+    ghost on_wire = { λ machine. link_on_wire machine.line.opts machine.line.rate };
+
+    ghost one_machine = { λ one other list same stands also. one_link one other list same stands also };
+
+    ghost one_stop = { λ one other seen more same stands also rests. link_one_stop one other seen more same stands also rests };
+}

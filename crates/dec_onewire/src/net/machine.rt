@@ -1,0 +1,115 @@
+// The network as a decoder of packets.
+ghost use Rattle.std.specs.Prelude.{◌≡◌, []};
+ghost use Rattle.la_base.specs.declared.wires.Wire.TheVariants.{OwLink as LinkWire, OwNet as NetWire};
+ghost use Rattle.dec_onewire.specs.Net.{net_outs, net_near};
+ghost use Rattle.dec_onewire.specs.Opening.{NetStandsFor};
+ghost use Rattle.dec_onewire.specs.laws.NetMachine.{gives, next, near_by, answered_gives, answered_next, inside_gives, inside_next};
+ghost use Rattle.dec_onewire.specs.laws.NetLaws.{net_nothing, net_prefix, net_order, net_few, net_on_wire, one_net};
+
+use super::packets::{is_bit, is_presence, is_reset};
+use super::units::{bit, none_begun};
+use super::{Held, OwNet, OwNetOpts, Role};
+use decoder_core::{Outs, PacketMachine, span_note, span_packet};
+use la_base::{Packet, PacketKind, Wire};
+
+// The packet right behind a reset, which starts at `start`: it opens a segment if it is a presence.
+fn answered(start: u64, packet: Packet, into: &mut Outs) -> Held
+    requires { into.old ≡ [] }
+    ensures gives { into.new ≡ answered_gives start packet }
+    ensures next { result ≡ answered_next packet }
+{
+    if !is_presence(packet.kind) {
+        return Held::Outside;
+    }
+    into.push(span_note(0, start, packet.end, 0, 0));
+    into.push(span_packet(PacketKind::NetReset, start, packet.end, 0, 0));
+    Held::Inside {
+        role: Role::Command,
+        begun: none_begun(),
+    }
+}
+
+// A packet that is no reset.
+fn follow(held: Held, packet: Packet, into: &mut Outs) -> Held
+    requires { into.old ≡ [] }
+    ensures gives { into.new ≡ inside_gives held packet }
+    ensures next { result ≡ inside_next held packet }
+{
+    match held {
+        Held::Outside => Held::Outside,
+        Held::Reset { start } => answered(start, packet, into),
+        Held::Inside { role, begun } => {
+            if is_bit(packet.kind) {
+                bit(role, begun, packet, into)
+            } else {
+                held
+            }
+        }
+    }
+}
+
+// What is kept behind a packet, which puts out what it gives.
+fn take(held: Held, packet: Packet, into: &mut Outs) -> Held
+    requires { into.old ≡ [] }
+    ensures gives { into.new ≡ gives held packet }
+    ensures next { result ≡ next held packet }
+{
+    if is_reset(packet.kind) {
+        Held::Reset {
+            start: packet.start,
+        }
+    } else {
+        follow(held, packet, into)
+    }
+}
+
+// Where the reset starts that nothing has followed yet, or what has begun and isn't whole; else `from`.
+fn near(held: Held, from: u64) -> u64
+    ensures { result ≡ near_by held from }
+{
+    match held {
+        Held::Outside => from,
+        Held::Reset { start } => start,
+        Held::Inside { begun, .. } => { if begun.count == 0 { from } else { begun.start } }
+    }
+}
+
+impl PacketMachine for OwNet {
+    type Setup = OwNetOpts;
+
+    ghost setup = { λ _. record {} };
+
+    ghost wire = { λ _. LinkWire };
+
+    ghost gives = { λ _. NetWire };
+
+    ghost outs = { λ _ packets. net_outs packets };
+
+    ghost near = { λ _ packets. net_near packets };
+
+    ghost stands = { λ machine packets. NetStandsFor machine packets };
+
+    fn wants(&self) -> Wire {
+        Wire::OwLink
+    }
+
+    fn accept(&mut self, packet: Packet, into: &mut Outs) {
+        self.held = take(self.held, packet, into);
+    }
+
+    fn floor(&self, from: u64) -> u64 {
+        near(self.held, from)
+    }
+
+    ghost nothing = { λ _. net_nothing };
+
+    ghost prefix = { λ _. net_prefix };
+
+    ghost order = { λ _. net_order };
+
+    ghost few = { λ _. net_few };
+
+    ghost on_wire = { λ _. net_on_wire };
+
+    ghost one_machine = { λ one other packets same stands also. one_net one other packets stands also };
+}
