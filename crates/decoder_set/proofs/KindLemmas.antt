@@ -4,6 +4,9 @@ use Rattle.decoder_core.specs.Inputs.{Item, counted_samples}
 use Rattle.dec_i2c.specs.Opening as i2c
 use Rattle.dec_i2c.specs.Bus.{i2c_outs, i2c_near}
 use Rattle.dec_i2c.specs.declared.held.I2c.{I2c}
+use Rattle.dec_onewire.specs.Link.{link_outs, link_near}
+use Rattle.dec_onewire.specs.Opening as onewire
+use Rattle.dec_onewire.specs.declared.link.held.OwLink.{OwLink}
 use Rattle.dec_spi.specs.Opening as spi
 use Rattle.dec_spi.specs.Bus.{spi_outs, spi_near}
 use Rattle.dec_spi.specs.declared.held.Spi.{Spi}
@@ -14,8 +17,8 @@ use Rattle.dec_uart.specs.declared.held.Uart.{Uart}
 use Rattle.decoder_set.specs.declared.kinds.Kind.{Kind}
 use Rattle.decoder_set.specs.declared.kinds.Kind.TheVariants as kind
 use Rattle.decoder_set.specs.declared.setup.Setup.{Setup}
-use Rattle.decoder_set.specs.Opening.{IsI2c, IsSpi, IsUart}
-use Rattle.decoder_set.specs.Options.{i2c_options, spi_options, uart_options}
+use Rattle.decoder_set.specs.Opening.{IsI2c, IsLink, IsSpi, IsUart}
+use Rattle.decoder_set.specs.Options.{i2c_options, link_options, spi_options, uart_options}
 use Rattle.decoder_set.specs.Setups.{outs_by, outs_of, near_by, near_of}
 
 module _ (setup : Setup) where
@@ -51,3 +54,13 @@ module _ (setup : Setup) where
       → near_of setup input ≡ uart_near (uart.line_of machine).opts (uart.line_of machine).rate (counted_samples input)
   uart_near_is machine is own input =
       ap (λ (k : Kind). near_by k values setup.rate input) is ∙ (λ i. uart_near (sym own.0 i) (sym own.1 i) (counted_samples input))
+
+  pub link_outs_are : (machine : OwLink) → setup.kind ≡ kind.OwLink → IsLink (link_options setup.values.given) setup.rate machine → (input : List Item)
+      → outs_of setup input ≡ link_outs (onewire.line_of machine).opts (onewire.line_of machine).rate (counted_samples input)
+  link_outs_are machine is own input =
+      ap (λ (k : Kind). outs_by k values setup.rate input) is ∙ (λ i. link_outs (sym own.0 i) (sym own.1 i) (counted_samples input))
+
+  pub link_near_is : (machine : OwLink) → setup.kind ≡ kind.OwLink → IsLink (link_options setup.values.given) setup.rate machine → (input : List Item)
+      → near_of setup input ≡ link_near (onewire.line_of machine).opts (counted_samples input)
+  link_near_is machine is own input =
+      ap (λ (k : Kind). near_by k values setup.rate input) is ∙ (λ i. link_near (sym own.0 i) (counted_samples input))

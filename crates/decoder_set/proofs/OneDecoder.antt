@@ -9,6 +9,10 @@ use Rattle.decoder_core.proofs.OneDriver.{one_state}
 use Rattle.dec_i2c.specs.laws.MachineLaws.{one_i2c, i2c_one_stop}
 use Rattle.dec_i2c.specs.Opening as i2c
 use Rattle.dec_i2c.specs.declared.held.Bus.{Bus}
+use Rattle.dec_onewire.specs.Opening as onewire
+use Rattle.dec_onewire.specs.declared.link.held.Line.{Line as DqLine}
+use Rattle.dec_onewire.specs.laws.LinkMachineLaws.{one_link, link_one_stop}
+use Rattle.dec_onewire.specs.laws.NetLaws.{one_net}
 use Rattle.dec_spi.specs.Opening as spi
 use Rattle.dec_spi.specs.laws.MachineLaws.{one_spi, spi_one_stop}
 use Rattle.dec_uart.specs.Opening as uart
@@ -59,6 +63,14 @@ same_line one other opts rate = λ i. record {
   fast = to_path_p (λ j. FastEnough (opts j) (rate j)) {a = one.fast} (le_prop _ other.fast) i;
 }
 
+-- and so are two lines of 1-Wire
+same_dq : (one other : DqLine) → one.opts ≡ other.opts → one.rate ≡ other.rate → one ≡ other
+same_dq one other opts rate = λ i. record {
+  opts = opts i;
+  rate = rate i;
+  dq_below = to_path_p (λ j. (opts j).dq < MOST_PINS) {a = one.dq_below} (le_prop _ other.dq_below) i;
+}
+
 same_machine : (values : List (Option ℕ)) (rate : Rate) (one other : AnyMachine) (input : List Item) → kind_in one ≡ kind_in other → ConsumedAs values rate one input → ConsumedAs values rate other input → SameMachine one other
 same_machine values rate (machine.I2c one) (machine.I2c other) input same d e =
     one_state i2c.bus_of i2c.StandsFor i2c_alts_of (λ one other list same stands also. one_i2c one other list same stands also)
@@ -68,6 +80,8 @@ same_machine values rate (machine.I2c one) (machine.I2c other) input same d e =
 same_machine values rate (machine.I2c one) (machine.Spi other) input same d e = cc
 same_machine values rate (machine.I2c one) (machine.Uart other) input same d e = cc
 same_machine values rate (machine.I2c one) (machine.Eeprom24 other) input same d e = cc
+same_machine values rate (machine.I2c one) (machine.OwLink other) input same d e = cc
+same_machine values rate (machine.I2c one) (machine.OwNet other) input same d e = cc
 same_machine values rate (machine.Spi one) (machine.I2c other) input same d e = cc
 same_machine values rate (machine.Spi one) (machine.Spi other) input same d e =
     one_state spi.opts_of spi.StandsFor spi.alts_of (λ one other list same stands also. one_spi one other list same stands also)
@@ -75,6 +89,8 @@ same_machine values rate (machine.Spi one) (machine.Spi other) input same d e =
     one.machine other.machine one.waiter other.waiter input (d.own ∙ sym e.own) d.drives e.drives
 same_machine values rate (machine.Spi one) (machine.Uart other) input same d e = cc
 same_machine values rate (machine.Spi one) (machine.Eeprom24 other) input same d e = cc
+same_machine values rate (machine.Spi one) (machine.OwLink other) input same d e = cc
+same_machine values rate (machine.Spi one) (machine.OwNet other) input same d e = cc
 same_machine values rate (machine.Uart one) (machine.I2c other) input same d e = cc
 same_machine values rate (machine.Uart one) (machine.Spi other) input same d e = cc
 same_machine values rate (machine.Uart one) (machine.Uart other) input same d e =
@@ -83,6 +99,8 @@ same_machine values rate (machine.Uart one) (machine.Uart other) input same d e 
     one.machine other.machine one.waiter other.waiter input
     (same_line (uart.line_of one.machine) (uart.line_of other.machine) (d.own.0 ∙ sym e.own.0) (d.own.1 ∙ sym e.own.1)) d.drives e.drives
 same_machine values rate (machine.Uart one) (machine.Eeprom24 other) input same d e = cc
+same_machine values rate (machine.Uart one) (machine.OwLink other) input same d e = cc
+same_machine values rate (machine.Uart one) (machine.OwNet other) input same d e = cc
 same_machine values rate (machine.Eeprom24 one) (machine.I2c other) input same d e = cc
 same_machine values rate (machine.Eeprom24 one) (machine.Spi other) input same d e = cc
 same_machine values rate (machine.Eeprom24 one) (machine.Uart other) input same d e = cc
@@ -90,6 +108,25 @@ same_machine values rate (machine.Eeprom24 one) (machine.Eeprom24 other) input s
   one_phased chip_of (λ (chip : Chip). 80 + chip.addr) (λ (chip : Chip). chip.resets) Knows one_eeprom one.machine other.machine (counted_packets wire.I2c input) (d.own ∙ sym e.own) d.follows.machine_stands e.follows.machine_stands,
   d.follows.last_is ∙ sym e.follows.last_is,
 )
+same_machine values rate (machine.Eeprom24 one) (machine.OwLink other) input same d e = cc
+same_machine values rate (machine.Eeprom24 one) (machine.OwNet other) input same d e = cc
+same_machine values rate (machine.OwLink one) (machine.I2c other) input same d e = cc
+same_machine values rate (machine.OwLink one) (machine.Spi other) input same d e = cc
+same_machine values rate (machine.OwLink one) (machine.Uart other) input same d e = cc
+same_machine values rate (machine.OwLink one) (machine.Eeprom24 other) input same d e = cc
+same_machine values rate (machine.OwLink one) (machine.OwLink other) input same d e =
+    one_state onewire.line_of onewire.StandsFor onewire.alts_of (λ one other list same stands also. one_link one other list same stands also)
+    (λ one other seen more same stands also rests. link_one_stop one other seen more same stands also rests)
+    one.machine other.machine one.waiter other.waiter input
+    (same_dq (onewire.line_of one.machine) (onewire.line_of other.machine) (d.own.0 ∙ sym e.own.0) (d.own.1 ∙ sym e.own.1)) d.drives e.drives
+same_machine values rate (machine.OwLink one) (machine.OwNet other) input same d e = cc
+same_machine values rate (machine.OwNet one) (machine.I2c other) input same d e = cc
+same_machine values rate (machine.OwNet one) (machine.Spi other) input same d e = cc
+same_machine values rate (machine.OwNet one) (machine.Uart other) input same d e = cc
+same_machine values rate (machine.OwNet one) (machine.Eeprom24 other) input same d e = cc
+same_machine values rate (machine.OwNet one) (machine.OwLink other) input same d e = cc
+same_machine values rate (machine.OwNet one) (machine.OwNet other) input same d e =
+    (one_net one.machine other.machine (counted_packets wire.OwLink input) d.machine_stands e.machine_stands, d.last_is ∙ sym e.last_is)
 
 pub same_decoder : (one other : AnyDecoder) (input : List Item) → setup_of one ≡ setup_of other → HasConsumed one input → HasConsumed other input → SameDecoder one other
 same_decoder one other input same d e =

@@ -1,13 +1,19 @@
 -- Why a decoder can't be opened.
-use Rattle.std.specs.Prelude.{ℕ, ◌*◌, Bool, false, not, nat_lt, List, Option, Some, None, if◌then◌else◌}
+use Rattle.std.specs.Prelude.{ℕ, ◌*◌, Bool, false, not, nat_le, nat_lt, ◌&&◌, List, Option, Some, None, if◌then◌else◌}
 use Rattle.la_base.specs.declared.samples.Rate.{Rate}
 use Rattle.decoder_core.specs.declared.faults.OptFault.{OptFault}
 use Rattle.decoder_core.specs.declared.faults.OptFault.TheVariants.{Range}
 use Rattle.decoder_core.specs.declared.faults.OptFault.TheVariants as fault
 use Rattle.decoder_set.specs.declared.kinds.Kind.{Kind}
-use Rattle.decoder_set.specs.declared.kinds.Kind.TheVariants.{I2c, Spi, Uart, Eeprom24}
-use Rattle.decoder_set.specs.Options.{uart_options}
+use Rattle.decoder_set.specs.declared.kinds.Kind.TheVariants.{I2c, Spi, Uart, Eeprom24, OwLink, OwNet}
+use Rattle.dec_onewire.specs.Link.{lengths_of}
+use Rattle.dec_onewire.specs.declared.link.options.Lengths.{Lengths}
+use Rattle.decoder_set.specs.Options.{link_options, uart_options}
 use Rattle.decoder_set.specs.Values.{in_range}
+
+-- a 0 of 1-Wire has two samples and more, and a reset more than a 0
+abbrev pub tells_apart : Lengths → Bool
+tells_apart lengths = nat_le 2 lengths.bit && nat_lt lengths.bit lengths.reset
 
 -- whether a rate is too low for the options of a kind: a serial line asks that its first bit is read behind its first sample
 abbrev pub too_slow : Kind → List (Option ℕ) → Rate → Bool
@@ -15,6 +21,8 @@ too_slow I2c values rate = false
 too_slow Spi values rate = false
 too_slow Uart values rate = nat_lt ((uart_options values).sp * rate.num) (100 * (uart_options values).baud * rate.den)
 too_slow Eeprom24 values rate = false
+too_slow OwLink values rate = not (tells_apart (lengths_of (link_options values) rate))
+too_slow OwNet values rate = false
 
 -- why a decoder can't be opened: Range where an option doesn't take its value, then Rate where the rate is too low
 abbrev pub open_fault : ℕ → Kind → List (Option ℕ) → Rate → Option OptFault

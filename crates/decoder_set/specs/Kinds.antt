@@ -6,7 +6,7 @@ use Rattle.la_base.specs.declared.wires.Wire.{Wire}
 use Rattle.la_base.specs.declared.wires.Wire.TheVariants as wire
 use Rattle.decoder_set.specs.declared.kinds.Asked.{Asked}
 use Rattle.decoder_set.specs.declared.kinds.Kind.{Kind}
-use Rattle.decoder_set.specs.declared.kinds.Kind.TheVariants.{I2c, Spi, Uart, Eeprom24}
+use Rattle.decoder_set.specs.declared.kinds.Kind.TheVariants.{I2c, Spi, Uart, Eeprom24, OwLink, OwNet}
 use Rattle.decoder_set.specs.declared.kinds.OptForm.{OptForm}
 use Rattle.decoder_set.specs.declared.kinds.OptForm.TheVariants as form
 use Rattle.decoder_set.specs.declared.kinds.OptRow.{OptRow}
@@ -86,10 +86,32 @@ kind_row Eeprom24 = record {
   parent = [];
   classes = codes "write" ∷ codes "read" ∷ [];
 }
+kind_row OwLink = record {
+  name = codes "onewire_link";
+  input = wire.Logic;
+  output = wire.OwLink;
+  options =
+      record { name = codes "dq"; form = Pin true }
+      ∷ record { name = codes "reset"; form = Number 1 1000000000 480000 }
+      ∷ record { name = codes "window"; form = Number 1 1000000000 100000 }
+      ∷ record { name = codes "bit"; form = Number 1 1000000000 20000 } ∷ [];
+  groups = [];
+  parent = [];
+  classes = [];
+}
+kind_row OwNet = record {
+  name = codes "onewire_net";
+  input = wire.OwLink;
+  output = wire.OwNet;
+  options = [];
+  groups = [];
+  parent = [];
+  classes = codes "data" ∷ [];
+}
 
 -- the kinds that have a row
 abbrev pub kinds : List Kind
-kinds = I2c ∷ Spi ∷ Uart ∷ Eeprom24 ∷ []
+kinds = I2c ∷ Spi ∷ Uart ∷ Eeprom24 ∷ OwLink ∷ OwNet ∷ []
 
 -- the kind of a name
 abbrev pub kind_of : Text → Option Kind

@@ -16,6 +16,12 @@ use Rattle.dec_uart.specs.Opening as uart
 use Rattle.dec_uart.specs.declared.held.Line.{Line}
 use Rattle.dec_uart.specs.declared.held.Uart.{Uart}
 use Rattle.dec_uart.specs.declared.options.UartOpts.{UartOpts}
+use Rattle.dec_onewire.specs.Opening as onewire
+use Rattle.dec_onewire.specs.declared.link.held.Line.{Line as DqLine}
+use Rattle.dec_onewire.specs.declared.link.held.OwLink.{OwLink}
+use Rattle.dec_onewire.specs.declared.link.options.OwLinkOpts.{OwLinkOpts}
+use Rattle.dec_onewire.specs.declared.net.held.OwNet.{OwNet}
+use Rattle.dec_onewire.specs.declared.net.held.OwNetOpts.{OwNetOpts}
 use Rattle.decoder_core.specs.Packets.{Follows, NoneCount}
 use Rattle.decoder_core.specs.declared.follower.Follower.{Follower}
 use Rattle.dev_eeprom24.specs.Opening as eeprom
@@ -34,7 +40,7 @@ use Rattle.decoder_set.specs.declared.setup.Setup.{Setup}
 use Rattle.decoder_set.specs.declared.any.AnyDecoder.{AnyDecoder}
 use Rattle.decoder_set.specs.declared.any.AnyMachine.{AnyMachine}
 use Rattle.decoder_set.specs.declared.any.AnyMachine.TheVariants as machine
-use Rattle.decoder_set.specs.Options.{eeprom_options, i2c_options, spi_options, uart_options}
+use Rattle.decoder_set.specs.Options.{eeprom_options, i2c_options, link_options, spi_options, uart_options}
 use Rattle.decoder_set.specs.Faults.{open_fault}
 
 -- a machine of each kind has these options
@@ -46,6 +52,9 @@ IsSpi options machine = spi.opts_of machine ≡ options
 
 abbrev pub IsUart : UartOpts → Rate → Uart → Type 0
 IsUart options rate machine = ((uart.line_of machine).opts ≡ options) × ((uart.line_of machine).rate ≡ rate)
+
+abbrev pub IsLink : OwLinkOpts → Rate → OwLink → Type 0
+IsLink options rate machine = ((onewire.line_of machine).opts ≡ options) × ((onewire.line_of machine).rate ≡ rate)
 
 abbrev pub IsEeprom : EepromOpts → Phased Eeprom Chip → Type 0
 IsEeprom options machine = eeprom.chip_in machine ≡ eeprom.chip_by options
@@ -68,6 +77,13 @@ SpiConsumed options driver input = ConsumedBy spi.StandsFor spi.alts_of (IsSpi o
 abbrev pub UartConsumed : UartOpts → Rate → Driver Uart Line → List Item → Type 0
 UartConsumed options rate driver input = ConsumedBy uart.StandsFor uart.alts_of (IsUart options rate) driver input
 
+abbrev pub LinkConsumed : OwLinkOpts → Rate → Driver OwLink DqLine → List Item → Type 0
+LinkConsumed options rate driver input = ConsumedBy onewire.StandsFor onewire.alts_of (IsLink options rate) driver input
+
+-- a follower of a 1-Wire network has consumed this input
+abbrev pub NetConsumed : Follower OwNet OwNetOpts → List Item → Type 0
+NetConsumed follower input = Follows onewire.NetStandsFor wire.OwLink follower.machine follower.from input
+
 -- a follower of an EEPROM with these options has consumed this input
 pub record EepromConsumed (options : EepromOpts) (follower : Follower (Phased Eeprom Chip) Chip) (input : List Item) : Type 0 where
   pub own : IsEeprom options follower.machine
@@ -79,6 +95,8 @@ kind_in (machine.I2c driver) = kind.I2c
 kind_in (machine.Spi driver) = kind.Spi
 kind_in (machine.Uart driver) = kind.Uart
 kind_in (machine.Eeprom24 follower) = kind.Eeprom24
+kind_in (machine.OwLink driver) = kind.OwLink
+kind_in (machine.OwNet follower) = kind.OwNet
 
 -- a machine with these values at this rate has consumed this input
 abbrev pub ConsumedAs : List (Option ℕ) → Rate → AnyMachine → List Item → Type 0
@@ -86,6 +104,8 @@ ConsumedAs values rate (machine.I2c driver) input = I2cConsumed (i2c_options val
 ConsumedAs values rate (machine.Spi driver) input = SpiConsumed (spi_options values) driver input
 ConsumedAs values rate (machine.Uart driver) input = UartConsumed (uart_options values) rate driver input
 ConsumedAs values rate (machine.Eeprom24 follower) input = EepromConsumed (eeprom_options values) follower input
+ConsumedAs values rate (machine.OwLink driver) input = LinkConsumed (link_options values) rate driver input
+ConsumedAs values rate (machine.OwNet follower) input = NetConsumed follower input
 
 -- a decoder of this kind, with these values at this rate, has consumed this input
 abbrev pub Consumed : Kind → List (Option ℕ) → Rate → AnyMachine → List Item → Type 0
@@ -97,6 +117,8 @@ SleepsBy (machine.I2c driver) input more = Sleeps i2c_alts_of driver.machine dri
 SleepsBy (machine.Spi driver) input more = Sleeps spi.alts_of driver.machine driver.waiter input more
 SleepsBy (machine.Uart driver) input more = Sleeps uart.alts_of driver.machine driver.waiter input more
 SleepsBy (machine.Eeprom24 follower) input more = NoneCount wire.I2c input more
+SleepsBy (machine.OwLink driver) input more = Sleeps onewire.alts_of driver.machine driver.waiter input more
+SleepsBy (machine.OwNet follower) input more = NoneCount wire.OwLink input more
 
 abbrev pub IsAsleep : AnyDecoder → List Item → List Item → Type 0
 IsAsleep decoder input more = SleepsBy decoder.machine input more

@@ -1,13 +1,14 @@
 -- What the values of each kind mean: its options by their names.
 use Rattle.std.specs.Prelude.{ℕ, List, Option}
 use Rattle.dec_i2c.specs.declared.held.I2cOpts.{I2cOpts}
+use Rattle.dec_onewire.specs.declared.link.options.OwLinkOpts.{OwLinkOpts}
 use Rattle.dec_spi.specs.declared.options.SpiOpts.{SpiOpts}
 use Rattle.dec_uart.specs.declared.options.UartOpts.{UartOpts}
 use Rattle.dev_eeprom24.specs.declared.chip.EepromOpts.{EepromOpts}
 use Rattle.decoder_set.specs.Kinds.{kind_row}
 use Rattle.decoder_set.specs.Values.{channel_at, maybe_channel_at, number_at}
 use Rattle.decoder_set.specs.declared.kinds.Kind.{Kind}
-use Rattle.decoder_set.specs.declared.kinds.Kind.TheVariants.{Spi, Uart, Eeprom24}
+use Rattle.decoder_set.specs.declared.kinds.Kind.TheVariants.{Spi, Uart, Eeprom24, OwLink}
 
 -- the bits of the two lines of an I2C bus
 abbrev pub i2c_options : List (Option ℕ) → I2cOpts
@@ -48,4 +49,13 @@ eeprom_options values = record {
   size = option_number Eeprom24 values 1;
   page = option_number Eeprom24 values 2;
   gcall = option_number Eeprom24 values 3;
+}
+
+-- the line of 1-Wire and its times
+abbrev pub link_options : List (Option ℕ) → OwLinkOpts
+link_options values = record {
+  dq = channel_at values 0;
+  reset = option_number OwLink values 1;
+  window = option_number OwLink values 2;
+  bit = option_number OwLink values 3;
 }

@@ -10,6 +10,9 @@ use Rattle.dec_spi.specs.Bus.{spi_outs, spi_near}
 use Rattle.dec_spi.specs.Texts as spi
 use Rattle.dec_uart.specs.Frames.{uart_outs, uart_near}
 use Rattle.dec_uart.specs.Texts as uart
+use Rattle.dec_onewire.specs.Link.{link_outs, link_near}
+use Rattle.dec_onewire.specs.Net.{net_outs, net_near}
+use Rattle.dec_onewire.specs.Texts as onewire
 use Rattle.decoder_core.specs.Packets.{counted_packets}
 use Rattle.dev_eeprom24.specs.Eeprom.{eeprom_outs}
 use Rattle.dev_eeprom24.specs.Opening.{chip_by}
@@ -17,10 +20,10 @@ use Rattle.dev_eeprom24.specs.Texts as eeprom
 use Rattle.i2c_phases.specs.Phases.{phase_near}
 use Rattle.la_base.specs.declared.wires.Wire.TheVariants as wire
 use Rattle.decoder_set.specs.declared.kinds.Kind.{Kind}
-use Rattle.decoder_set.specs.declared.kinds.Kind.TheVariants.{I2c, Spi, Uart, Eeprom24}
+use Rattle.decoder_set.specs.declared.kinds.Kind.TheVariants.{I2c, Spi, Uart, Eeprom24, OwLink, OwNet}
 use Rattle.decoder_set.specs.declared.setup.Setup.{Setup}
 use Rattle.decoder_set.specs.Kinds.{Text}
-use Rattle.decoder_set.specs.Options.{eeprom_options, i2c_options, spi_options, uart_options}
+use Rattle.decoder_set.specs.Options.{eeprom_options, i2c_options, link_options, spi_options, uart_options}
 
 -- what a kind gives with these values at a rate on a whole input
 abbrev pub outs_by : Kind → List (Option ℕ) → Rate → List Item → List Out
@@ -28,6 +31,8 @@ outs_by I2c values rate input = i2c_outs (i2c_options values).scl (i2c_options v
 outs_by Spi values rate input = spi_outs (spi_options values) (counted_samples input)
 outs_by Uart values rate input = uart_outs (uart_options values) rate (counted_samples input)
 outs_by Eeprom24 values rate input = eeprom_outs (chip_by (eeprom_options values)) (counted_packets wire.I2c input)
+outs_by OwLink values rate input = link_outs (link_options values) rate (counted_samples input)
+outs_by OwNet values rate input = net_outs (counted_packets wire.OwLink input)
 
 -- all outputs of a decoder of this setup on a whole input
 abbrev pub outs_of : Setup → List Item → List Out
@@ -39,6 +44,8 @@ near_by I2c values rate input = i2c_near (i2c_options values).scl (i2c_options v
 near_by Spi values rate input = spi_near (spi_options values) (counted_samples input)
 near_by Uart values rate input = uart_near (uart_options values) rate (counted_samples input)
 near_by Eeprom24 values rate input = phase_near (counted_packets wire.I2c input)
+near_by OwLink values rate input = link_near (link_options values) (counted_samples input)
+near_by OwNet values rate input = net_near (counted_packets wire.OwLink input)
 
 -- where what has begun in this input and isn't given yet starts
 abbrev pub near_of : Setup → List Item → ℕ
@@ -50,3 +57,5 @@ note_text I2c note = i2c.note_text note.class note.a
 note_text Spi note = spi.note_text note.class note.a note.b
 note_text Uart note = uart.note_text note.class note.a
 note_text Eeprom24 note = eeprom.note_text note.class note.a note.b
+note_text OwLink note = onewire.link_text note.class note.a
+note_text OwNet note = onewire.net_text note.class note.a note.b

@@ -5,6 +5,7 @@ ghost use Rattle.decoder_set.specs.Faults.{open_fault};
 
 use crate::Setup;
 use dec_i2c::I2c;
+use dec_onewire::{OwLink, OwNet};
 use dec_spi::Spi;
 use dec_uart::Uart;
 use decoder_core::{Driver, Follower};
@@ -18,6 +19,8 @@ pub enum AnyMachine {
     Spi(Driver<Spi>),
     Uart(Driver<Uart>),
     Eeprom24(Follower<Phased<Eeprom>>),
+    OwLink(Driver<OwLink>),
+    OwNet(Follower<OwNet>),
 }
 
 /// A decoder of any kind, with its kind, options and rate.

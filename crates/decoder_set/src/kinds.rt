@@ -8,6 +8,8 @@ pub enum Kind {
     Spi,
     Uart,
     Eeprom24,
+    OwLink,
+    OwNet,
 }
 
 /// What an option takes.

@@ -36,24 +36,32 @@ impl Machine for AnyDecoder {
             AnyMachine::Spi(driver) => driver.step(feed, into),
             AnyMachine::Uart(driver) => driver.step(feed, into),
             AnyMachine::Eeprom24(follower) => follower.step(feed, into),
+            AnyMachine::OwLink(driver) => driver.step(feed, into),
+            AnyMachine::OwNet(follower) => follower.step(feed, into),
         }
     }
 
+    #[inline(always)]
     fn pass_runs(&mut self, runs: &[Run]) -> usize {
         match &mut self.machine {
             AnyMachine::I2c(driver) => driver.pass_runs(runs),
             AnyMachine::Spi(driver) => driver.pass_runs(runs),
             AnyMachine::Uart(driver) => driver.pass_runs(runs),
             AnyMachine::Eeprom24(follower) => follower.pass_runs(runs),
+            AnyMachine::OwLink(driver) => driver.pass_runs(runs),
+            AnyMachine::OwNet(follower) => follower.pass_runs(runs),
         }
     }
 
+    #[inline(always)]
     fn step_run(&mut self, run: Run, into: &mut Outs) -> Option<Run> {
         match &mut self.machine {
             AnyMachine::I2c(driver) => driver.step_run(run, into),
             AnyMachine::Spi(driver) => driver.step_run(run, into),
             AnyMachine::Uart(driver) => driver.step_run(run, into),
             AnyMachine::Eeprom24(follower) => follower.step_run(run, into),
+            AnyMachine::OwLink(driver) => driver.step_run(run, into),
+            AnyMachine::OwNet(follower) => follower.step_run(run, into),
         }
     }
 
@@ -63,6 +71,8 @@ impl Machine for AnyDecoder {
             AnyMachine::Spi(driver) => driver.floor(),
             AnyMachine::Uart(driver) => driver.floor(),
             AnyMachine::Eeprom24(follower) => follower.floor(),
+            AnyMachine::OwLink(driver) => driver.floor(),
+            AnyMachine::OwNet(follower) => follower.floor(),
         }
     }
 

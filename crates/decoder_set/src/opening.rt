@@ -3,15 +3,16 @@ ghost use Rattle.std.specs.Prelude.{◌≡◌, ◌≤◌, ◌^◌, true, false, 
 ghost use Rattle.la_base.specs.declared.samples.TheConstants.{MOST_PINS};
 ghost use Rattle.decoder_core.specs.declared.faults.OptFault.TheVariants.{Rate as TooSlow};
 ghost use Rattle.decoder_set.specs.Faults.{too_slow};
-ghost use Rattle.decoder_set.specs.Opening.{Opens, Consumed, EepromConsumed, I2cConsumed, SpiConsumed, UartConsumed};
-ghost use Rattle.decoder_set.specs.Options.{eeprom_options, i2c_options, spi_options, uart_options};
+ghost use Rattle.decoder_set.specs.Opening.{Opens, Consumed, EepromConsumed, I2cConsumed, LinkConsumed, NetConsumed, SpiConsumed, UartConsumed};
+ghost use Rattle.decoder_set.specs.Options.{eeprom_options, i2c_options, link_options, spi_options, uart_options};
 ghost use Rattle.decoder_set.specs.Values.{in_range};
 
 use crate::any::AnyMachine;
-use crate::options::{eeprom_options, i2c_options, spi_options, uart_options};
+use crate::options::{eeprom_options, i2c_options, link_options, spi_options, uart_options};
 use crate::values::in_range;
 use crate::{AnyDecoder, Kind, OptValues, Setup};
 use dec_i2c::I2c;
+use dec_onewire::{OwLink, OwNet, OwNetOpts};
 use dec_spi::Spi;
 use dec_uart::Uart;
 use decoder_core::{Driver, Follower, OptFault};
@@ -70,6 +71,32 @@ fn open_eeprom(values: &OptValues, rate: Rate) -> Result<Follower<Phased<Eeprom>
     }
 }
 
+// A decoder of the link of a 1-Wire line with values in range, at a rate that may be too low.
+fn open_link(values: &OptValues, rate: Rate) -> Result<Driver<OwLink>, OptFault>
+    requires range { in_range MOST_PINS Kind.OwLink values.now.given ≡ true }
+    requires rate { rate.num ≤ 10 ^ 15 }
+    ensures opens { IfOk result (λ driver. LinkConsumed (link_options values.now.given) rate driver []) }
+    ensures fast { OnOk result (too_slow Kind.OwLink values.now.given rate ≡ false) }
+    ensures slow { OnErr result (too_slow Kind.OwLink values.now.given rate ≡ true) }
+    ensures fault { IfErr result (λ fault. fault ≡ TooSlow) }
+{
+    match OwLink::open(link_options(values), rate) {
+        Ok(machine) => Ok(Driver::new(machine)),
+        Err(fault) => Err(fault),
+    }
+}
+
+// A decoder of the network of a 1-Wire line.
+fn open_net(rate: Rate) -> Result<Follower<OwNet>, OptFault>
+    ensures opens { IfOk result (λ follower. NetConsumed follower []) }
+    ensures always { IsOk result }
+{
+    match OwNet::open(OwNetOpts {}, rate) {
+        Ok(machine) => Ok(Follower::new(machine)),
+        Err(fault) => Err(fault),
+    }
+}
+
 // A machine of a kind, of values in range.
 fn open_machine(kind: Kind, values: &OptValues, rate: Rate) -> Result<AnyMachine, OptFault>
     requires range { in_range MOST_PINS kind values.now.given ≡ true }
@@ -96,6 +123,14 @@ fn open_machine(kind: Kind, values: &OptValues, rate: Rate) -> Result<AnyMachine
             Ok(follower) => Ok(AnyMachine::Eeprom24(follower)),
             Err(fault) => Err(fault),
         },
+        Kind::OwLink => match open_link(values, rate) {
+            Ok(driver) => Ok(AnyMachine::OwLink(driver)),
+            Err(fault) => Err(fault),
+        },
+        Kind::OwNet => match open_net(rate) {
+            Ok(follower) => Ok(AnyMachine::OwNet(follower)),
+            Err(fault) => Err(fault),
+        },
     }
 }
 
@@ -104,8 +139,8 @@ impl AnyDecoder {
     /// exactly where an option isn't in its range: a channel that is required and not given, or that
     /// isn't one of the bits of a sample; a number that is too small or too large; a place behind the
     /// words of a choice; or where of some options at least one has to be given, and none is. `Rate`
-    /// comes where the options are in range and the rate is too low for them: only a serial line asks
-    /// for one.
+    /// comes where the options are in range and the rate is too low for them: only a serial line and the
+    /// link of a 1-Wire line ask for one.
     pub fn open(kind: Kind, values: OptValues, rate: Rate) -> Result<AnyDecoder, OptFault>
         requires { rate.num ≤ 10 ^ 15 }
         ensures { Opens MOST_PINS kind values rate result }

@@ -4,14 +4,16 @@ ghost use Rattle.la_base.specs.declared.samples.TheConstants.{MOST_PINS};
 ghost use Rattle.dec_i2c.specs.Opening.{InRange};
 ghost use Rattle.dec_spi.specs.Opening.{InRange as SpiInRange};
 ghost use Rattle.dec_uart.specs.Ranges.{InRange as UartInRange};
+ghost use Rattle.dec_onewire.specs.Opening.{LinkInRange};
 ghost use Rattle.dev_eeprom24.specs.Opening.{InRange as EepromInRange};
-ghost use Rattle.decoder_set.specs.Options.{eeprom_options, i2c_options, spi_options, uart_options};
+ghost use Rattle.decoder_set.specs.Options.{eeprom_options, i2c_options, link_options, spi_options, uart_options};
 ghost use Rattle.decoder_set.specs.Values.{in_range};
 
 use crate::Kind;
 use crate::setup::OptValues;
 use crate::table::options_of;
 use dec_i2c::I2cOpts;
+use dec_onewire::OwLinkOpts;
 use dec_spi::SpiOpts;
 use dec_uart::UartOpts;
 use dev_eeprom24::EepromOpts;
@@ -76,5 +78,20 @@ pub fn eeprom_options(values: &OptValues) -> EepromOpts
         size: values.number(rows, 1),
         page: values.number(rows, 2),
         gcall: values.number(rows, 3),
+    }
+}
+
+/// The line of 1-Wire and its times.
+pub fn link_options(values: &OptValues) -> OwLinkOpts
+    requires { in_range MOST_PINS Kind.OwLink values.now.given ≡ true }
+    ensures options { result ≡ link_options values.now.given }
+    ensures within { LinkInRange MOST_PINS result }
+{
+    let rows = options_of(Kind::OwLink);
+    OwLinkOpts {
+        dq: values.channel(0),
+        reset: values.number(rows, 1),
+        window: values.number(rows, 2),
+        bit: values.number(rows, 3),
     }
 }

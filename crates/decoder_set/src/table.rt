@@ -8,7 +8,14 @@ use crate::kinds::{Asked, Kind, KindRow, OptForm, OptRow};
 use la_base::Wire;
 
 /// The kinds, in the order in which they are told.
-pub const KINDS: [Kind; 4] = [Kind::I2c, Kind::Spi, Kind::Uart, Kind::Eeprom24];
+pub const KINDS: [Kind; 6] = [
+    Kind::I2c,
+    Kind::Spi,
+    Kind::Uart,
+    Kind::Eeprom24,
+    Kind::OwLink,
+    Kind::OwNet,
+];
 
 // I2C, by UM10204.
 const I2C: KindRow = KindRow {
@@ -182,6 +189,57 @@ const EEPROM24: KindRow = KindRow {
     classes: &["write", "read"],
 };
 
+// The link of 1-Wire, by Maxim's application note 126.
+const OW_LINK: KindRow = KindRow {
+    name: "onewire_link",
+    input: Wire::Logic,
+    output: Wire::OwLink,
+    options: &[
+        OptRow {
+            name: "dq",
+            form: OptForm::Pin { required: true },
+        },
+        OptRow {
+            name: "reset",
+            form: OptForm::Number {
+                least: 1,
+                most: 1_000_000_000,
+                usual: 480_000,
+            },
+        },
+        OptRow {
+            name: "window",
+            form: OptForm::Number {
+                least: 1,
+                most: 1_000_000_000,
+                usual: 100_000,
+            },
+        },
+        OptRow {
+            name: "bit",
+            form: OptForm::Number {
+                least: 1,
+                most: 1_000_000_000,
+                usual: 20_000,
+            },
+        },
+    ],
+    groups: &[],
+    parent: &[],
+    classes: &[],
+};
+
+// The network of 1-Wire, by application notes 126, 187 and 27.
+const OW_NET: KindRow = KindRow {
+    name: "onewire_net",
+    input: Wire::OwLink,
+    output: Wire::OwNet,
+    options: &[],
+    groups: &[],
+    parent: &[],
+    classes: &["data"],
+};
+
 /// The row of a kind.
 pub fn row(kind: Kind) -> KindRow
     ensures row { row_of result ≡ kind_row kind }
@@ -194,6 +252,8 @@ pub fn row(kind: Kind) -> KindRow
         Kind::Spi => SPI,
         Kind::Uart => UART,
         Kind::Eeprom24 => EEPROM24,
+        Kind::OwLink => OW_LINK,
+        Kind::OwNet => OW_NET,
     }
 }
 

@@ -17,5 +17,7 @@ pub fn note_text(kind: Kind, note: Note, buf: &mut LineBuf)
         Kind::Spi => dec_spi::text(note, buf),
         Kind::Uart => dec_uart::text(note, buf),
         Kind::Eeprom24 => dev_eeprom24::text(note, buf),
+        Kind::OwLink => dec_onewire::link::text(note, buf),
+        Kind::OwNet => dec_onewire::net::text(note, buf),
     }
 }

@@ -47,7 +47,18 @@ uart 5 1 0|
 i2c 3 80 7|Address write: 50
 spi 1 80 7|MOSI 50 MISO 07
 uart 1 80 7|50
-eeprom24 1 80 7|Write 0007: 50";
+eeprom24 1 80 7|Write 0007: 50
+onewire_link 0 0 0|Reset
+onewire_link 1 0 0|Presence
+onewire_link 2 1 0|Bit: 1
+onewire_link 3 0 0|
+onewire_net 0 0 0|Reset
+onewire_net 1 240 0|ROM command: Search ROM
+onewire_net 1 68 0|ROM command: Unknown 44
+onewire_net 2 11673330234173168642 0|ROM: 021CB801000000A2 CRC ok
+onewire_net 2 2 1|ROM: 0200000000000000 CRC bad
+onewire_net 3 10 0|Byte: 0A
+onewire_net 4 10 0|";
 
 #[test]
 fn settings_and_texts(rt: HostRuntime) {
@@ -71,7 +82,9 @@ fn settings_and_texts(rt: HostRuntime) {
                 Kind::I2c => dec_i2c::text(note, &mut buf),
                 Kind::Spi => dec_spi::text(note, &mut buf),
                 Kind::Uart => dec_uart::text(note, &mut buf),
-                _ => dev_eeprom24::text(note, &mut buf),
+                Kind::Eeprom24 => dev_eeprom24::text(note, &mut buf),
+                Kind::OwLink => dec_onewire::link::text(note, &mut buf),
+                Kind::OwNet => dec_onewire::net::text(note, &mut buf),
             }
             assert!(rt; buf.bytes() == want.as_bytes(), "{row}");
             let mut buf = LineBuf::new();

@@ -16,7 +16,7 @@ const RATE: Rate = Rate {
 };
 
 // Each kind, what it reads and gives, and its options, each with its usual number.
-const KINDS: [(&str, Kind, Wire, Wire, &[(&str, u64)]); 4] = [
+const KINDS: [(&str, Kind, Wire, Wire, &[(&str, u64)]); 6] = [
     (
         "i2c",
         Kind::I2c,
@@ -61,6 +61,19 @@ const KINDS: [(&str, Kind, Wire, Wire, &[(&str, u64)]); 4] = [
         Wire::Nothing,
         &[("addr", 0), ("size", 0), ("page", 0), ("gcall", 0)],
     ),
+    (
+        "onewire_link",
+        Kind::OwLink,
+        Wire::Logic,
+        Wire::OwLink,
+        &[
+            ("dq", 0),
+            ("reset", 480_000),
+            ("window", 100_000),
+            ("bit", 20_000),
+        ],
+    ),
+    ("onewire_net", Kind::OwNet, Wire::OwLink, Wire::OwNet, &[]),
 ];
 
 #[test]
@@ -90,6 +103,8 @@ fn kinds_have_their_names_wires_and_options(rt: HostRuntime) {
         (Kind::Uart, "read", None),
         (Kind::Eeprom24, "write", Some(0)),
         (Kind::Eeprom24, "read", Some(1)),
+        (Kind::OwLink, "data", None),
+        (Kind::OwNet, "data", Some(0)),
     ] {
         assert!(rt; class_of(kind, class.as_bytes()) == want);
     }
@@ -142,7 +157,17 @@ eeprom24 7 6 4 1 > ok
 eeprom24 8 > range
 eeprom24 0 7 > range
 eeprom24 0 0 5 > range
-eeprom24 0 0 0 2 > range";
+eeprom24 0 0 0 2 > range
+onewire_link 0 > ok
+onewire_link 63 3000 1000000000 2000 > ok
+onewire_link - > range
+onewire_link 64 > range
+onewire_link 0 0 > range
+onewire_link 0 480000 0 > range
+onewire_link 0 480000 100000 1000000001 > range
+onewire_link 0 480000 100000 1000 > rate
+onewire_link 0 2000 100000 2000 > rate
+onewire_net > ok";
 
 #[test]
 fn values_are_judged_by_their_rows(rt: HostRuntime) {

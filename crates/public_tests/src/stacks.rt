@@ -61,6 +61,9 @@ pub const FAULTS: &str = "\
 [i2c:scl=D0:sda=D1,eeprom24,eeprom24] 0 27 Mismatch
 [uart:rx=D0,eeprom24] 0 11 Mismatch
 [eeprom24] 0 0 NoParent
+[onewire_net] 0 0 NoParent
+[onewire_link:dq=D0,eeprom24] 0 19 Mismatch
+[i2c:scl=D0:sda=D1,onewire_net] 0 18 Mismatch
 [i2c:scl=D0:sda=D1 eeprom24:addr=1] 1 0 NoParent
 [i2c:scl=D0:sda=D1 i2c-1,eeprom24:addr] 1 15 Value
 # options: no `=`, then no such option, then given before, then no value
@@ -155,6 +158,7 @@ pub const STACKS: &str = "\
 [i2c:scl=D0:sda=D1 i2c:sda=7:scl=Clock|i2c-1,i2c-1] i2c-1 (i2c-2)
 [i2c:scl=D0:sda=D1,eeprom24 i2c-1,eeprom24:addr=07:size=4096:page=32:gcall=1||eeprom24-2:read] i2c-1 eeprom24-1 eeprom24-2 class 1 of 2
 [i2c:scl=D0:sda=D1,eeprom24|eeprom24-1] (i2c-1) eeprom24-1
+[onewire_link:dq=D0:reset=1,onewire_net||onewire_net-1:data] onewire_link-1 onewire_net-1 class 0 of 1
 24[i2c-24] i2c-1 i2c-2 i2c-3 i2c-4 i2c-5 i2c-6 i2c-7 i2c-8 i2c-9 i2c-10 i2c-11 i2c-12 i2c-13 i2c-14 i2c-15 i2c-16 i2c-17 i2c-18 i2c-19 i2c-20 i2c-21 i2c-22 i2c-23 i2c-24
 23[i2c:scl=D0:sda=D1] i2c-1 i2c-2 i2c-3 i2c-4 i2c-5 i2c-6 i2c-7 i2c-8 i2c-9 i2c-10 i2c-11 i2c-12 i2c-13 i2c-14 i2c-15 i2c-16 i2c-17 i2c-18 i2c-19 i2c-20 i2c-21 i2c-22 i2c-23 i2c-24
 23[i2c:scl=D0:sda=D1||i2c-24:read] i2c-1 i2c-2 i2c-3 i2c-4 i2c-5 i2c-6 i2c-7 i2c-8 i2c-9 i2c-10 i2c-11 i2c-12 i2c-13 i2c-14 i2c-15 i2c-16 i2c-17 i2c-18 i2c-19 i2c-20 i2c-21 i2c-22 i2c-23 i2c-24 class 1 of 23";

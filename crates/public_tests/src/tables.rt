@@ -4,7 +4,7 @@ use std::test::Fail;
 use words::{Name, OPTIONS, Takes, clap_reads_the_uses, options_are_whole};
 
 // The tables, each with the number of what its rows are about.
-const TABLES: [(u32, &str); 15] = [
+const TABLES: [(u32, &str); 16] = [
     (0, command_words::FAULTS),
     (0, command_words::VALUES),
     (0, command_words::TEXTS),
@@ -17,6 +17,7 @@ const TABLES: [(u32, &str); 15] = [
     (4, runs::TEN_BIT_ADDRESSES),
     (4, runs::GENERAL_CALLS),
     (4, runs::LINES),
+    (4, runs::ONE_WIRE),
     (5, runs::REFUSALS),
     (6, dumps::SAMPLES),
     (6, dumps::FAULTS),

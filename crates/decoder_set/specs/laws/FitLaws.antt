@@ -7,14 +7,15 @@ use Rattle.std.proofs.lemmas.Bool.Decides.{nat_tests}
 use Rattle.la_base.specs.declared.samples.Rate.{Rate}
 use Rattle.decoder_core.specs.declared.faults.OptFault.TheVariants.{Range}
 use Rattle.decoder_core.specs.declared.faults.OptFault.TheVariants as fault
+use Rattle.dec_onewire.specs.Opening as onewire
 use Rattle.dec_spi.specs.Opening as spi
 use Rattle.dec_uart.specs.Ranges as uart
 use Rattle.dev_eeprom24.specs.Opening as eeprom
 use Rattle.decoder_set.specs.declared.kinds.Kind.{Kind}
-use Rattle.decoder_set.specs.declared.kinds.Kind.TheVariants.{Spi, Uart, Eeprom24}
+use Rattle.decoder_set.specs.declared.kinds.Kind.TheVariants.{Spi, Uart, Eeprom24, OwLink}
 use Rattle.decoder_set.specs.Kinds.{Pin, Number, Choice, kind_row}
 use Rattle.decoder_set.specs.Faults.{open_fault, too_slow}
-use Rattle.decoder_set.specs.Options.{eeprom_options, spi_options, uart_options}
+use Rattle.decoder_set.specs.Options.{eeprom_options, link_options, spi_options, uart_options}
 use Rattle.decoder_set.specs.Values.{given_at, has_groups, in_range, maybe_channel_at, takes}
 use Rattle.decoder_set.specs.laws.RangeLaws.{both, channel_within, maybe_channel_within, number_within}
 
@@ -77,6 +78,16 @@ eeprom_in_range bits values all =
           (number_within bits row values 1 (record { name = codes "size"; form = Choice (codes "256" ∷ codes "128" ∷ codes "4096" ∷ codes "8192" ∷ codes "16384" ∷ codes "32768" ∷ codes "65536" ∷ []) }) all refl refl);
       page = below_suc _ 4 (number_within bits row values 2 (record { name = codes "page"; form = Choice (codes "8" ∷ codes "16" ∷ codes "32" ∷ codes "64" ∷ codes "128" ∷ []) }) all refl refl);
       gcall = (number_within bits row values 3 (record { name = codes "gcall"; form = Number 0 1 0 }) all refl refl).1;
+    }
+
+pub link_in_range : (bits : ℕ) (values : List (Option ℕ)) → 0 < bits → in_range bits OwLink values ≡ true → onewire.LinkInRange bits (link_options values)
+link_in_range bits values some all =
+    let row = kind_row OwLink in
+    record {
+      dq = channel_within bits row values 0 (record { name = codes "dq"; form = Pin true }) all refl true refl some;
+      reset = number_within bits row values 1 (record { name = codes "reset"; form = Number 1 1000000000 480000 }) all refl refl;
+      window = number_within bits row values 2 (record { name = codes "window"; form = Number 1 1000000000 100000 }) all refl refl;
+      bit = number_within bits row values 3 (record { name = codes "bit"; form = Number 1 1000000000 20000 }) all refl refl;
     }
 
 -- what an SPI bus and a serial line that can be opened fit

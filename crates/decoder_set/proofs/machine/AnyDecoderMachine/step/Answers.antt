@@ -2,6 +2,9 @@ use Rattle.std.proofs.Common.{◌≡◌, sym, subst, rules}
 use Rattle.dec_i2c.specs.Opening as i2c
 use Rattle.dec_i2c.specs.Bus.{i2c_outs}
 use Rattle.dec_i2c.specs.declared.held.Bus.{Bus}
+use Rattle.dec_onewire.specs.Link.{link_outs}
+use Rattle.dec_onewire.specs.Opening as onewire
+use Rattle.dec_onewire.specs.declared.link.held.Line.{Line as DqLine}
 use Rattle.dec_spi.specs.Opening as spi
 use Rattle.dec_spi.specs.Bus.{spi_outs}
 use Rattle.dec_spi.specs.declared.options.SpiOpts.{SpiOpts}
@@ -9,11 +12,12 @@ use Rattle.dec_uart.specs.Opening as uart
 use Rattle.dec_uart.specs.Frames.{uart_outs}
 use Rattle.dec_uart.specs.declared.held.Line.{Line}
 use Rattle.decoder_set.specs.declared.any.AnyMachine.TheVariants as machine
-use Rattle.decoder_set.specs.Opening.{IsI2c, IsSpi, IsUart, i2c_alts_of}
-use Rattle.decoder_set.specs.Options.{i2c_options, spi_options, uart_options}
+use Rattle.decoder_set.specs.Opening.{IsI2c, IsLink, IsSpi, IsUart, i2c_alts_of}
+use Rattle.decoder_set.specs.Options.{i2c_options, link_options, spi_options, uart_options}
 use Rattle.decoder_set.proofs.Eeproms.{eeprom_steps}
 use Rattle.decoder_set.proofs.Handing.{steps_by, stops_by}
-use Rattle.decoder_set.proofs.KindLemmas.{i2c_outs_are, spi_outs_are, uart_outs_are}
+use Rattle.decoder_set.proofs.KindLemmas.{i2c_outs_are, link_outs_are, spi_outs_are, uart_outs_are}
+use Rattle.decoder_set.proofs.Nets.{net_steps}
 use Rattle.decoder_set.proofs.machine.AnyDecoderMachine.step.Goals as goal
 
 pub returns-in-I2c-clause-step : goal.returns-in-I2c-clause-step
@@ -62,3 +66,22 @@ pub returns-in-Eeprom24-clause-step : goal.returns-in-Eeprom24-clause-step
 returns-in-Eeprom24-clause-step c =
     let e = c.step-in-Eeprom24 in
     eeprom_steps c.args.self.now.setup c.args.self.now.machine c.in-Eeprom24.follower (search rules) e.new.self c.args.feed e.result e.new.into e.ensures.setup e.ensures.step
+
+pub returns-in-OwLink-clause-step : goal.returns-in-OwLink-clause-step
+returns-in-OwLink-clause-step c =
+    let s = c.args.self.now.setup in
+    let driver = c.in-OwLink.driver in
+    steps_by s machine.OwLink onewire.StandsFor onewire.alts_of (IsLink (link_options s.values.given) s.rate) (λ driver input has. has) c.args.self.now.machine driver (search rules)
+    (link_outs (onewire.line_of driver.machine).opts (onewire.line_of driver.machine).rate) (link_outs_are s driver.machine) c.step-in-OwLink.new.self c.args.feed c.step-in-OwLink.result c.step-in-OwLink.new.into
+    (λ input is own drives. (is, record { own = (subst (λ (l : DqLine). (l.opts ≡ link_options s.values.given) × (l.rate ≡ s.rate)) (sym c.step-in-OwLink.ensures.setup) own); drives = drives })) c.step-in-OwLink.ensures.step
+
+pub returns-in-OwLink-clause-stops : goal.returns-in-OwLink-clause-stops
+returns-in-OwLink-clause-stops c =
+    let s = c.args.self.now.setup in
+    stops_by s machine.OwLink onewire.StandsFor onewire.alts_of (IsLink (link_options s.values.given) s.rate) (λ driver input has. has) c.args.self.now.machine c.in-OwLink.driver (search rules) c.args.feed c.step-in-OwLink.result
+    (λ input more rests. rests) (λ input more rests. rests) c.step-in-OwLink.ensures.stops
+
+pub returns-in-OwNet-clause-step : goal.returns-in-OwNet-clause-step
+returns-in-OwNet-clause-step c =
+    let e = c.step-in-OwNet in
+    net_steps c.args.self.now.setup c.args.self.now.machine c.in-OwNet.follower (search rules) e.new.self c.args.feed e.result e.new.into e.ensures.step

@@ -4,6 +4,9 @@ use Rattle.decoder_core.specs.Inputs.{left_feed}
 use Rattle.dec_i2c.specs.Opening as i2c
 use Rattle.dec_i2c.specs.Bus.{i2c_outs}
 use Rattle.dec_i2c.specs.declared.held.Bus.{Bus}
+use Rattle.dec_onewire.specs.Link.{link_outs}
+use Rattle.dec_onewire.specs.Opening as onewire
+use Rattle.dec_onewire.specs.declared.link.held.Line.{Line as DqLine}
 use Rattle.dec_spi.specs.Opening as spi
 use Rattle.dec_spi.specs.Bus.{spi_outs}
 use Rattle.dec_spi.specs.declared.options.SpiOpts.{SpiOpts}
@@ -11,11 +14,12 @@ use Rattle.dec_uart.specs.Opening as uart
 use Rattle.dec_uart.specs.Frames.{uart_outs}
 use Rattle.dec_uart.specs.declared.held.Line.{Line}
 use Rattle.decoder_set.specs.declared.any.AnyMachine.TheVariants as machine
-use Rattle.decoder_set.specs.Opening.{IsI2c, IsSpi, IsUart, i2c_alts_of}
-use Rattle.decoder_set.specs.Options.{i2c_options, spi_options, uart_options}
+use Rattle.decoder_set.specs.Opening.{IsI2c, IsLink, IsSpi, IsUart, i2c_alts_of}
+use Rattle.decoder_set.specs.Options.{i2c_options, link_options, spi_options, uart_options}
 use Rattle.decoder_set.proofs.Eeproms.{eeprom_steps}
 use Rattle.decoder_set.proofs.Handing.{steps_by, reaches_by}
-use Rattle.decoder_set.proofs.KindLemmas.{i2c_outs_are, spi_outs_are, uart_outs_are}
+use Rattle.decoder_set.proofs.KindLemmas.{i2c_outs_are, link_outs_are, spi_outs_are, uart_outs_are}
+use Rattle.decoder_set.proofs.Nets.{net_steps}
 use Rattle.decoder_set.proofs.machine.AnyDecoderMachine.step_run.Goals as goal
 
 pub returns-in-I2c-clause-step : goal.returns-in-I2c-clause-step
@@ -64,3 +68,22 @@ pub returns-in-Eeprom24-clause-step : goal.returns-in-Eeprom24-clause-step
 returns-in-Eeprom24-clause-step c =
     let e = c.step_run-in-Eeprom24 in
     eeprom_steps c.args.self.now.setup c.args.self.now.machine c.in-Eeprom24.follower (search rules) e.new.self (RunFeed c.args.run) (left_feed e.result) e.new._into e.ensures.setup e.ensures.step
+
+pub returns-in-OwLink-clause-step : goal.returns-in-OwLink-clause-step
+returns-in-OwLink-clause-step c =
+    let s = c.args.self.now.setup in
+    let driver = c.in-OwLink.driver in
+    steps_by s machine.OwLink onewire.StandsFor onewire.alts_of (IsLink (link_options s.values.given) s.rate) (λ driver input has. has) c.args.self.now.machine driver (search rules)
+    (link_outs (onewire.line_of driver.machine).opts (onewire.line_of driver.machine).rate) (link_outs_are s driver.machine) c.step_run-in-OwLink.new.self (RunFeed c.args.run) (left_feed c.step_run-in-OwLink.result) c.step_run-in-OwLink.new.into
+    (λ input is own drives. (is, record { own = (subst (λ (l : DqLine). (l.opts ≡ link_options s.values.given) × (l.rate ≡ s.rate)) (sym c.step_run-in-OwLink.ensures.setup) own); drives = drives })) c.step_run-in-OwLink.ensures.step
+
+pub returns-in-OwLink-clause-stops : goal.returns-in-OwLink-clause-stops
+returns-in-OwLink-clause-stops c =
+    let s = c.args.self.now.setup in
+    reaches_by s machine.OwLink onewire.StandsFor onewire.alts_of (IsLink (link_options s.values.given) s.rate) (λ driver input has. has) c.args.self.now.machine c.in-OwLink.driver (search rules) (RunFeed c.args.run) (left_feed c.step_run-in-OwLink.result)
+    (λ input more rests. rests) c.step_run-in-OwLink.ensures.stops
+
+pub returns-in-OwNet-clause-step : goal.returns-in-OwNet-clause-step
+returns-in-OwNet-clause-step c =
+    let e = c.step_run-in-OwNet in
+    net_steps c.args.self.now.setup c.args.self.now.machine c.in-OwNet.follower (search rules) e.new.self (RunFeed c.args.run) (left_feed e.result) e.new._into e.ensures.step
