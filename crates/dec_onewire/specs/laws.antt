@@ -4,7 +4,6 @@ pub mod LinkPushed
 pub mod LinkSound
 pub mod LinkLaws
 pub mod LinkMachineLaws
-pub mod PacketWalks
 pub mod NetMachine
 pub mod CutLaws
 pub mod NetPushed

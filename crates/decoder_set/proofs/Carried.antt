@@ -10,18 +10,24 @@ use Rattle.la_base.specs.declared.wires.Wire.TheVariants as wire
 use Rattle.decoder_core.specs.Packets.{counted_packets, counting, counts}
 use Rattle.dec_onewire.specs.Link.{link_outs}
 use Rattle.dec_onewire.specs.Net.{net_outs}
+use Rattle.dev_ds18b20.specs.Probe.{probe_outs}
+use Rattle.dev_ds1307.specs.Clock.{clock_outs}
+use Rattle.dev_ds1307.specs.Opening as clock
 use Rattle.dev_eeprom24.specs.Eeprom.{eeprom_outs}
 use Rattle.dev_eeprom24.specs.Opening.{chip_by}
+use Rattle.dev_flash25.specs.Flash.{flash_outs}
+use Rattle.dev_lm75.specs.Thermometer.{lm75_outs}
+use Rattle.dev_lm75.specs.Opening as lm75
 use Rattle.dec_i2c.specs.Bus.{i2c_outs}
 use Rattle.dec_spi.specs.Bus.{spi_outs}
 use Rattle.dec_uart.specs.Frames.{uart_outs}
 use Rattle.decoder_core.specs.Inputs.{Item, Sample, Pack, counted_samples, samples_in}
 use Rattle.decoder_set.specs.Kinds.{kind_row}
-use Rattle.decoder_set.specs.Options.{eeprom_options, i2c_options, link_options, spi_options, uart_options}
+use Rattle.decoder_set.specs.Options.{clock_options, eeprom_options, i2c_options, link_options, lm75_options, spi_options, uart_options}
 use Rattle.decoder_set.specs.Setups.{outs_by}
 use Rattle.decoder_set.specs.Whole.{carried, carries}
 use Rattle.decoder_set.specs.declared.kinds.Kind.{Kind}
-use Rattle.decoder_set.specs.declared.kinds.Kind.TheVariants.{I2c, Spi, Uart, Eeprom24, OwLink, OwNet}
+use Rattle.decoder_set.specs.declared.kinds.Kind.TheVariants.{I2c, Spi, Uart, OwLink, OwNet, Eeprom24, Ds1307, Lm75, Ds18b20, Flash25}
 
 samples_carried : (input : List Item) → samples_in (carried Logic input) ≡ samples_in input
 samples_carried [] = refl
@@ -66,6 +72,10 @@ pub reads_its_wire : (kind : Kind) (values : List (Option ℕ)) (rate : Rate) (i
 reads_its_wire I2c values rate input = ap (i2c_outs (i2c_options values).scl (i2c_options values).sda) (counted_carried input)
 reads_its_wire Spi values rate input = ap (spi_outs (spi_options values)) (counted_carried input)
 reads_its_wire Uart values rate input = ap (uart_outs (uart_options values) rate) (counted_carried input)
-reads_its_wire Eeprom24 values rate input = ap (eeprom_outs (chip_by (eeprom_options values))) (packets_carried wire.I2c input)
 reads_its_wire OwLink values rate input = ap (link_outs (link_options values) rate) (counted_carried input)
 reads_its_wire OwNet values rate input = ap net_outs (packets_carried wire.OwLink input)
+reads_its_wire Eeprom24 values rate input = ap (eeprom_outs (chip_by (eeprom_options values))) (packets_carried wire.I2c input)
+reads_its_wire Ds1307 values rate input = ap (clock_outs (clock.chip_by (clock_options values))) (packets_carried wire.I2c input)
+reads_its_wire Lm75 values rate input = ap (lm75_outs (lm75.chip_by (lm75_options values))) (packets_carried wire.I2c input)
+reads_its_wire Ds18b20 values rate input = ap probe_outs (packets_carried wire.OwNet input)
+reads_its_wire Flash25 values rate input = ap flash_outs (packets_carried wire.Spi input)

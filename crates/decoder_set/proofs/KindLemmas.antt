@@ -1,5 +1,5 @@
 -- What a machine of each kind gives is what its decoder's setup says.
-use Rattle.std.proofs.Common.{◌≡◌, ℕ, List, Option, sym, ◌∙◌, ap}
+use Rattle.std.proofs.Common.{◌≡◌, ℕ, ◌+◌, List, Option, sym, ◌∙◌, ap}
 use Rattle.decoder_core.specs.Inputs.{Item, counted_samples}
 use Rattle.dec_i2c.specs.Opening as i2c
 use Rattle.dec_i2c.specs.Bus.{i2c_outs, i2c_near}
@@ -14,12 +14,45 @@ use Rattle.dec_spi.specs.declared.options.SpiOpts.{SpiOpts}
 use Rattle.dec_uart.specs.Opening as uart
 use Rattle.dec_uart.specs.Frames.{uart_outs, uart_near}
 use Rattle.dec_uart.specs.declared.held.Uart.{Uart}
+use Rattle.la_base.specs.declared.wires.Out.{Out}
+use Rattle.la_base.specs.declared.wires.Wire.TheVariants as wire
+use Rattle.decoder_core.specs.Packets.{counted_packets}
+use Rattle.dec_onewire.specs.Net.{net_outs}
+use Rattle.dev_ds18b20.specs.Probe.{probe_outs}
+use Rattle.dev_ds1307.specs.Clock as clock
+use Rattle.dev_ds1307.specs.Opening as clock_opening
+use Rattle.dev_ds1307.specs.declared.chip.Chip.{Chip as ClockChip}
+use Rattle.dev_ds1307.specs.declared.held.Clock.{Clock}
+use Rattle.dev_ds1307.specs.laws.GivenLaws as clock_laws
+use Rattle.dev_eeprom24.specs.Eeprom as eeprom
+use Rattle.dev_eeprom24.specs.Opening as eeprom_opening
+use Rattle.dev_eeprom24.specs.declared.chip.Chip.{Chip}
+use Rattle.dev_eeprom24.specs.declared.held.Eeprom.{Eeprom}
+use Rattle.dev_eeprom24.specs.laws.EepromLaws as eeprom_laws
+use Rattle.dev_flash25.specs.Flash.{flash_outs}
+use Rattle.dev_lm75.specs.Thermometer as lm75
+use Rattle.dev_lm75.specs.Opening as lm75_opening
+use Rattle.dev_lm75.specs.declared.chip.Chip.{Chip as Lm75Chip}
+use Rattle.dev_lm75.specs.declared.held.Lm75.{Lm75}
+use Rattle.dev_lm75.specs.laws.GivenLaws as lm75_laws
+use Rattle.i2c_phases.specs.Devices.{phased}
+use Rattle.i2c_phases.specs.declared.phased.Phased.{Phased}
 use Rattle.decoder_set.specs.declared.kinds.Kind.{Kind}
 use Rattle.decoder_set.specs.declared.kinds.Kind.TheVariants as kind
 use Rattle.decoder_set.specs.declared.setup.Setup.{Setup}
-use Rattle.decoder_set.specs.Opening.{IsI2c, IsLink, IsSpi, IsUart}
-use Rattle.decoder_set.specs.Options.{i2c_options, link_options, spi_options, uart_options}
+use Rattle.decoder_set.specs.Opening.{IsClock, IsEeprom, IsI2c, IsLink, IsLm75, IsSpi, IsUart}
+use Rattle.decoder_set.specs.Options.{clock_options, eeprom_options, i2c_options, link_options, lm75_options, spi_options, uart_options}
 use Rattle.decoder_set.specs.Setups.{outs_by, outs_of, near_by, near_of}
+
+-- what a device on I2C gives of an input
+abbrev pub eeprom_gives : Chip → List Item → List Out
+eeprom_gives chip input = phased (80 + chip.addr) chip.resets (eeprom.step chip) (counted_packets wire.I2c input)
+
+abbrev pub clock_gives : ClockChip → List Item → List Out
+clock_gives chip input = phased 104 chip.resets clock.step (counted_packets wire.I2c input)
+
+abbrev pub lm75_gives : Lm75Chip → List Item → List Out
+lm75_gives chip input = phased (72 + chip.addr) chip.resets lm75.step (counted_packets wire.I2c input)
 
 module _ (setup : Setup) where
   abbrev values : List (Option ℕ)
@@ -64,3 +97,24 @@ module _ (setup : Setup) where
       → near_of setup input ≡ link_near (onewire.line_of machine).opts (counted_samples input)
   link_near_is machine is own input =
       ap (λ (k : Kind). near_by k values setup.rate input) is ∙ (λ i. link_near (sym own.0 i) (counted_samples input))
+
+  pub eeprom_outs_are : (machine : Phased Eeprom Chip) → setup.kind ≡ kind.Eeprom24 → IsEeprom (eeprom_options setup.values.given) machine → (input : List Item) → outs_of setup input ≡ eeprom_gives (eeprom_opening.chip_in machine) input
+  eeprom_outs_are machine is own input =
+      ap (λ (k : Kind). outs_by k values setup.rate input) is ∙ ap (λ (chip : Chip). eeprom.eeprom_outs chip (counted_packets wire.I2c input)) (sym own) ∙ sym (eeprom_laws.outs_are (eeprom_opening.chip_in machine) (counted_packets wire.I2c input))
+
+  pub clock_outs_are : (machine : Phased Clock ClockChip) → setup.kind ≡ kind.Ds1307 → IsClock (clock_options setup.values.given) machine → (input : List Item) → outs_of setup input ≡ clock_gives (clock_opening.chip_in machine) input
+  clock_outs_are machine is own input =
+      ap (λ (k : Kind). outs_by k values setup.rate input) is ∙ ap (λ (chip : ClockChip). clock.clock_outs chip (counted_packets wire.I2c input)) (sym own) ∙ sym (clock_laws.outs_are (clock_opening.chip_in machine) (counted_packets wire.I2c input))
+
+  pub lm75_outs_are : (machine : Phased Lm75 Lm75Chip) → setup.kind ≡ kind.Lm75 → IsLm75 (lm75_options setup.values.given) machine → (input : List Item) → outs_of setup input ≡ lm75_gives (lm75_opening.chip_in machine) input
+  lm75_outs_are machine is own input =
+      ap (λ (k : Kind). outs_by k values setup.rate input) is ∙ ap (λ (chip : Lm75Chip). lm75.lm75_outs chip (counted_packets wire.I2c input)) (sym own) ∙ sym (lm75_laws.outs_are (lm75_opening.chip_in machine) (counted_packets wire.I2c input))
+
+  pub net_outs_are : setup.kind ≡ kind.OwNet → (input : List Item) → outs_of setup input ≡ net_outs (counted_packets wire.OwLink input)
+  net_outs_are is input = ap (λ (k : Kind). outs_by k values setup.rate input) is
+
+  pub probe_outs_are : setup.kind ≡ kind.Ds18b20 → (input : List Item) → outs_of setup input ≡ probe_outs (counted_packets wire.OwNet input)
+  probe_outs_are is input = ap (λ (k : Kind). outs_by k values setup.rate input) is
+
+  pub flash_outs_are : setup.kind ≡ kind.Flash25 → (input : List Item) → outs_of setup input ≡ flash_outs (counted_packets wire.Spi input)
+  flash_outs_are is input = ap (λ (k : Kind). outs_by k values setup.rate input) is

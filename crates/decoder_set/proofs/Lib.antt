@@ -5,5 +5,4 @@ pub mod OneDecoder
 pub mod Handing
 pub mod KindLemmas
 pub mod Seen
-pub mod Eeproms
-pub mod Nets
+pub mod Following

@@ -1,5 +1,5 @@
 -- Two decoders of one setup that have consumed one input hold the same.
-use Rattle.std.proofs.Common.{◌≡◌, ℕ, ◌+◌, ◌<◌, ◌≤◌, ◌^◌, List, Option, sym, ◌∙◌, subst}
+use Rattle.std.proofs.Common.{◌≡◌, ℕ, ◌+◌, ◌<◌, ◌≤◌, ◌^◌, List, Option, refl, sym, ◌∙◌, subst}
 use Rattle.std.proofs.Math.Bridge.{le_prop}
 use Rattle.std.proofs.Math.Path.{to_path_p}
 use Rattle.la_base.specs.declared.samples.Rate.{Rate}
@@ -21,11 +21,38 @@ use Rattle.dec_uart.specs.Ranges.{InRange, FastEnough}
 use Rattle.dec_uart.specs.declared.held.Line.{Line}
 use Rattle.dec_uart.specs.declared.options.UartOpts.{UartOpts}
 use Rattle.decoder_core.specs.Packets.{counted_packets}
-use Rattle.dev_eeprom24.specs.Held.{Knows}
-use Rattle.dev_eeprom24.specs.declared.chip.Chip.{Chip}
-use Rattle.dev_eeprom24.specs.laws.KnowingLaws.{chip_of, one_eeprom}
+use Rattle.dev_ds18b20.specs.laws.ProbeLaws.{one_probe}
+use Rattle.dev_ds1307.specs.Held as clock_held
+use Rattle.dev_ds1307.specs.laws.KnowingLaws as clock_laws
+use Rattle.dev_eeprom24.specs.Held as eeprom_held
+use Rattle.dev_eeprom24.specs.laws.KnowingLaws as eeprom_laws
+use Rattle.dev_flash25.specs.laws.FlashLaws.{one_flash}
+use Rattle.dev_lm75.specs.Held as lm75_held
+use Rattle.dev_lm75.specs.laws.KnowingLaws as lm75_laws
 use Rattle.i2c_phases.specs.laws.OneLaw.{one_phased}
 use Rattle.la_base.specs.declared.wires.Wire.TheVariants as wire
+use Rattle.decoder_core.specs.declared.driver.Driver.{Driver}
+use Rattle.dec_i2c.specs.declared.held.I2c.{I2c}
+use Rattle.dec_spi.specs.declared.held.Spi.{Spi}
+use Rattle.dec_spi.specs.declared.options.SpiOpts.{SpiOpts}
+use Rattle.dec_uart.specs.declared.held.Uart.{Uart}
+use Rattle.dec_onewire.specs.declared.link.held.OwLink.{OwLink}
+use Rattle.dec_onewire.specs.declared.net.held.OwNet.{OwNet}
+use Rattle.dec_onewire.specs.declared.net.held.OwNetOpts.{OwNetOpts}
+use Rattle.dev_ds18b20.specs.declared.held.Probe.{Probe}
+use Rattle.dev_ds18b20.specs.declared.held.ProbeOpts.{ProbeOpts}
+use Rattle.dev_ds1307.specs.declared.chip.Chip.{Chip as ClockChip}
+use Rattle.dev_ds1307.specs.declared.held.Clock.{Clock}
+use Rattle.dev_flash25.specs.declared.held.Flash.{Flash}
+use Rattle.dev_flash25.specs.declared.held.FlashOpts.{FlashOpts}
+use Rattle.dev_lm75.specs.declared.chip.Chip.{Chip as Lm75Chip}
+use Rattle.dev_lm75.specs.declared.held.Lm75.{Lm75}
+use Rattle.decoder_core.specs.declared.follower.Follower.{Follower}
+use Rattle.dev_eeprom24.specs.declared.chip.Chip.{Chip}
+use Rattle.dev_eeprom24.specs.declared.held.Eeprom.{Eeprom}
+use Rattle.i2c_phases.specs.declared.phased.Phased.{Phased}
+use Rattle.decoder_set.specs.declared.kinds.Kind.{Kind}
+use Rattle.decoder_set.specs.declared.kinds.Kind.TheVariants as kind
 use Rattle.decoder_set.specs.declared.any.AnyDecoder.{AnyDecoder}
 use Rattle.decoder_set.specs.declared.any.AnyMachine.{AnyMachine}
 use Rattle.decoder_set.specs.declared.any.AnyMachine.TheVariants as machine
@@ -71,62 +98,134 @@ same_dq one other opts rate = λ i. record {
   dq_below = to_path_p (λ j. (opts j).dq < MOST_PINS) {a = one.dq_below} (le_prop _ other.dq_below) i;
 }
 
-same_machine : (values : List (Option ℕ)) (rate : Rate) (one other : AnyMachine) (input : List Item) → kind_in one ≡ kind_in other → ConsumedAs values rate one input → ConsumedAs values rate other input → SameMachine one other
-same_machine values rate (machine.I2c one) (machine.I2c other) input same d e =
-    one_state i2c.bus_of i2c.StandsFor i2c_alts_of (λ one other list same stands also. one_i2c one other list same stands also)
-    (λ one other seen more same stands also rests. i2c_one_stop one other seen more same stands also rests)
-    one.machine other.machine one.waiter other.waiter input
-    (same_bus (i2c.bus_of one.machine) (i2c.bus_of other.machine) (d.own.0 ∙ sym e.own.0) (d.own.1 ∙ sym e.own.1)) d.drives e.drives
-same_machine values rate (machine.I2c one) (machine.Spi other) input same d e = cc
-same_machine values rate (machine.I2c one) (machine.Uart other) input same d e = cc
-same_machine values rate (machine.I2c one) (machine.Eeprom24 other) input same d e = cc
-same_machine values rate (machine.I2c one) (machine.OwLink other) input same d e = cc
-same_machine values rate (machine.I2c one) (machine.OwNet other) input same d e = cc
-same_machine values rate (machine.Spi one) (machine.I2c other) input same d e = cc
-same_machine values rate (machine.Spi one) (machine.Spi other) input same d e =
-    one_state spi.opts_of spi.StandsFor spi.alts_of (λ one other list same stands also. one_spi one other list same stands also)
-    (λ one other seen more same stands also rests. spi_one_stop one other seen more same stands also rests)
-    one.machine other.machine one.waiter other.waiter input (d.own ∙ sym e.own) d.drives e.drives
-same_machine values rate (machine.Spi one) (machine.Uart other) input same d e = cc
-same_machine values rate (machine.Spi one) (machine.Eeprom24 other) input same d e = cc
-same_machine values rate (machine.Spi one) (machine.OwLink other) input same d e = cc
-same_machine values rate (machine.Spi one) (machine.OwNet other) input same d e = cc
-same_machine values rate (machine.Uart one) (machine.I2c other) input same d e = cc
-same_machine values rate (machine.Uart one) (machine.Spi other) input same d e = cc
-same_machine values rate (machine.Uart one) (machine.Uart other) input same d e =
-    one_state uart.line_of uart.StandsFor uart.alts_of (λ one other list same stands also. one_uart one other list same stands also)
-    (λ one other seen more same stands also rests. uart_one_stop one other seen more same stands also rests)
-    one.machine other.machine one.waiter other.waiter input
-    (same_line (uart.line_of one.machine) (uart.line_of other.machine) (d.own.0 ∙ sym e.own.0) (d.own.1 ∙ sym e.own.1)) d.drives e.drives
-same_machine values rate (machine.Uart one) (machine.Eeprom24 other) input same d e = cc
-same_machine values rate (machine.Uart one) (machine.OwLink other) input same d e = cc
-same_machine values rate (machine.Uart one) (machine.OwNet other) input same d e = cc
-same_machine values rate (machine.Eeprom24 one) (machine.I2c other) input same d e = cc
-same_machine values rate (machine.Eeprom24 one) (machine.Spi other) input same d e = cc
-same_machine values rate (machine.Eeprom24 one) (machine.Uart other) input same d e = cc
-same_machine values rate (machine.Eeprom24 one) (machine.Eeprom24 other) input same d e = (
-  one_phased chip_of (λ (chip : Chip). 80 + chip.addr) (λ (chip : Chip). chip.resets) Knows one_eeprom one.machine other.machine (counted_packets wire.I2c input) (d.own ∙ sym e.own) d.follows.machine_stands e.follows.machine_stands,
-  d.follows.last_is ∙ sym e.follows.last_is,
-)
-same_machine values rate (machine.Eeprom24 one) (machine.OwLink other) input same d e = cc
-same_machine values rate (machine.Eeprom24 one) (machine.OwNet other) input same d e = cc
-same_machine values rate (machine.OwLink one) (machine.I2c other) input same d e = cc
-same_machine values rate (machine.OwLink one) (machine.Spi other) input same d e = cc
-same_machine values rate (machine.OwLink one) (machine.Uart other) input same d e = cc
-same_machine values rate (machine.OwLink one) (machine.Eeprom24 other) input same d e = cc
-same_machine values rate (machine.OwLink one) (machine.OwLink other) input same d e =
-    one_state onewire.line_of onewire.StandsFor onewire.alts_of (λ one other list same stands also. one_link one other list same stands also)
-    (λ one other seen more same stands also rests. link_one_stop one other seen more same stands also rests)
-    one.machine other.machine one.waiter other.waiter input
-    (same_dq (onewire.line_of one.machine) (onewire.line_of other.machine) (d.own.0 ∙ sym e.own.0) (d.own.1 ∙ sym e.own.1)) d.drives e.drives
-same_machine values rate (machine.OwLink one) (machine.OwNet other) input same d e = cc
-same_machine values rate (machine.OwNet one) (machine.I2c other) input same d e = cc
-same_machine values rate (machine.OwNet one) (machine.Spi other) input same d e = cc
-same_machine values rate (machine.OwNet one) (machine.Uart other) input same d e = cc
-same_machine values rate (machine.OwNet one) (machine.Eeprom24 other) input same d e = cc
-same_machine values rate (machine.OwNet one) (machine.OwLink other) input same d e = cc
-same_machine values rate (machine.OwNet one) (machine.OwNet other) input same d e =
-    (one_net one.machine other.machine (counted_packets wire.OwLink input) d.machine_stands e.machine_stands, d.last_is ∙ sym e.last_is)
+-- what a machine of a kind holds
+abbrev Inner : Kind → Type 0
+Inner kind.I2c = Driver I2c Bus
+Inner kind.Spi = Driver Spi SpiOpts
+Inner kind.Uart = Driver Uart Line
+Inner kind.OwLink = Driver OwLink DqLine
+Inner kind.OwNet = Follower OwNet OwNetOpts
+Inner kind.Eeprom24 = Follower (Phased Eeprom Chip) Chip
+Inner kind.Ds1307 = Follower (Phased Clock ClockChip) ClockChip
+Inner kind.Lm75 = Follower (Phased Lm75 Lm75Chip) Lm75Chip
+Inner kind.Ds18b20 = Follower Probe ProbeOpts
+Inner kind.Flash25 = Follower Flash FlashOpts
+
+abbrev inner : (held : AnyMachine) → Inner (kind_in held)
+inner (machine.I2c x) = x
+inner (machine.Spi x) = x
+inner (machine.Uart x) = x
+inner (machine.OwLink x) = x
+inner (machine.OwNet x) = x
+inner (machine.Eeprom24 x) = x
+inner (machine.Ds1307 x) = x
+inner (machine.Lm75 x) = x
+inner (machine.Ds18b20 x) = x
+inner (machine.Flash25 x) = x
+
+abbrev wrapped : (k : Kind) → Inner k → AnyMachine
+wrapped kind.I2c x = machine.I2c x
+wrapped kind.Spi x = machine.Spi x
+wrapped kind.Uart x = machine.Uart x
+wrapped kind.OwLink x = machine.OwLink x
+wrapped kind.OwNet x = machine.OwNet x
+wrapped kind.Eeprom24 x = machine.Eeprom24 x
+wrapped kind.Ds1307 x = machine.Ds1307 x
+wrapped kind.Lm75 x = machine.Lm75 x
+wrapped kind.Ds18b20 x = machine.Ds18b20 x
+wrapped kind.Flash25 x = machine.Flash25 x
+
+wrapped_inner : (held : AnyMachine) → held ≡ wrapped (kind_in held) (inner held)
+wrapped_inner (machine.I2c x) = refl
+wrapped_inner (machine.Spi x) = refl
+wrapped_inner (machine.Uart x) = refl
+wrapped_inner (machine.OwLink x) = refl
+wrapped_inner (machine.OwNet x) = refl
+wrapped_inner (machine.Eeprom24 x) = refl
+wrapped_inner (machine.Ds1307 x) = refl
+wrapped_inner (machine.Lm75 x) = refl
+wrapped_inner (machine.Ds18b20 x) = refl
+wrapped_inner (machine.Flash25 x) = refl
+
+-- a machine of this kind is one that holds such a thing
+of_kind : (k : Kind) (held : AnyMachine) → k ≡ kind_in held → (x : Inner k) × (held ≡ wrapped k x)
+of_kind k held is = subst (λ (j : Kind). (x : Inner j) × (held ≡ wrapped j x)) (sym is) (inner held, wrapped_inner held)
+
+module _ (values : List (Option ℕ)) (rate : Rate) (input : List Item) where
+  at : (k : Kind) (held : AnyMachine) (x : Inner k) → held ≡ wrapped k x → ConsumedAs values rate held input → ConsumedAs values rate (wrapped k x) input
+  at k held x is e = subst (λ (m : AnyMachine). ConsumedAs values rate m input) is e
+
+  same_machine : (one other : AnyMachine) → kind_in one ≡ kind_in other → ConsumedAs values rate one input → ConsumedAs values rate other input → SameMachine one other
+  same_machine (machine.I2c one) other same d e =
+      let a = of_kind kind.I2c other same in
+      let o : Driver I2c Bus = a.0 in
+      let f = at kind.I2c other o a.1 e in (
+        o,
+        a.1,
+        one_state i2c.bus_of i2c.StandsFor i2c_alts_of (λ one other list same stands also. one_i2c one other list same stands also)
+            (λ one other seen more same stands also rests. i2c_one_stop one other seen more same stands also rests)
+            one.machine o.machine one.waiter o.waiter input (same_bus (i2c.bus_of one.machine) (i2c.bus_of o.machine) (d.own.0 ∙ sym f.own.0) (d.own.1 ∙ sym f.own.1)) d.drives f.drives,
+      )
+  same_machine (machine.Spi one) other same d e =
+      let a = of_kind kind.Spi other same in
+      let o : Driver Spi SpiOpts = a.0 in
+      let f = at kind.Spi other o a.1 e in (
+        o,
+        a.1,
+        one_state spi.opts_of spi.StandsFor spi.alts_of (λ one other list same stands also. one_spi one other list same stands also)
+            (λ one other seen more same stands also rests. spi_one_stop one other seen more same stands also rests)
+            one.machine o.machine one.waiter o.waiter input (d.own ∙ sym f.own) d.drives f.drives,
+      )
+  same_machine (machine.Uart one) other same d e =
+      let a = of_kind kind.Uart other same in
+      let o : Driver Uart Line = a.0 in
+      let f = at kind.Uart other o a.1 e in (
+        o,
+        a.1,
+        one_state uart.line_of uart.StandsFor uart.alts_of (λ one other list same stands also. one_uart one other list same stands also)
+            (λ one other seen more same stands also rests. uart_one_stop one other seen more same stands also rests)
+            one.machine o.machine one.waiter o.waiter input (same_line (uart.line_of one.machine) (uart.line_of o.machine) (d.own.0 ∙ sym f.own.0) (d.own.1 ∙ sym f.own.1)) d.drives f.drives,
+      )
+  same_machine (machine.OwLink one) other same d e =
+      let a = of_kind kind.OwLink other same in
+      let o : Driver OwLink DqLine = a.0 in
+      let f = at kind.OwLink other o a.1 e in (
+        o,
+        a.1,
+        one_state onewire.line_of onewire.StandsFor onewire.alts_of (λ one other list same stands also. one_link one other list same stands also)
+            (λ one other seen more same stands also rests. link_one_stop one other seen more same stands also rests)
+            one.machine o.machine one.waiter o.waiter input (same_dq (onewire.line_of one.machine) (onewire.line_of o.machine) (d.own.0 ∙ sym f.own.0) (d.own.1 ∙ sym f.own.1)) d.drives f.drives,
+      )
+  same_machine (machine.OwNet one) other same d e =
+      let a = of_kind kind.OwNet other same in
+      let o : Follower OwNet OwNetOpts = a.0 in
+      let f = at kind.OwNet other o a.1 e in
+      (o, a.1, (one_net one.machine o.machine (counted_packets wire.OwLink input) d.follows.machine_stands f.follows.machine_stands, d.follows.last_is ∙ sym f.follows.last_is))
+  same_machine (machine.Eeprom24 one) other same d e =
+      let a = of_kind kind.Eeprom24 other same in
+      let o : Follower (Phased Eeprom Chip) Chip = a.0 in
+      let f = at kind.Eeprom24 other o a.1 e in
+      (o, a.1, (one_phased eeprom_laws.chip_of (λ (chip : Chip). 80 + chip.addr) (λ (chip : Chip). chip.resets) eeprom_held.Knows eeprom_laws.one_eeprom one.machine o.machine (counted_packets wire.I2c input) (d.own ∙ sym f.own) d.follows.machine_stands f.follows.machine_stands, d.follows.last_is ∙ sym f.follows.last_is))
+  same_machine (machine.Ds1307 one) other same d e =
+      let a = of_kind kind.Ds1307 other same in
+      let o : Follower (Phased Clock ClockChip) ClockChip = a.0 in
+      let f = at kind.Ds1307 other o a.1 e in
+      (o, a.1, (one_phased clock_laws.chip_of (λ (chip : ClockChip). 104) (λ (chip : ClockChip). chip.resets) clock_held.Knows clock_laws.one_clock one.machine o.machine (counted_packets wire.I2c input) (d.own ∙ sym f.own) d.follows.machine_stands f.follows.machine_stands, d.follows.last_is ∙ sym f.follows.last_is))
+  same_machine (machine.Lm75 one) other same d e =
+      let a = of_kind kind.Lm75 other same in
+      let o : Follower (Phased Lm75 Lm75Chip) Lm75Chip = a.0 in
+      let f = at kind.Lm75 other o a.1 e in
+      (o, a.1, (one_phased lm75_laws.chip_of (λ (chip : Lm75Chip). 72 + chip.addr) (λ (chip : Lm75Chip). chip.resets) lm75_held.Knows lm75_laws.one_lm75 one.machine o.machine (counted_packets wire.I2c input) (d.own ∙ sym f.own) d.follows.machine_stands f.follows.machine_stands, d.follows.last_is ∙ sym f.follows.last_is))
+  same_machine (machine.Ds18b20 one) other same d e =
+      let a = of_kind kind.Ds18b20 other same in
+      let o : Follower Probe ProbeOpts = a.0 in
+      let f = at kind.Ds18b20 other o a.1 e in
+      (o, a.1, (one_probe one.machine o.machine (counted_packets wire.OwNet input) d.follows.machine_stands f.follows.machine_stands, d.follows.last_is ∙ sym f.follows.last_is))
+  same_machine (machine.Flash25 one) other same d e =
+      let a = of_kind kind.Flash25 other same in
+      let o : Follower Flash FlashOpts = a.0 in
+      let f = at kind.Flash25 other o a.1 e in
+      (o, a.1, (one_flash one.machine o.machine (counted_packets wire.Spi input) d.follows.machine_stands f.follows.machine_stands, d.follows.last_is ∙ sym f.follows.last_is))
 
 pub same_decoder : (one other : AnyDecoder) (input : List Item) → setup_of one ≡ setup_of other → HasConsumed one input → HasConsumed other input → SameDecoder one other
 same_decoder one other input same d e =
@@ -134,5 +233,5 @@ same_decoder one other input same d e =
     subst (λ (s : Setup). Consumed s.kind s.values.given s.rate other.machine input) (sym same) e in
     record {
       setup = same;
-      machine = same_machine one.setup.values.given one.setup.rate one.machine other.machine input (sym d.0 ∙ f.0) d.1 f.1;
+      machine = same_machine one.setup.values.given one.setup.rate input one.machine other.machine (sym d.0 ∙ f.0) d.1 f.1;
     }

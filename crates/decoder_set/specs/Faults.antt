@@ -5,7 +5,7 @@ use Rattle.decoder_core.specs.declared.faults.OptFault.{OptFault}
 use Rattle.decoder_core.specs.declared.faults.OptFault.TheVariants.{Range}
 use Rattle.decoder_core.specs.declared.faults.OptFault.TheVariants as fault
 use Rattle.decoder_set.specs.declared.kinds.Kind.{Kind}
-use Rattle.decoder_set.specs.declared.kinds.Kind.TheVariants.{I2c, Spi, Uart, Eeprom24, OwLink, OwNet}
+use Rattle.decoder_set.specs.declared.kinds.Kind.TheVariants.{I2c, Spi, Uart, OwLink, OwNet, Eeprom24, Ds1307, Lm75, Ds18b20, Flash25}
 use Rattle.dec_onewire.specs.Link.{lengths_of}
 use Rattle.dec_onewire.specs.declared.link.options.Lengths.{Lengths}
 use Rattle.decoder_set.specs.Options.{link_options, uart_options}
@@ -20,9 +20,13 @@ abbrev pub too_slow : Kind → List (Option ℕ) → Rate → Bool
 too_slow I2c values rate = false
 too_slow Spi values rate = false
 too_slow Uart values rate = nat_lt ((uart_options values).sp * rate.num) (100 * (uart_options values).baud * rate.den)
-too_slow Eeprom24 values rate = false
 too_slow OwLink values rate = not (tells_apart (lengths_of (link_options values) rate))
 too_slow OwNet values rate = false
+too_slow Eeprom24 values rate = false
+too_slow Ds1307 values rate = false
+too_slow Lm75 values rate = false
+too_slow Ds18b20 values rate = false
+too_slow Flash25 values rate = false
 
 -- why a decoder can't be opened: Range where an option doesn't take its value, then Rate where the rate is too low
 abbrev pub open_fault : ℕ → Kind → List (Option ℕ) → Rate → Option OptFault

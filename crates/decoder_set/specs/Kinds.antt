@@ -6,7 +6,7 @@ use Rattle.la_base.specs.declared.wires.Wire.{Wire}
 use Rattle.la_base.specs.declared.wires.Wire.TheVariants as wire
 use Rattle.decoder_set.specs.declared.kinds.Asked.{Asked}
 use Rattle.decoder_set.specs.declared.kinds.Kind.{Kind}
-use Rattle.decoder_set.specs.declared.kinds.Kind.TheVariants.{I2c, Spi, Uart, Eeprom24, OwLink, OwNet}
+use Rattle.decoder_set.specs.declared.kinds.Kind.TheVariants.{I2c, Spi, Uart, OwLink, OwNet, Eeprom24, Ds1307, Lm75, Ds18b20, Flash25}
 use Rattle.decoder_set.specs.declared.kinds.OptForm.{OptForm}
 use Rattle.decoder_set.specs.declared.kinds.OptForm.TheVariants as form
 use Rattle.decoder_set.specs.declared.kinds.OptRow.{OptRow}
@@ -73,19 +73,6 @@ kind_row Uart = record {
   parent = [];
   classes = codes "data" ∷ [];
 }
-kind_row Eeprom24 = record {
-  name = codes "eeprom24";
-  input = wire.I2c;
-  output = wire.Nothing;
-  options =
-      record { name = codes "addr"; form = Number 0 7 0 }
-      ∷ record { name = codes "size"; form = Choice (codes "256" ∷ codes "128" ∷ codes "4096" ∷ codes "8192" ∷ codes "16384" ∷ codes "32768" ∷ codes "65536" ∷ []) }
-      ∷ record { name = codes "page"; form = Choice (codes "8" ∷ codes "16" ∷ codes "32" ∷ codes "64" ∷ codes "128" ∷ []) }
-      ∷ record { name = codes "gcall"; form = Number 0 1 0 } ∷ [];
-  groups = [];
-  parent = [];
-  classes = codes "write" ∷ codes "read" ∷ [];
-}
 kind_row OwLink = record {
   name = codes "onewire_link";
   input = wire.Logic;
@@ -108,10 +95,59 @@ kind_row OwNet = record {
   parent = [];
   classes = codes "data" ∷ [];
 }
+kind_row Eeprom24 = record {
+  name = codes "eeprom24";
+  input = wire.I2c;
+  output = wire.Nothing;
+  options =
+      record { name = codes "addr"; form = Number 0 7 0 }
+      ∷ record { name = codes "size"; form = Choice (codes "256" ∷ codes "128" ∷ codes "4096" ∷ codes "8192" ∷ codes "16384" ∷ codes "32768" ∷ codes "65536" ∷ []) }
+      ∷ record { name = codes "page"; form = Choice (codes "8" ∷ codes "16" ∷ codes "32" ∷ codes "64" ∷ codes "128" ∷ []) }
+      ∷ record { name = codes "gcall"; form = Number 0 1 0 } ∷ [];
+  groups = [];
+  parent = [];
+  classes = codes "write" ∷ codes "read" ∷ [];
+}
+kind_row Ds1307 = record {
+  name = codes "ds1307";
+  input = wire.I2c;
+  output = wire.Nothing;
+  options = record { name = codes "gcall"; form = Number 0 1 0 } ∷ [];
+  groups = [];
+  parent = [];
+  classes = codes "write" ∷ codes "read" ∷ [];
+}
+kind_row Lm75 = record {
+  name = codes "lm75";
+  input = wire.I2c;
+  output = wire.Nothing;
+  options = record { name = codes "addr"; form = Number 0 7 0 } ∷ record { name = codes "gcall"; form = Number 0 1 0 } ∷ [];
+  groups = [];
+  parent = [];
+  classes = [];
+}
+kind_row Ds18b20 = record {
+  name = codes "ds18b20";
+  input = wire.OwNet;
+  output = wire.Nothing;
+  options = [];
+  groups = [];
+  parent = [];
+  classes = codes "scratchpad" ∷ [];
+}
+kind_row Flash25 = record {
+  name = codes "flash25";
+  input = wire.Spi;
+  output = wire.Nothing;
+  options = [];
+  groups = [];
+  parent = record { row = 6; number = 8 } ∷ [];
+  classes = codes "read" ∷ codes "program" ∷ [];
+}
 
 -- the kinds that have a row
 abbrev pub kinds : List Kind
-kinds = I2c ∷ Spi ∷ Uart ∷ Eeprom24 ∷ OwLink ∷ OwNet ∷ []
+kinds = I2c ∷ Spi ∷ Uart ∷ OwLink ∷ OwNet ∷ Eeprom24 ∷ Ds1307 ∷ Lm75 ∷ Ds18b20 ∷ Flash25 ∷ []
 
 -- the kind of a name
 abbrev pub kind_of : Text → Option Kind

@@ -23,12 +23,28 @@ use Rattle.dec_onewire.specs.declared.link.options.OwLinkOpts.{OwLinkOpts}
 use Rattle.dec_onewire.specs.declared.net.held.OwNet.{OwNet}
 use Rattle.dec_onewire.specs.declared.net.held.OwNetOpts.{OwNetOpts}
 use Rattle.decoder_core.specs.Packets.{Follows, NoneCount}
+use Rattle.dev_ds18b20.specs.Held as probe
+use Rattle.dev_ds18b20.specs.declared.held.Probe.{Probe}
+use Rattle.dev_ds18b20.specs.declared.held.ProbeOpts.{ProbeOpts}
+use Rattle.dev_ds1307.specs.Opening as clock
+use Rattle.dev_ds1307.specs.declared.chip.Chip.{Chip as ClockChip}
+use Rattle.dev_ds1307.specs.declared.chip.ClockOpts.{ClockOpts}
+use Rattle.dev_ds1307.specs.declared.held.Clock.{Clock}
+use Rattle.dev_flash25.specs.Held as flash
+use Rattle.dev_flash25.specs.declared.held.Flash.{Flash}
+use Rattle.dev_flash25.specs.declared.held.FlashOpts.{FlashOpts}
+use Rattle.dev_lm75.specs.Opening as lm75
+use Rattle.dev_lm75.specs.declared.chip.Chip.{Chip as Lm75Chip}
+use Rattle.dev_lm75.specs.declared.chip.Lm75Opts.{Lm75Opts}
+use Rattle.dev_lm75.specs.declared.held.Lm75.{Lm75}
 use Rattle.decoder_core.specs.declared.follower.Follower.{Follower}
 use Rattle.dev_eeprom24.specs.Opening as eeprom
 use Rattle.dev_eeprom24.specs.declared.chip.Chip.{Chip}
 use Rattle.dev_eeprom24.specs.declared.chip.EepromOpts.{EepromOpts}
 use Rattle.dev_eeprom24.specs.declared.held.Eeprom.{Eeprom}
 use Rattle.i2c_phases.specs.declared.phased.Phased.{Phased}
+use Rattle.la_base.specs.declared.wires.Packet.{Packet}
+use Rattle.la_base.specs.declared.wires.Wire.{Wire}
 use Rattle.la_base.specs.declared.wires.Wire.TheVariants as wire
 use Rattle.la_base.specs.declared.samples.Rate.{Rate}
 use Rattle.la_base.specs.declared.samples.TheConstants.{MOST_PINS}
@@ -40,7 +56,7 @@ use Rattle.decoder_set.specs.declared.setup.Setup.{Setup}
 use Rattle.decoder_set.specs.declared.any.AnyDecoder.{AnyDecoder}
 use Rattle.decoder_set.specs.declared.any.AnyMachine.{AnyMachine}
 use Rattle.decoder_set.specs.declared.any.AnyMachine.TheVariants as machine
-use Rattle.decoder_set.specs.Options.{eeprom_options, i2c_options, link_options, spi_options, uart_options}
+use Rattle.decoder_set.specs.Options.{clock_options, eeprom_options, i2c_options, link_options, lm75_options, spi_options, uart_options}
 use Rattle.decoder_set.specs.Faults.{open_fault}
 
 -- a machine of each kind has these options
@@ -58,6 +74,16 @@ IsLink options rate machine = ((onewire.line_of machine).opts ≡ options) × ((
 
 abbrev pub IsEeprom : EepromOpts → Phased Eeprom Chip → Type 0
 IsEeprom options machine = eeprom.chip_in machine ≡ eeprom.chip_by options
+
+abbrev pub IsClock : ClockOpts → Phased Clock ClockChip → Type 0
+IsClock options machine = clock.chip_in machine ≡ clock.chip_by options
+
+abbrev pub IsLm75 : Lm75Opts → Phased Lm75 Lm75Chip → Type 0
+IsLm75 options machine = lm75.chip_in machine ≡ lm75.chip_by options
+
+-- a machine without options has no others
+abbrev pub IsAny : {D : Type 0} → D → Type 0
+IsAny machine = Unit {0}
 
 -- what an I2C machine waits for
 abbrev pub i2c_alts_of : I2c → List Alt
@@ -80,32 +106,54 @@ UartConsumed options rate driver input = ConsumedBy uart.StandsFor uart.alts_of 
 abbrev pub LinkConsumed : OwLinkOpts → Rate → Driver OwLink DqLine → List Item → Type 0
 LinkConsumed options rate driver input = ConsumedBy onewire.StandsFor onewire.alts_of (IsLink options rate) driver input
 
--- a follower of a 1-Wire network has consumed this input
-abbrev pub NetConsumed : Follower OwNet OwNetOpts → List Item → Type 0
-NetConsumed follower input = Follows onewire.NetStandsFor wire.OwLink follower.machine follower.from input
+-- a follower of a machine with these options, which reads this wire, has consumed this input
+pub record FollowedBy {D S : Type 0} (stands : D → List Packet → Type 0) (reads : Wire) (IsOwn : D → Type 0) (follower : Follower D S) (input : List Item) : Type 0 where
+  pub own : IsOwn follower.machine
+  pub follows : Follows stands reads follower.machine follower.from input
 
--- a follower of an EEPROM with these options has consumed this input
-pub record EepromConsumed (options : EepromOpts) (follower : Follower (Phased Eeprom Chip) Chip) (input : List Item) : Type 0 where
-  pub own : IsEeprom options follower.machine
-  pub follows : Follows eeprom.StandsFor wire.I2c follower.machine follower.from input
+abbrev pub NetConsumed : Follower OwNet OwNetOpts → List Item → Type 0
+NetConsumed follower input = FollowedBy onewire.NetStandsFor wire.OwLink IsAny follower input
+
+abbrev pub EepromConsumed : EepromOpts → Follower (Phased Eeprom Chip) Chip → List Item → Type 0
+EepromConsumed options follower input = FollowedBy eeprom.StandsFor wire.I2c (IsEeprom options) follower input
+
+abbrev pub ClockConsumed : ClockOpts → Follower (Phased Clock ClockChip) ClockChip → List Item → Type 0
+ClockConsumed options follower input = FollowedBy clock.StandsFor wire.I2c (IsClock options) follower input
+
+abbrev pub Lm75Consumed : Lm75Opts → Follower (Phased Lm75 Lm75Chip) Lm75Chip → List Item → Type 0
+Lm75Consumed options follower input = FollowedBy lm75.StandsFor wire.I2c (IsLm75 options) follower input
+
+abbrev pub ProbeConsumed : Follower Probe ProbeOpts → List Item → Type 0
+ProbeConsumed follower input = FollowedBy probe.StandsFor wire.OwNet IsAny follower input
+
+abbrev pub FlashConsumed : Follower Flash FlashOpts → List Item → Type 0
+FlashConsumed follower input = FollowedBy flash.StandsFor wire.Spi IsAny follower input
 
 -- the kind of a machine
 abbrev pub kind_in : AnyMachine → Kind
 kind_in (machine.I2c driver) = kind.I2c
 kind_in (machine.Spi driver) = kind.Spi
 kind_in (machine.Uart driver) = kind.Uart
-kind_in (machine.Eeprom24 follower) = kind.Eeprom24
 kind_in (machine.OwLink driver) = kind.OwLink
 kind_in (machine.OwNet follower) = kind.OwNet
+kind_in (machine.Eeprom24 follower) = kind.Eeprom24
+kind_in (machine.Ds1307 follower) = kind.Ds1307
+kind_in (machine.Lm75 follower) = kind.Lm75
+kind_in (machine.Ds18b20 follower) = kind.Ds18b20
+kind_in (machine.Flash25 follower) = kind.Flash25
 
 -- a machine with these values at this rate has consumed this input
 abbrev pub ConsumedAs : List (Option ℕ) → Rate → AnyMachine → List Item → Type 0
 ConsumedAs values rate (machine.I2c driver) input = I2cConsumed (i2c_options values) driver input
 ConsumedAs values rate (machine.Spi driver) input = SpiConsumed (spi_options values) driver input
 ConsumedAs values rate (machine.Uart driver) input = UartConsumed (uart_options values) rate driver input
-ConsumedAs values rate (machine.Eeprom24 follower) input = EepromConsumed (eeprom_options values) follower input
 ConsumedAs values rate (machine.OwLink driver) input = LinkConsumed (link_options values) rate driver input
 ConsumedAs values rate (machine.OwNet follower) input = NetConsumed follower input
+ConsumedAs values rate (machine.Eeprom24 follower) input = EepromConsumed (eeprom_options values) follower input
+ConsumedAs values rate (machine.Ds1307 follower) input = ClockConsumed (clock_options values) follower input
+ConsumedAs values rate (machine.Lm75 follower) input = Lm75Consumed (lm75_options values) follower input
+ConsumedAs values rate (machine.Ds18b20 follower) input = ProbeConsumed follower input
+ConsumedAs values rate (machine.Flash25 follower) input = FlashConsumed follower input
 
 -- a decoder of this kind, with these values at this rate, has consumed this input
 abbrev pub Consumed : Kind → List (Option ℕ) → Rate → AnyMachine → List Item → Type 0
@@ -116,9 +164,13 @@ abbrev pub SleepsBy : AnyMachine → List Item → List Item → Type 0
 SleepsBy (machine.I2c driver) input more = Sleeps i2c_alts_of driver.machine driver.waiter input more
 SleepsBy (machine.Spi driver) input more = Sleeps spi.alts_of driver.machine driver.waiter input more
 SleepsBy (machine.Uart driver) input more = Sleeps uart.alts_of driver.machine driver.waiter input more
-SleepsBy (machine.Eeprom24 follower) input more = NoneCount wire.I2c input more
 SleepsBy (machine.OwLink driver) input more = Sleeps onewire.alts_of driver.machine driver.waiter input more
 SleepsBy (machine.OwNet follower) input more = NoneCount wire.OwLink input more
+SleepsBy (machine.Eeprom24 follower) input more = NoneCount wire.I2c input more
+SleepsBy (machine.Ds1307 follower) input more = NoneCount wire.I2c input more
+SleepsBy (machine.Lm75 follower) input more = NoneCount wire.I2c input more
+SleepsBy (machine.Ds18b20 follower) input more = NoneCount wire.OwNet input more
+SleepsBy (machine.Flash25 follower) input more = NoneCount wire.Spi input more
 
 abbrev pub IsAsleep : AnyDecoder → List Item → List Item → Type 0
 IsAsleep decoder input more = SleepsBy decoder.machine input more

@@ -4,11 +4,13 @@ use Rattle.dec_i2c.specs.declared.held.I2cOpts.{I2cOpts}
 use Rattle.dec_onewire.specs.declared.link.options.OwLinkOpts.{OwLinkOpts}
 use Rattle.dec_spi.specs.declared.options.SpiOpts.{SpiOpts}
 use Rattle.dec_uart.specs.declared.options.UartOpts.{UartOpts}
+use Rattle.dev_ds1307.specs.declared.chip.ClockOpts.{ClockOpts}
 use Rattle.dev_eeprom24.specs.declared.chip.EepromOpts.{EepromOpts}
+use Rattle.dev_lm75.specs.declared.chip.Lm75Opts.{Lm75Opts}
 use Rattle.decoder_set.specs.Kinds.{kind_row}
 use Rattle.decoder_set.specs.Values.{channel_at, maybe_channel_at, number_at}
 use Rattle.decoder_set.specs.declared.kinds.Kind.{Kind}
-use Rattle.decoder_set.specs.declared.kinds.Kind.TheVariants.{Spi, Uart, Eeprom24, OwLink}
+use Rattle.decoder_set.specs.declared.kinds.Kind.TheVariants.{Spi, Uart, OwLink, Eeprom24, Ds1307, Lm75}
 
 -- the bits of the two lines of an I2C bus
 abbrev pub i2c_options : List (Option ℕ) → I2cOpts
@@ -59,3 +61,11 @@ link_options values = record {
   window = option_number OwLink values 2;
   bit = option_number OwLink values 3;
 }
+
+-- whether a clock takes a general call's reset
+abbrev pub clock_options : List (Option ℕ) → ClockOpts
+clock_options values = record { gcall = option_number Ds1307 values 0 }
+
+-- the address of an LM75, and whether it takes a general call's reset
+abbrev pub lm75_options : List (Option ℕ) → Lm75Opts
+lm75_options values = record { addr = option_number Lm75 values 0; gcall = option_number Lm75 values 1 }

@@ -14,25 +14,39 @@ use Rattle.dec_onewire.specs.Link.{link_outs, link_near}
 use Rattle.dec_onewire.specs.Net.{net_outs, net_near}
 use Rattle.dec_onewire.specs.Texts as onewire
 use Rattle.decoder_core.specs.Packets.{counted_packets}
+use Rattle.dev_ds18b20.specs.Probe.{probe_near, probe_outs}
+use Rattle.dev_ds18b20.specs.Texts as probe
+use Rattle.dev_ds1307.specs.Clock.{clock_outs}
+use Rattle.dev_ds1307.specs.Opening as clock
+use Rattle.dev_ds1307.specs.Texts as clock_texts
 use Rattle.dev_eeprom24.specs.Eeprom.{eeprom_outs}
 use Rattle.dev_eeprom24.specs.Opening.{chip_by}
 use Rattle.dev_eeprom24.specs.Texts as eeprom
+use Rattle.dev_flash25.specs.Flash.{flash_near, flash_outs}
+use Rattle.dev_flash25.specs.Texts as flash
+use Rattle.dev_lm75.specs.Thermometer.{lm75_outs}
+use Rattle.dev_lm75.specs.Opening as lm75
+use Rattle.dev_lm75.specs.Texts as lm75_texts
 use Rattle.i2c_phases.specs.Phases.{phase_near}
 use Rattle.la_base.specs.declared.wires.Wire.TheVariants as wire
 use Rattle.decoder_set.specs.declared.kinds.Kind.{Kind}
-use Rattle.decoder_set.specs.declared.kinds.Kind.TheVariants.{I2c, Spi, Uart, Eeprom24, OwLink, OwNet}
+use Rattle.decoder_set.specs.declared.kinds.Kind.TheVariants.{I2c, Spi, Uart, OwLink, OwNet, Eeprom24, Ds1307, Lm75, Ds18b20, Flash25}
 use Rattle.decoder_set.specs.declared.setup.Setup.{Setup}
 use Rattle.decoder_set.specs.Kinds.{Text}
-use Rattle.decoder_set.specs.Options.{eeprom_options, i2c_options, link_options, spi_options, uart_options}
+use Rattle.decoder_set.specs.Options.{clock_options, eeprom_options, i2c_options, link_options, lm75_options, spi_options, uart_options}
 
 -- what a kind gives with these values at a rate on a whole input
 abbrev pub outs_by : Kind → List (Option ℕ) → Rate → List Item → List Out
 outs_by I2c values rate input = i2c_outs (i2c_options values).scl (i2c_options values).sda (counted_samples input)
 outs_by Spi values rate input = spi_outs (spi_options values) (counted_samples input)
 outs_by Uart values rate input = uart_outs (uart_options values) rate (counted_samples input)
-outs_by Eeprom24 values rate input = eeprom_outs (chip_by (eeprom_options values)) (counted_packets wire.I2c input)
 outs_by OwLink values rate input = link_outs (link_options values) rate (counted_samples input)
 outs_by OwNet values rate input = net_outs (counted_packets wire.OwLink input)
+outs_by Eeprom24 values rate input = eeprom_outs (chip_by (eeprom_options values)) (counted_packets wire.I2c input)
+outs_by Ds1307 values rate input = clock_outs (clock.chip_by (clock_options values)) (counted_packets wire.I2c input)
+outs_by Lm75 values rate input = lm75_outs (lm75.chip_by (lm75_options values)) (counted_packets wire.I2c input)
+outs_by Ds18b20 values rate input = probe_outs (counted_packets wire.OwNet input)
+outs_by Flash25 values rate input = flash_outs (counted_packets wire.Spi input)
 
 -- all outputs of a decoder of this setup on a whole input
 abbrev pub outs_of : Setup → List Item → List Out
@@ -43,9 +57,13 @@ abbrev pub near_by : Kind → List (Option ℕ) → Rate → List Item → ℕ
 near_by I2c values rate input = i2c_near (i2c_options values).scl (i2c_options values).sda (counted_samples input)
 near_by Spi values rate input = spi_near (spi_options values) (counted_samples input)
 near_by Uart values rate input = uart_near (uart_options values) rate (counted_samples input)
-near_by Eeprom24 values rate input = phase_near (counted_packets wire.I2c input)
 near_by OwLink values rate input = link_near (link_options values) (counted_samples input)
 near_by OwNet values rate input = net_near (counted_packets wire.OwLink input)
+near_by Eeprom24 values rate input = phase_near (counted_packets wire.I2c input)
+near_by Ds1307 values rate input = phase_near (counted_packets wire.I2c input)
+near_by Lm75 values rate input = phase_near (counted_packets wire.I2c input)
+near_by Ds18b20 values rate input = probe_near (counted_packets wire.OwNet input)
+near_by Flash25 values rate input = flash_near (counted_packets wire.Spi input)
 
 -- where what has begun in this input and isn't given yet starts
 abbrev pub near_of : Setup → List Item → ℕ
@@ -56,6 +74,10 @@ abbrev pub note_text : Kind → Note → Text
 note_text I2c note = i2c.note_text note.class note.a
 note_text Spi note = spi.note_text note.class note.a note.b
 note_text Uart note = uart.note_text note.class note.a
-note_text Eeprom24 note = eeprom.note_text note.class note.a note.b
 note_text OwLink note = onewire.link_text note.class note.a
 note_text OwNet note = onewire.net_text note.class note.a note.b
+note_text Eeprom24 note = eeprom.note_text note.class note.a note.b
+note_text Ds1307 note = clock_texts.note_text note.class note.a note.b
+note_text Lm75 note = lm75_texts.note_text note.class note.a
+note_text Ds18b20 note = probe.note_text note.class note.a note.b
+note_text Flash25 note = flash.note_text note.class note.a note.b

@@ -6,6 +6,29 @@ use Rattle.la_base.specs.declared.wires.Wire.{Wire}
 use Rattle.la_base.specs.declared.wires.Wire.TheVariants.{Logic}
 use Rattle.decoder_core.specs.Inputs.{Item, Sample, Pack}
 use Rattle.decoder_core.specs.Driving.{SameState}
+use Rattle.decoder_core.specs.declared.driver.Driver.{Driver}
+use Rattle.dec_i2c.specs.declared.held.Bus.{Bus}
+use Rattle.dec_i2c.specs.declared.held.I2c.{I2c}
+use Rattle.dec_spi.specs.declared.held.Spi.{Spi}
+use Rattle.dec_spi.specs.declared.options.SpiOpts.{SpiOpts}
+use Rattle.dec_uart.specs.declared.held.Line.{Line}
+use Rattle.dec_uart.specs.declared.held.Uart.{Uart}
+use Rattle.dec_onewire.specs.declared.link.held.Line.{Line as DqLine}
+use Rattle.dec_onewire.specs.declared.link.held.OwLink.{OwLink}
+use Rattle.dec_onewire.specs.declared.net.held.OwNet.{OwNet}
+use Rattle.dec_onewire.specs.declared.net.held.OwNetOpts.{OwNetOpts}
+use Rattle.dev_ds18b20.specs.declared.held.Probe.{Probe}
+use Rattle.dev_ds18b20.specs.declared.held.ProbeOpts.{ProbeOpts}
+use Rattle.dev_ds1307.specs.declared.chip.Chip.{Chip as ClockChip}
+use Rattle.dev_ds1307.specs.declared.held.Clock.{Clock}
+use Rattle.dev_flash25.specs.declared.held.Flash.{Flash}
+use Rattle.dev_flash25.specs.declared.held.FlashOpts.{FlashOpts}
+use Rattle.dev_lm75.specs.declared.chip.Chip.{Chip as Lm75Chip}
+use Rattle.dev_lm75.specs.declared.held.Lm75.{Lm75}
+use Rattle.decoder_core.specs.declared.follower.Follower.{Follower}
+use Rattle.dev_eeprom24.specs.declared.chip.Chip.{Chip}
+use Rattle.dev_eeprom24.specs.declared.held.Eeprom.{Eeprom}
+use Rattle.i2c_phases.specs.declared.phased.Phased.{Phased}
 use Rattle.decoder_set.specs.declared.any.AnyMachine.{AnyMachine}
 use Rattle.decoder_set.specs.declared.any.AnyMachine.TheVariants as machine
 use Rattle.decoder_set.specs.declared.any.AnyDecoder.{AnyDecoder}
@@ -39,44 +62,25 @@ carries wire (Pack packet) = same_wire (wire_of packet.kind) wire
 abbrev pub carried : Wire → List Item → List Item
 carried wire input = filter (carries wire) input
 
--- two machines hold the same
+-- two drivers, and two followers, hold the same
+abbrev pub SameDriver : {L S : Type 0} → Driver L S → Driver L S → Type 0
+SameDriver one other = SameState one.machine other.machine one.waiter other.waiter
+
+abbrev pub SameFollower : {D S : Type 0} → Follower D S → Follower D S → Type 0
+SameFollower one other = (one.machine ≡ other.machine) × (one.from ≡ other.from)
+
+-- a machine is that of a kind, and holds the same
 abbrev pub SameMachine : AnyMachine → AnyMachine → Type 0
-SameMachine (machine.I2c one) (machine.I2c other) = SameState one.machine other.machine one.waiter other.waiter
-SameMachine (machine.I2c one) (machine.Spi other) = ⊥
-SameMachine (machine.I2c one) (machine.Uart other) = ⊥
-SameMachine (machine.I2c one) (machine.Eeprom24 other) = ⊥
-SameMachine (machine.I2c one) (machine.OwLink other) = ⊥
-SameMachine (machine.I2c one) (machine.OwNet other) = ⊥
-SameMachine (machine.Spi one) (machine.I2c other) = ⊥
-SameMachine (machine.Spi one) (machine.Spi other) = SameState one.machine other.machine one.waiter other.waiter
-SameMachine (machine.Spi one) (machine.Uart other) = ⊥
-SameMachine (machine.Spi one) (machine.Eeprom24 other) = ⊥
-SameMachine (machine.Spi one) (machine.OwLink other) = ⊥
-SameMachine (machine.Spi one) (machine.OwNet other) = ⊥
-SameMachine (machine.Uart one) (machine.I2c other) = ⊥
-SameMachine (machine.Uart one) (machine.Spi other) = ⊥
-SameMachine (machine.Uart one) (machine.Uart other) = SameState one.machine other.machine one.waiter other.waiter
-SameMachine (machine.Uart one) (machine.Eeprom24 other) = ⊥
-SameMachine (machine.Uart one) (machine.OwLink other) = ⊥
-SameMachine (machine.Uart one) (machine.OwNet other) = ⊥
-SameMachine (machine.Eeprom24 one) (machine.I2c other) = ⊥
-SameMachine (machine.Eeprom24 one) (machine.Spi other) = ⊥
-SameMachine (machine.Eeprom24 one) (machine.Uart other) = ⊥
-SameMachine (machine.Eeprom24 one) (machine.Eeprom24 other) = (one.machine ≡ other.machine) × (one.from ≡ other.from)
-SameMachine (machine.Eeprom24 one) (machine.OwLink other) = ⊥
-SameMachine (machine.Eeprom24 one) (machine.OwNet other) = ⊥
-SameMachine (machine.OwLink one) (machine.I2c other) = ⊥
-SameMachine (machine.OwLink one) (machine.Spi other) = ⊥
-SameMachine (machine.OwLink one) (machine.Uart other) = ⊥
-SameMachine (machine.OwLink one) (machine.Eeprom24 other) = ⊥
-SameMachine (machine.OwLink one) (machine.OwLink other) = SameState one.machine other.machine one.waiter other.waiter
-SameMachine (machine.OwLink one) (machine.OwNet other) = ⊥
-SameMachine (machine.OwNet one) (machine.I2c other) = ⊥
-SameMachine (machine.OwNet one) (machine.Spi other) = ⊥
-SameMachine (machine.OwNet one) (machine.Uart other) = ⊥
-SameMachine (machine.OwNet one) (machine.Eeprom24 other) = ⊥
-SameMachine (machine.OwNet one) (machine.OwLink other) = ⊥
-SameMachine (machine.OwNet one) (machine.OwNet other) = (one.machine ≡ other.machine) × (one.from ≡ other.from)
+SameMachine (machine.I2c one) held = (other : Driver I2c Bus) × (held ≡ machine.I2c other) × SameDriver one other
+SameMachine (machine.Spi one) held = (other : Driver Spi SpiOpts) × (held ≡ machine.Spi other) × SameDriver one other
+SameMachine (machine.Uart one) held = (other : Driver Uart Line) × (held ≡ machine.Uart other) × SameDriver one other
+SameMachine (machine.OwLink one) held = (other : Driver OwLink DqLine) × (held ≡ machine.OwLink other) × SameDriver one other
+SameMachine (machine.OwNet one) held = (other : Follower OwNet OwNetOpts) × (held ≡ machine.OwNet other) × SameFollower one other
+SameMachine (machine.Eeprom24 one) held = (other : Follower (Phased Eeprom Chip) Chip) × (held ≡ machine.Eeprom24 other) × SameFollower one other
+SameMachine (machine.Ds1307 one) held = (other : Follower (Phased Clock ClockChip) ClockChip) × (held ≡ machine.Ds1307 other) × SameFollower one other
+SameMachine (machine.Lm75 one) held = (other : Follower (Phased Lm75 Lm75Chip) Lm75Chip) × (held ≡ machine.Lm75 other) × SameFollower one other
+SameMachine (machine.Ds18b20 one) held = (other : Follower Probe ProbeOpts) × (held ≡ machine.Ds18b20 other) × SameFollower one other
+SameMachine (machine.Flash25 one) held = (other : Follower Flash FlashOpts) × (held ≡ machine.Flash25 other) × SameFollower one other
 
 -- two decoders hold the same
 pub record SameDecoder (one other : AnyDecoder) : Type 0 where

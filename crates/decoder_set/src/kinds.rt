@@ -7,9 +7,13 @@ pub enum Kind {
     I2c,
     Spi,
     Uart,
-    Eeprom24,
     OwLink,
     OwNet,
+    Eeprom24,
+    Ds1307,
+    Lm75,
+    Ds18b20,
+    Flash25,
 }
 
 /// What an option takes.

@@ -19,8 +19,8 @@ pub use laws::{
 };
 pub use setup::{MOST_OPTIONS, OptValues, Setup};
 pub use table::{
-    KINDS, asked_of, class_of, groups_of, input_of, kind_name, kind_of, options_of, output_of,
-    word_place,
+    KINDS, asked_of, class_of, classes_of, groups_of, input_of, kind_name, kind_of, options_of,
+    output_of, word_place,
 };
 pub use texts::note_text;
 pub use values::number_of;

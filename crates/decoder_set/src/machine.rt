@@ -35,9 +35,13 @@ impl Machine for AnyDecoder {
             AnyMachine::I2c(driver) => driver.step(feed, into),
             AnyMachine::Spi(driver) => driver.step(feed, into),
             AnyMachine::Uart(driver) => driver.step(feed, into),
-            AnyMachine::Eeprom24(follower) => follower.step(feed, into),
             AnyMachine::OwLink(driver) => driver.step(feed, into),
             AnyMachine::OwNet(follower) => follower.step(feed, into),
+            AnyMachine::Eeprom24(follower) => follower.step(feed, into),
+            AnyMachine::Ds1307(follower) => follower.step(feed, into),
+            AnyMachine::Lm75(follower) => follower.step(feed, into),
+            AnyMachine::Ds18b20(follower) => follower.step(feed, into),
+            AnyMachine::Flash25(follower) => follower.step(feed, into),
         }
     }
 
@@ -47,9 +51,13 @@ impl Machine for AnyDecoder {
             AnyMachine::I2c(driver) => driver.pass_runs(runs),
             AnyMachine::Spi(driver) => driver.pass_runs(runs),
             AnyMachine::Uart(driver) => driver.pass_runs(runs),
-            AnyMachine::Eeprom24(follower) => follower.pass_runs(runs),
             AnyMachine::OwLink(driver) => driver.pass_runs(runs),
             AnyMachine::OwNet(follower) => follower.pass_runs(runs),
+            AnyMachine::Eeprom24(follower) => follower.pass_runs(runs),
+            AnyMachine::Ds1307(follower) => follower.pass_runs(runs),
+            AnyMachine::Lm75(follower) => follower.pass_runs(runs),
+            AnyMachine::Ds18b20(follower) => follower.pass_runs(runs),
+            AnyMachine::Flash25(follower) => follower.pass_runs(runs),
         }
     }
 
@@ -59,9 +67,13 @@ impl Machine for AnyDecoder {
             AnyMachine::I2c(driver) => driver.step_run(run, into),
             AnyMachine::Spi(driver) => driver.step_run(run, into),
             AnyMachine::Uart(driver) => driver.step_run(run, into),
-            AnyMachine::Eeprom24(follower) => follower.step_run(run, into),
             AnyMachine::OwLink(driver) => driver.step_run(run, into),
             AnyMachine::OwNet(follower) => follower.step_run(run, into),
+            AnyMachine::Eeprom24(follower) => follower.step_run(run, into),
+            AnyMachine::Ds1307(follower) => follower.step_run(run, into),
+            AnyMachine::Lm75(follower) => follower.step_run(run, into),
+            AnyMachine::Ds18b20(follower) => follower.step_run(run, into),
+            AnyMachine::Flash25(follower) => follower.step_run(run, into),
         }
     }
 
@@ -70,9 +82,13 @@ impl Machine for AnyDecoder {
             AnyMachine::I2c(driver) => driver.floor(),
             AnyMachine::Spi(driver) => driver.floor(),
             AnyMachine::Uart(driver) => driver.floor(),
-            AnyMachine::Eeprom24(follower) => follower.floor(),
             AnyMachine::OwLink(driver) => driver.floor(),
             AnyMachine::OwNet(follower) => follower.floor(),
+            AnyMachine::Eeprom24(follower) => follower.floor(),
+            AnyMachine::Ds1307(follower) => follower.floor(),
+            AnyMachine::Lm75(follower) => follower.floor(),
+            AnyMachine::Ds18b20(follower) => follower.floor(),
+            AnyMachine::Flash25(follower) => follower.floor(),
         }
     }
 

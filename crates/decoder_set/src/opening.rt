@@ -3,12 +3,15 @@ ghost use Rattle.std.specs.Prelude.{◌≡◌, ◌≤◌, ◌^◌, true, false, 
 ghost use Rattle.la_base.specs.declared.samples.TheConstants.{MOST_PINS};
 ghost use Rattle.decoder_core.specs.declared.faults.OptFault.TheVariants.{Rate as TooSlow};
 ghost use Rattle.decoder_set.specs.Faults.{too_slow};
-ghost use Rattle.decoder_set.specs.Opening.{Opens, Consumed, EepromConsumed, I2cConsumed, LinkConsumed, NetConsumed, SpiConsumed, UartConsumed};
-ghost use Rattle.decoder_set.specs.Options.{eeprom_options, i2c_options, link_options, spi_options, uart_options};
+ghost use Rattle.decoder_set.specs.Opening.{Opens, ClockConsumed, Consumed, EepromConsumed, FlashConsumed, I2cConsumed, LinkConsumed, Lm75Consumed, NetConsumed, ProbeConsumed, SpiConsumed, UartConsumed};
+ghost use Rattle.decoder_set.specs.Options.{clock_options, eeprom_options, i2c_options, link_options, lm75_options, spi_options, uart_options};
 ghost use Rattle.decoder_set.specs.Values.{in_range};
 
 use crate::any::AnyMachine;
-use crate::options::{eeprom_options, i2c_options, link_options, spi_options, uart_options};
+use crate::options::{
+    clock_options, eeprom_options, i2c_options, link_options, lm75_options, spi_options,
+    uart_options,
+};
 use crate::values::in_range;
 use crate::{AnyDecoder, Kind, OptValues, Setup};
 use dec_i2c::I2c;
@@ -16,7 +19,11 @@ use dec_onewire::{OwLink, OwNet, OwNetOpts};
 use dec_spi::Spi;
 use dec_uart::Uart;
 use decoder_core::{Driver, Follower, OptFault};
+use dev_ds18b20::{Probe, ProbeOpts};
+use dev_ds1307::Clock;
 use dev_eeprom24::Eeprom;
+use dev_flash25::{Flash, FlashOpts};
+use dev_lm75::Lm75;
 use i2c_phases::Phased;
 use la_base::Rate;
 
@@ -97,6 +104,52 @@ fn open_net(rate: Rate) -> Result<Follower<OwNet>, OptFault>
     }
 }
 
+// A decoder of a clock with values in range.
+fn open_clock(values: &OptValues, rate: Rate) -> Result<Follower<Phased<Clock>>, OptFault>
+    requires { in_range MOST_PINS Kind.Ds1307 values.now.given ≡ true }
+    ensures opens { IfOk result (λ follower. ClockConsumed (clock_options values.now.given) follower []) }
+    ensures always { IsOk result }
+{
+    match Clock::open(clock_options(values), rate) {
+        Ok(machine) => Ok(Follower::new(machine)),
+        Err(fault) => Err(fault),
+    }
+}
+
+// A decoder of an LM75 with values in range.
+fn open_lm75(values: &OptValues, rate: Rate) -> Result<Follower<Phased<Lm75>>, OptFault>
+    requires { in_range MOST_PINS Kind.Lm75 values.now.given ≡ true }
+    ensures opens { IfOk result (λ follower. Lm75Consumed (lm75_options values.now.given) follower []) }
+    ensures always { IsOk result }
+{
+    match Lm75::open(lm75_options(values), rate) {
+        Ok(machine) => Ok(Follower::new(machine)),
+        Err(fault) => Err(fault),
+    }
+}
+
+// A decoder of a DS18B20.
+fn open_probe(rate: Rate) -> Result<Follower<Probe>, OptFault>
+    ensures opens { IfOk result (λ follower. ProbeConsumed follower []) }
+    ensures always { IsOk result }
+{
+    match Probe::open(ProbeOpts {}, rate) {
+        Ok(machine) => Ok(Follower::new(machine)),
+        Err(fault) => Err(fault),
+    }
+}
+
+// A decoder of a serial flash.
+fn open_flash(rate: Rate) -> Result<Follower<Flash>, OptFault>
+    ensures opens { IfOk result (λ follower. FlashConsumed follower []) }
+    ensures always { IsOk result }
+{
+    match Flash::open(FlashOpts {}, rate) {
+        Ok(machine) => Ok(Follower::new(machine)),
+        Err(fault) => Err(fault),
+    }
+}
+
 // A machine of a kind, of values in range.
 fn open_machine(kind: Kind, values: &OptValues, rate: Rate) -> Result<AnyMachine, OptFault>
     requires range { in_range MOST_PINS kind values.now.given ≡ true }
@@ -119,16 +172,32 @@ fn open_machine(kind: Kind, values: &OptValues, rate: Rate) -> Result<AnyMachine
             Ok(driver) => Ok(AnyMachine::Uart(driver)),
             Err(fault) => Err(fault),
         },
-        Kind::Eeprom24 => match open_eeprom(values, rate) {
-            Ok(follower) => Ok(AnyMachine::Eeprom24(follower)),
-            Err(fault) => Err(fault),
-        },
         Kind::OwLink => match open_link(values, rate) {
             Ok(driver) => Ok(AnyMachine::OwLink(driver)),
             Err(fault) => Err(fault),
         },
         Kind::OwNet => match open_net(rate) {
             Ok(follower) => Ok(AnyMachine::OwNet(follower)),
+            Err(fault) => Err(fault),
+        },
+        Kind::Eeprom24 => match open_eeprom(values, rate) {
+            Ok(follower) => Ok(AnyMachine::Eeprom24(follower)),
+            Err(fault) => Err(fault),
+        },
+        Kind::Ds1307 => match open_clock(values, rate) {
+            Ok(follower) => Ok(AnyMachine::Ds1307(follower)),
+            Err(fault) => Err(fault),
+        },
+        Kind::Lm75 => match open_lm75(values, rate) {
+            Ok(follower) => Ok(AnyMachine::Lm75(follower)),
+            Err(fault) => Err(fault),
+        },
+        Kind::Ds18b20 => match open_probe(rate) {
+            Ok(follower) => Ok(AnyMachine::Ds18b20(follower)),
+            Err(fault) => Err(fault),
+        },
+        Kind::Flash25 => match open_flash(rate) {
+            Ok(follower) => Ok(AnyMachine::Flash25(follower)),
             Err(fault) => Err(fault),
         },
     }

@@ -5,8 +5,10 @@ ghost use Rattle.dec_i2c.specs.Opening.{InRange};
 ghost use Rattle.dec_spi.specs.Opening.{InRange as SpiInRange};
 ghost use Rattle.dec_uart.specs.Ranges.{InRange as UartInRange};
 ghost use Rattle.dec_onewire.specs.Opening.{LinkInRange};
+ghost use Rattle.dev_ds1307.specs.Opening.{InRange as ClockInRange};
 ghost use Rattle.dev_eeprom24.specs.Opening.{InRange as EepromInRange};
-ghost use Rattle.decoder_set.specs.Options.{eeprom_options, i2c_options, link_options, spi_options, uart_options};
+ghost use Rattle.dev_lm75.specs.Opening.{InRange as Lm75InRange};
+ghost use Rattle.decoder_set.specs.Options.{clock_options, eeprom_options, i2c_options, link_options, lm75_options, spi_options, uart_options};
 ghost use Rattle.decoder_set.specs.Values.{in_range};
 
 use crate::Kind;
@@ -16,7 +18,9 @@ use dec_i2c::I2cOpts;
 use dec_onewire::OwLinkOpts;
 use dec_spi::SpiOpts;
 use dec_uart::UartOpts;
+use dev_ds1307::ClockOpts;
 use dev_eeprom24::EepromOpts;
+use dev_lm75::Lm75Opts;
 
 /// The lines of an I2C bus.
 pub fn i2c_options(values: &OptValues) -> I2cOpts
@@ -93,5 +97,30 @@ pub fn link_options(values: &OptValues) -> OwLinkOpts
         reset: values.number(rows, 1),
         window: values.number(rows, 2),
         bit: values.number(rows, 3),
+    }
+}
+
+/// Whether a clock takes a general call's reset.
+pub fn clock_options(values: &OptValues) -> ClockOpts
+    requires { in_range MOST_PINS Kind.Ds1307 values.now.given ≡ true }
+    ensures options { result ≡ clock_options values.now.given }
+    ensures within { ClockInRange result }
+{
+    let rows = options_of(Kind::Ds1307);
+    ClockOpts {
+        gcall: values.number(rows, 0),
+    }
+}
+
+/// The address of an LM75, and whether it takes a general call's reset.
+pub fn lm75_options(values: &OptValues) -> Lm75Opts
+    requires { in_range MOST_PINS Kind.Lm75 values.now.given ≡ true }
+    ensures options { result ≡ lm75_options values.now.given }
+    ensures within { Lm75InRange result }
+{
+    let rows = options_of(Kind::Lm75);
+    Lm75Opts {
+        addr: values.number(rows, 0),
+        gcall: values.number(rows, 1),
     }
 }

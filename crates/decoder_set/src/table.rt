@@ -8,13 +8,17 @@ use crate::kinds::{Asked, Kind, KindRow, OptForm, OptRow};
 use la_base::Wire;
 
 /// The kinds, in the order in which they are told.
-pub const KINDS: [Kind; 6] = [
+pub const KINDS: [Kind; 10] = [
     Kind::I2c,
     Kind::Spi,
     Kind::Uart,
-    Kind::Eeprom24,
     Kind::OwLink,
     Kind::OwNet,
+    Kind::Eeprom24,
+    Kind::Ds1307,
+    Kind::Lm75,
+    Kind::Ds18b20,
+    Kind::Flash25,
 ];
 
 // I2C, by UM10204.
@@ -149,46 +153,6 @@ const UART: KindRow = KindRow {
     classes: &["data"],
 };
 
-// EEPROMs of the 24xx family, on I2C.
-const EEPROM24: KindRow = KindRow {
-    name: "eeprom24",
-    input: Wire::I2c,
-    output: Wire::Nothing,
-    options: &[
-        OptRow {
-            name: "addr",
-            form: OptForm::Number {
-                least: 0,
-                most: 7,
-                usual: 0,
-            },
-        },
-        OptRow {
-            name: "size",
-            form: OptForm::Choice {
-                words: &["256", "128", "4096", "8192", "16384", "32768", "65536"],
-            },
-        },
-        OptRow {
-            name: "page",
-            form: OptForm::Choice {
-                words: &["8", "16", "32", "64", "128"],
-            },
-        },
-        OptRow {
-            name: "gcall",
-            form: OptForm::Number {
-                least: 0,
-                most: 1,
-                usual: 0,
-            },
-        },
-    ],
-    groups: &[],
-    parent: &[],
-    classes: &["write", "read"],
-};
-
 // The link of 1-Wire, by Maxim's application note 126.
 const OW_LINK: KindRow = KindRow {
     name: "onewire_link",
@@ -240,6 +204,114 @@ const OW_NET: KindRow = KindRow {
     classes: &["data"],
 };
 
+// EEPROMs of the 24xx family, on I2C.
+const EEPROM24: KindRow = KindRow {
+    name: "eeprom24",
+    input: Wire::I2c,
+    output: Wire::Nothing,
+    options: &[
+        OptRow {
+            name: "addr",
+            form: OptForm::Number {
+                least: 0,
+                most: 7,
+                usual: 0,
+            },
+        },
+        OptRow {
+            name: "size",
+            form: OptForm::Choice {
+                words: &["256", "128", "4096", "8192", "16384", "32768", "65536"],
+            },
+        },
+        OptRow {
+            name: "page",
+            form: OptForm::Choice {
+                words: &["8", "16", "32", "64", "128"],
+            },
+        },
+        OptRow {
+            name: "gcall",
+            form: OptForm::Number {
+                least: 0,
+                most: 1,
+                usual: 0,
+            },
+        },
+    ],
+    groups: &[],
+    parent: &[],
+    classes: &["write", "read"],
+};
+
+// The clock DS1307, on I2C.
+const DS1307: KindRow = KindRow {
+    name: "ds1307",
+    input: Wire::I2c,
+    output: Wire::Nothing,
+    options: &[OptRow {
+        name: "gcall",
+        form: OptForm::Number {
+            least: 0,
+            most: 1,
+            usual: 0,
+        },
+    }],
+    groups: &[],
+    parent: &[],
+    classes: &["write", "read"],
+};
+
+// The thermometer LM75, on I2C.
+const LM75: KindRow = KindRow {
+    name: "lm75",
+    input: Wire::I2c,
+    output: Wire::Nothing,
+    options: &[
+        OptRow {
+            name: "addr",
+            form: OptForm::Number {
+                least: 0,
+                most: 7,
+                usual: 0,
+            },
+        },
+        OptRow {
+            name: "gcall",
+            form: OptForm::Number {
+                least: 0,
+                most: 1,
+                usual: 0,
+            },
+        },
+    ],
+    groups: &[],
+    parent: &[],
+    classes: &[],
+};
+
+// The thermometer DS18B20, on 1-Wire.
+const DS18B20: KindRow = KindRow {
+    name: "ds18b20",
+    input: Wire::OwNet,
+    output: Wire::Nothing,
+    options: &[],
+    groups: &[],
+    parent: &[],
+    classes: &["scratchpad"],
+};
+
+// Serial flash of the 25 series, on SPI, of which it asks words of eight bits.
+const FLASH25: KindRow = KindRow {
+    name: "flash25",
+    input: Wire::Spi,
+    output: Wire::Nothing,
+    options: &[],
+    groups: &[],
+    parent: &[Asked { row: 6, number: 8 }],
+    classes: &["read", "program"],
+};
+
 /// The row of a kind.
 pub fn row(kind: Kind) -> KindRow
     ensures row { row_of result ≡ kind_row kind }
@@ -251,9 +323,13 @@ pub fn row(kind: Kind) -> KindRow
         Kind::I2c => I2C,
         Kind::Spi => SPI,
         Kind::Uart => UART,
-        Kind::Eeprom24 => EEPROM24,
         Kind::OwLink => OW_LINK,
         Kind::OwNet => OW_NET,
+        Kind::Eeprom24 => EEPROM24,
+        Kind::Ds1307 => DS1307,
+        Kind::Lm75 => LM75,
+        Kind::Ds18b20 => DS18B20,
+        Kind::Flash25 => FLASH25,
     }
 }
 
@@ -309,6 +385,14 @@ pub fn asked_of(kind: Kind) -> &'static [Asked]
     ensures { result.now ≡ (kind_row kind).parent }
 {
     row(kind).parent
+}
+
+/// The names of a kind's classes of binary data.
+pub fn classes_of(kind: Kind) -> &'static [&'static str]
+    ensures classes { map (λ name. name.now) result.now ≡ (kind_row kind).classes }
+    ensures few { length result.now ≤ 16 }
+{
+    row(kind).classes
 }
 
 /// The place of the first of these words that is a text.

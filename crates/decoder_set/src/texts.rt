@@ -16,8 +16,12 @@ pub fn note_text(kind: Kind, note: Note, buf: &mut LineBuf)
         Kind::I2c => dec_i2c::text(note, buf),
         Kind::Spi => dec_spi::text(note, buf),
         Kind::Uart => dec_uart::text(note, buf),
-        Kind::Eeprom24 => dev_eeprom24::text(note, buf),
         Kind::OwLink => dec_onewire::link::text(note, buf),
         Kind::OwNet => dec_onewire::net::text(note, buf),
+        Kind::Eeprom24 => dev_eeprom24::text(note, buf),
+        Kind::Ds1307 => dev_ds1307::text(note, buf),
+        Kind::Lm75 => dev_lm75::text(note, buf),
+        Kind::Ds18b20 => dev_ds18b20::text(note, buf),
+        Kind::Flash25 => dev_flash25::text(note, buf),
     }
 }

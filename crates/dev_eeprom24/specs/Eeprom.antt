@@ -1,13 +1,14 @@
 -- A serial EEPROM on a whole list of packets that count.
-use Rattle.std.specs.Prelude.{ℕ, ◌+◌, ◌-◌, ◌*◌, ◌%◌, nat_le, Bool, true, false, if◌then◌else◌, List, [], ◌∷◌, ◌++◌, length, map, take, drop, sum, slice_get, Option, Some, None}
+use Rattle.std.specs.Prelude.{ℕ, ◌+◌, ◌-◌, ◌*◌, ◌%◌, nat_le, Bool, true, false, if◌then◌else◌, List, [], ◌∷◌, ◌++◌, length, take, drop}
 use Rattle.std.specs.List.{fold, flat_map, enumerate_from}
-use Rattle.decoder_core.specs.Outputs.{span_note, span_piece}
+use Rattle.decoder_core.specs.Outputs.{span_note}
 use Rattle.la_base.specs.declared.wires.Packet.{Packet}
 use Rattle.la_base.specs.declared.wires.Out.{Out}
 use Rattle.list_cuts.specs.Along.{along}
-use Rattle.list_cuts.specs.LastWhere.{last_where}
 use Rattle.dev_eeprom24.specs.declared.chip.Chip.{Chip}
 use Rattle.i2c_phases.specs.Phases.{Meaning, Nothing, Writes, Reads, Reset, byte_of, meanings}
+use Rattle.i2c_phases.specs.Bytes.{byte_note, byte_piece}
+use Rattle.i2c_phases.specs.Pointers.{pointer_behind}
 
 -- how many bytes a word address has
 abbrev pub address_len : ℕ → ℕ
@@ -16,13 +17,6 @@ address_len size = if nat_le size 256 then 1 else 2
 -- the number that bytes make up, high first
 abbrev pub number_of : List Packet → ℕ
 number_of bytes = fold (λ n packet. n * 256 + byte_of packet) 0 bytes
-
--- a note and a piece of one byte
-abbrev pub byte_note : ℕ → Packet → ℕ → ℕ → Out
-byte_note class packet a b = span_note class packet.start packet.end a b
-
-abbrev pub byte_piece : ℕ → Packet → Out
-byte_piece class packet = span_piece class packet.start packet.end (byte_of packet)
 
 -- the note of a word address, over its bytes
 abbrev pub word_note : List Packet → ℕ → List Out
@@ -53,12 +47,11 @@ module _ (o : Chip) where
   sets (Reads bytes) = false
   sets Reset = true
 
-  abbrev pub set_to : Option Meaning → ℕ
-  set_to None = 0
-  set_to (Some Nothing) = 0
-  set_to (Some (Writes bytes)) = in_page (word_of bytes) (length (data_of bytes))
-  set_to (Some (Reads bytes)) = 0
-  set_to (Some Reset) = 0
+  abbrev pub set_to : Meaning → ℕ
+  set_to Nothing = 0
+  set_to (Writes bytes) = in_page (word_of bytes) (length (data_of bytes))
+  set_to (Reads bytes) = 0
+  set_to Reset = 0
 
   -- how many bytes a phase reads
   abbrev pub reads_of : Meaning → ℕ
@@ -67,18 +60,9 @@ module _ (o : Chip) where
   reads_of (Reads bytes) = length bytes
   reads_of Reset = 0
 
-  -- the last phase that sets the pointer, and those behind it
-  abbrev pub last_set : List Meaning → Option ℕ → Option Meaning
-  last_set before None = None
-  last_set before (Some place) = slice_get before place
-
-  abbrev pub since : List Meaning → Option ℕ → List Meaning
-  since before None = before
-  since before (Some place) = drop (place + 1) before
-
   -- the pointer behind some phases: what the last phase that sets it made it, and as many bytes on as were read since
   abbrev pub pointer : List Meaning → ℕ
-  pointer before = (set_to (last_set before (last_where sets before)) + sum (map reads_of (since before (last_where sets before)))) % o.size
+  pointer before = pointer_behind sets set_to reads_of before % o.size
 
   -- data byte i of a write phase, and byte i of a read phase
   abbrev pub write_outs : ℕ → ℕ × Packet → List Out

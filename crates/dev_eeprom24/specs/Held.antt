@@ -9,7 +9,9 @@ use Rattle.dev_eeprom24.specs.declared.held.Word.TheVariants.{Empty, Half, Whole
 use Rattle.dev_eeprom24.specs.declared.held.Held.{Held}
 use Rattle.dev_eeprom24.specs.declared.held.Eeprom.{Eeprom}
 use Rattle.i2c_phases.specs.Phases.{Meaning, Nothing, Writes, Reads, Reset, byte_of}
-use Rattle.dev_eeprom24.specs.Eeprom.{byte_note, byte_piece, has_word, word_of, data_of, pointer}
+use Rattle.i2c_phases.specs.Bytes.{byte_note, byte_piece}
+use Rattle.i2c_phases.specs.Pointers.{of_last}
+use Rattle.dev_eeprom24.specs.Eeprom.{has_word, word_of, data_of, pointer}
 
 -- the first byte of a word address
 abbrev pub half_of : List Packet → Word
@@ -27,14 +29,9 @@ module _ (o : Chip) where
   word_in (Reads bytes) = Empty
   word_in Reset = Empty
 
-  abbrev pub last_word : List Meaning → Word
-  last_word [] = Empty
-  last_word (phase ∷ []) = word_in phase
-  last_word (phase ∷ next ∷ phases) = last_word (next ∷ phases)
-
   -- what is kept of phases
   unfoldable pub held_of : List Meaning → Held
-  held_of phases = record { pointer = pointer o phases; word = last_word phases }
+  held_of phases = record { pointer = pointer o phases; word = of_last word_in Empty phases }
 
   -- what is kept behind a whole word address, and behind one more byte that is written
   abbrev pub started : ℕ → Held

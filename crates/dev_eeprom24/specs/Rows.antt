@@ -1,23 +1,16 @@
--- Packets whose outputs are worked by hand: packet j goes from 10 j to 10 j + 5.
-use Rattle.std.specs.Prelude.{ℕ, ◌+◌, ◌*◌, ◌≡◌, Bool, true, false, List, [], ◌∷◌, ◌++◌}
+-- Packets whose outputs are worked by hand.
+use Rattle.std.specs.Prelude.{◌≡◌, Bool, true, false, List, [], ◌∷◌, ◌++◌}
 use Rattle.std.proofs.Math.Nat.{le-add_right}
 use Rattle.la_base.specs.declared.wires.Packet.{Packet}
-use Rattle.la_base.specs.declared.wires.Out.{Out}
-use Rattle.la_base.specs.declared.wires.PacketKind.{PacketKind}
 use Rattle.la_base.specs.declared.wires.PacketKind.TheVariants.{I2cStart, I2cStop, I2cAddress, I2cData, I2cAck}
 use Rattle.dev_eeprom24.specs.declared.chip.Chip.{Chip}
 use Rattle.decoder_core.specs.Outputs.{span_note}
-use Rattle.dev_eeprom24.specs.Eeprom.{byte_note, byte_piece, eeprom_outs}
-
-abbrev pub packet : ℕ → PacketKind → ℕ → ℕ → Packet
-packet j kind a b = record { kind = kind; start = 10 * j; end = 10 * j + 5; a = a; b = b; in_order = le-add_right (10 * j) 5 }
+use Rattle.i2c_phases.specs.Bytes.{byte_note}
+use Rattle.i2c_phases.specs.Examples.{packet, gives}
+use Rattle.dev_eeprom24.specs.Eeprom.{eeprom_outs}
 
 abbrev pub small : Bool → Chip
 small resets = record { addr = 0; size = 256; page = 8; resets = resets; some_size = le-add_right 1 255; some_page = le-add_right 1 7 }
-
--- the note of a byte, of this class and values, and its piece
-abbrev pub gives : ℕ → ℕ → Packet → ℕ → ℕ → List Out
-gives class piece p a b = byte_note class p a b ∷ byte_piece piece p ∷ []
 
 -- word address FF, then three bytes are read: FF, 00, 01
 abbrev pub RandomRead : Type 0

@@ -1,36 +1,15 @@
 // An EEPROM, by what it does with the bytes of its own phases.
 ghost use Rattle.std.specs.Prelude.{◌≡◌, [], ◌∷◌, ◌++◌, ◌+◌, ◌%◌, ◌<◌, List, nat_le};
-ghost use Rattle.i2c_phases.specs.Phases.{byte_of, Nothing, Reads, Reset, Writes};
-ghost use Rattle.dev_eeprom24.specs.Eeprom.{byte_note, byte_piece, step};
+ghost use Rattle.i2c_phases.specs.Phases.{Nothing, Reads, Reset, Writes};
+ghost use Rattle.dev_eeprom24.specs.Eeprom.{step};
 ghost use Rattle.dev_eeprom24.specs.laws.EepromLaws.{eeprom_by_byte, eeprom_no_packets};
 ghost use Rattle.dev_eeprom24.specs.Held.{Knows, get_gives, held_of, put_by, put_gives, started};
 ghost use Rattle.dev_eeprom24.specs.laws.KnowingLaws.{knows_opened, one_eeprom};
 
 use crate::{Chip, Eeprom, Held, Word};
-use decoder_core::{Outs, span_note, span_piece};
-use i2c_phases::I2cDevice;
-use la_base::{Out, Packet};
-
-// The byte of a packet.
-fn byte_of(packet: Packet) -> u8
-    ensures { result ≡ byte_of packet }
-{
-    (packet.a % 256) as u8
-}
-
-// A note of one byte.
-fn byte_note(class: u16, packet: Packet, a: u64, b: u64) -> Out
-    ensures { result ≡ byte_note class packet a b }
-{
-    span_note(class, packet.start, packet.end, a, b)
-}
-
-// A piece of one byte.
-fn byte_piece(class: u16, packet: Packet) -> Out
-    ensures { result ≡ byte_piece class packet }
-{
-    span_piece(class, packet.start, packet.end, byte_of(packet))
-}
+use decoder_core::{Outs, span_note};
+use i2c_phases::{I2cDevice, byte_note, byte_of, byte_piece};
+use la_base::Packet;
 
 // A number modulo another.
 fn modulo(number: u64, size: u32) -> u32

@@ -1,23 +1,10 @@
 // Notes as text.
 ghost use Rattle.std.specs.Prelude.{◌≡◌, ◌+◌, ◌≤◌, ◌++◌, length};
-ghost use Rattle.line_text.specs.Texts.{hex};
 ghost use Rattle.dev_eeprom24.specs.Texts.{note_text};
 
+use i2c_phases::push_labelled;
 use la_base::Note;
 use line_text::LineBuf;
-
-// A label, and a value in upper case hexadecimal with at least so many digits.
-#[tactic(auto, using(line_text::proofs::Widths::hex_room))]
-#[inline(never)]
-fn labelled(label: &[u8], value: u64, digits: u32, buf: &mut LineBuf)
-    requires digits { (1 ≤ digits) × (digits ≤ 16) }
-    requires room { length buf.old + length label.now + 16 ≤ 256 }
-    ensures text { buf.new ≡ buf.old ++ (label.now ++ hex digits value) }
-    ensures short { length buf.new ≤ length buf.old + length label.now + 16 }
-{
-    buf.push_bytes(label);
-    buf.push_hex(value, digits);
-}
 
 /// Appends the text of a note, and nothing for a class that an EEPROM doesn't have: `Word address: ` with
 /// the address; `Write ` and `Read ` with the address of a byte, `: ` and the byte. Addresses are upper case
@@ -28,14 +15,14 @@ pub fn text(note: Note, buf: &mut LineBuf)
     ensures short { length buf.new ≤ length buf.old + 64 }
 {
     match note.class {
-        0 => labelled(b"Word address: ", note.a, 4, buf),
+        0 => push_labelled(b"Word address: ", note.a, 4, buf),
         1 => {
-            labelled(b"Write ", note.b, 4, buf);
-            labelled(b": ", note.a, 2, buf);
+            push_labelled(b"Write ", note.b, 4, buf);
+            push_labelled(b": ", note.a, 2, buf);
         }
         2 => {
-            labelled(b"Read ", note.b, 4, buf);
-            labelled(b": ", note.a, 2, buf);
+            push_labelled(b"Read ", note.b, 4, buf);
+            push_labelled(b": ", note.a, 2, buf);
         }
         _ => {}
     }

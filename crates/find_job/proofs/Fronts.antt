@@ -2,7 +2,7 @@
 use Rattle.std.proofs.Common.{◌≡◌, ℕ, List, [], ◌∷◌, ◌++◌, refl, sym, ◌∙◌, ap, append_assoc}
 use Rattle.std.proofs.lemmas.List.{append-nil}
 use Rattle.wait_cond.specs.Stops.{Stop}
-use Rattle.find_job.specs.Listing.{line_of, lines_of}
+use Rattle.listing_out.specs.StopLines.{line_of, lines_of}
 
 -- one more line
 pub lines_more : (stops : List Stop) (stop : Stop) → lines_of (stops ++ stop ∷ []) ≡ lines_of stops ++ line_of stop

@@ -12,7 +12,7 @@ use Rattle.wait_cond.specs.declared.alt.Alt.{Alt}
 use Rattle.wait_cond.specs.declared.scan.Waiter.{Waiter}
 use Rattle.wait_cond.specs.declared.scan.Scan.TheVariants.{Met, Through}
 use Rattle.wait_cond.proofs.ChainLemmas.{chain_longer, chain_more}
-use Rattle.find_job.specs.Listing.{line_of, lines_of}
+use Rattle.listing_out.specs.StopLines.{line_of, lines_of}
 use Rattle.find_job.specs.Stopping.{AllWritten, CutOff}
 use Rattle.la_io.proofs.Fronts.{front_on}
 use Rattle.find_job.proofs.Fronts.{lines_append, lines_more}

@@ -1,4 +1,3 @@
-pub mod Members
 pub mod Fronts
 pub mod Going
 pub mod Searching

@@ -13,7 +13,7 @@ use Rattle.capture_any.specs.Captures.{ToldAt}
 use Rattle.capture_any.specs.Reading.{Stands}
 use Rattle.capture_any.specs.declared.capture.Capture.{Capture}
 use Rattle.capture_any.proofs.ListingLemmas.{Gave, gave_nothing}
-use Rattle.find_job.specs.Listing.{lines_of}
+use Rattle.listing_out.specs.StopLines.{lines_of}
 use Rattle.find_job.specs.Stopping.{AllWritten, CutOff}
 use Rattle.find_job.specs.Finding.{WholeListing, ListingFront}
 use Rattle.la_io.proofs.Fronts.{front_on, front_whole}

@@ -4,7 +4,7 @@ use Rattle.std.specs.Io.KnownBytes.{Appends}
 use Rattle.la_io.specs.Causes.{AppendsFront}
 use Rattle.wait_cond.specs.Stops.{Stop, Chain, AreStops}
 use Rattle.wait_cond.specs.declared.alt.Alt.{Alt}
-use Rattle.find_job.specs.Listing.{lines_of}
+use Rattle.listing_out.specs.StopLines.{lines_of}
 
 -- the lines of all stops of the samples were appended
 pub record WholeListing (samples : List ℕ) (alts : List Alt) (old new : Option (List ℕ)) : Type 0 where

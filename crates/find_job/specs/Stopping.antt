@@ -9,7 +9,7 @@ use Rattle.wait_cond.specs.declared.alt.Alt.{Alt}
 use Rattle.wait_cond.specs.declared.scan.Waiter.{Waiter}
 use Rattle.capture_any.specs.Taking.{GaveHeld}
 use Rattle.capture_any.specs.declared.capture.Capture.{Capture}
-use Rattle.find_job.specs.Listing.{lines_of}
+use Rattle.listing_out.specs.StopLines.{lines_of}
 
 -- all of the samples were consumed, and the lines of their stops were appended
 pub record AllWritten (waiter : Waiter) (alts : List Alt) (all : List ℕ) (stops : List Stop) (old new : Option (List ℕ)) : Type 0 where

@@ -1,7 +1,6 @@
 //! The job find: a line for each stop of a condition in a capture.
 #![tactic(auto)]
 
-mod listing;
 mod search;
 mod stops;
 

@@ -8,10 +8,10 @@ ghost use Rattle.capture_any.specs.Reading.{Stands, form_of, is_open_of, pins_of
 ghost use Rattle.find_job.specs.Finding.{WholeListing, ListingFront};
 
 use crate::FindEnd;
-use crate::listing::StopLine;
 use crate::stops::{write_held, write_run};
 use capture_any::Capture;
 use la_io::{Buffered, CaptureError, Failed, Sink, Source};
+use listing_out::StopLine;
 use wait_cond::{Cond, Waiter};
 
 /// Waits again and again for the condition, and writes for each stop the line `AT: I,J`: the number

@@ -7,10 +7,10 @@ ghost use Rattle.wait_cond.specs.Waiting.{Waits, alts_of, wait_from, consumed_by
 ghost use Rattle.capture_any.specs.Reading.{form_of, given_by, is_open_of, pins_of};
 ghost use Rattle.find_job.specs.Stopping.{Written, WritesHeld};
 
-use crate::listing::StopLine;
 use capture_any::Capture;
 use la_base::Run;
-use la_io::{Failed, Sink, write_whole};
+use la_io::{Failed, Sink};
+use listing_out::StopLine;
 use wait_cond::{Scan, Waiter};
 
 // Writes the line of each stop in a run that may have one.
@@ -33,8 +33,7 @@ fn write_stops<K: Sink>(
     loop {
         match waiter.scan(left) {
             Scan::Met { at, met, rest, .. } => {
-                line.put(at, met);
-                match write_whole(sink, line.bytes()) {
+                match line.write(sink, at, met) {
                     Ok(()) => {}
                     Err(Failed) => return Err(Failed),
                 }

@@ -1,4 +1,7 @@
 pub mod Phases
 pub mod Tracking
 pub mod Devices
+pub mod Bytes
+pub mod Pointers
+pub mod Examples
 pub mod laws

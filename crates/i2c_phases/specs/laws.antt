@@ -4,3 +4,5 @@ pub mod FloorLaws
 pub mod TrackLaws
 pub mod DeviceLaws
 pub mod OneLaw
+pub mod PointerLaws
+pub mod ByteLaws

@@ -1,10 +1,14 @@
 //! The phases of an I2C bus, as a device sees them.
 #![tactic(auto)]
 
+mod bytes;
 mod device;
 mod phased;
+mod texts;
 mod tracker;
 
+pub use bytes::{byte_note, byte_of, byte_piece};
 pub use device::I2cDevice;
 pub use phased::Phased;
+pub use texts::push_labelled;
 pub use tracker::{Event, Role, Track};

@@ -27,17 +27,19 @@ use Rattle.stack_spec.specs.declared.faults.BindFault.{BindFault}
 use Rattle.stack_spec.specs.declared.stack.Stack.{Stack}
 use Rattle.ldecode.specs.Asking.{AsksStack, SearchRefused, StackRefused, Stacks, nodes_of}
 
--- the names that are shown, as the code hands them on
-seen_show : (seen : Option (Bor ChainWord)) (kept : Option ChainWord) → option_copied seen ≡ kept → option_map (λ (chain : Bor ChainWord). chain_of chain.now) seen ≡ option_map chain_of kept
-seen_show None kept is = ap (option_map chain_of) is
-seen_show (Some chain) kept is = ap (option_map chain_of) is
+-- a value of an option, as the code hands it on
+seen_value : (seen : Option (Bor ChainWord)) (kept : Option ChainWord) → option_copied seen ≡ kept → option_map (λ (chain : Bor ChainWord). chain_of chain.now) seen ≡ option_map chain_of kept
+seen_value None kept is = ap (option_map chain_of) is
+seen_value (Some chain) kept is = ap (option_map chain_of) is
 
 -- a decoding has its stack
-pub the_stack : (settings : Settings) (chains : List ChainWord) (seen : Option (Bor ChainWord)) (stack : Stack) → settings.job ≡ Decode → chains ≡ settings.chains.items → option_copied seen ≡ settings.show
-    → stack_of (map chain_of chains) (option_map (λ (chain : Bor ChainWord). chain_of chain.now) seen) None ≡ Ok (stack_meaning stack) → Stacks (meaning_of settings) (stack_meaning stack)
-the_stack settings chains seen stack job chains_are show_is gives = record {
+pub the_stack : (settings : Settings) (chains : List ChainWord) (seen wanted : Option (Bor ChainWord)) (stack : Stack) → settings.job ≡ Decode → chains ≡ settings.chains.items → option_copied seen ≡ settings.show → option_copied wanted ≡ settings.binary
+    → stack_of (map chain_of chains) (option_map (λ (chain : Bor ChainWord). chain_of chain.now) seen) (option_map (λ (chain : Bor ChainWord). chain_of chain.now) wanted) ≡ Ok (stack_meaning stack) → Stacks (meaning_of settings) (stack_meaning stack)
+the_stack settings chains seen wanted stack job chains_are show_is binary_is gives = record {
   job = job;
-  stack = sym (ap₂ (λ l s. stack_of (map chain_of l) s None) chains_are (seen_show seen settings.show show_is)) ∙ gives;
+  stack = sym (ap₂ (λ l s. stack_of (map chain_of l) s (option_map chain_of settings.binary)) chains_are (seen_value seen settings.show show_is))
+      ∙ ap (λ b. stack_of (map chain_of chains) (option_map (λ (chain : Bor ChainWord). chain_of chain.now) seen) b) (sym (seen_value wanted settings.binary binary_is))
+      ∙ gives;
 }
 
 pub one_stack : (values : Values) (some other : Accepted) → Stacks values some → Stacks values other → some ≡ other

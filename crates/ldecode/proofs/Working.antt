@@ -22,7 +22,7 @@ use Rattle.find_job.specs.Finding.{WholeListing, ListingFront}
 use Rattle.wait_cond.specs.declared.alt.Alt.{Alt}
 use Rattle.words.specs.Rates.{RateNumbers, numbers_of}
 use Rattle.words.specs.Settings.{Values}
-use Rattle.stack_spec.specs.Accepting.{Accepted, is_shown}
+use Rattle.stack_spec.specs.Accepting.{Accepted}
 use Rattle.ldecode.specs.Asking.{AsksFor, AsksStack, HasHead, IsFormOf, IsJudged, NamesNoHead, SearchRefused, StackRefused}
 use Rattle.ldecode.specs.Decoding.{decode_listing}
 use Rattle.std.specs.Io.KnownBytes.{Appends}
@@ -152,16 +152,16 @@ module _ (values : Values) (form : Form) (named : IsFormOf values form) (judged 
 
       -- a decoding came to its end
       pub decoding_ends : (accepted : Accepted) (nodes : List (Node Setup)) (end : ListingEnd) → AsksStack values (names_of capture) (rate_of capture) pins accepted nodes
-          → Lists (capture_form now) (pins_of now) (λ samples. Appends old new (decode_listing accepted.instances (is_shown accepted.shown) nodes samples)) (λ samples. AppendsFront old new (decode_listing accepted.instances (is_shown accepted.shown) nodes samples)) opens.bytes opens.opened.0 left_mid left_new end
+          → Lists (capture_form now) (pins_of now) (λ samples. Appends old new (decode_listing accepted nodes samples)) (λ samples. AppendsFront old new (decode_listing accepted nodes samples)) opens.bytes opens.opened.0 left_mid left_new end
           → WorksOn values left_old left_new old new (status_of end)
       decoding_ends accepted nodes end asks lists =
-          let l = as_opened (λ samples. Appends old new (decode_listing accepted.instances (is_shown accepted.shown) nodes samples)) (λ samples. AppendsFront old new (decode_listing accepted.instances (is_shown accepted.shown) nodes samples)) end lists in
+          let l = as_opened (λ samples. Appends old new (decode_listing accepted nodes samples)) (λ samples. AppendsFront old new (decode_listing accepted nodes samples)) end lists in
           record {
             bytes = opens.bytes ++ l.bytes;
             told = l.told;
             taken = Consumes-trans left_old left_mid left_new opens.bytes l.bytes opens.consumed l.taken;
             at_end = l.at_end;
-            works = worked values (opens.bytes ++ l.bytes) l.told old new end (λ is. read_is_cut form pins (λ samples. Appends old new (decode_listing accepted.instances (is_shown accepted.shown) nodes samples)) (λ samples. AppendsFront old new (decode_listing accepted.instances (is_shown accepted.shown) nodes samples)) (opens.bytes ++ l.bytes) l.told end is l.says) (inr (record { form = form; names = names_of capture; rate = rate_of capture; form_is = named; head = head_on l.bytes l.told l.later; pins = pins; accepted = accepted; nodes = nodes; asks = asks; says = l.says }));
+            works = worked values (opens.bytes ++ l.bytes) l.told old new end (λ is. read_is_cut form pins (λ samples. Appends old new (decode_listing accepted nodes samples)) (λ samples. AppendsFront old new (decode_listing accepted nodes samples)) (opens.bytes ++ l.bytes) l.told end is l.says) (inr (record { form = form; names = names_of capture; rate = rate_of capture; form_is = named; head = head_on l.bytes l.told l.later; pins = pins; accepted = accepted; nodes = nodes; asks = asks; says = l.says }));
           }
 
 -- there was no memory before anything was read

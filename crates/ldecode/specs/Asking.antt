@@ -1,5 +1,5 @@
 -- What good words ask for: the form of the capture, and for each job what is bound to its channels.
-use Rattle.std.specs.Prelude.{ℕ, ◌≡◌, ◌+◌, ◌⊎◌, List, [], ◌∷◌, map, None, Result, Ok, Err}
+use Rattle.std.specs.Prelude.{ℕ, ◌≡◌, ◌+◌, ◌⊎◌, List, [], ◌∷◌, map, Result, Ok, Err}
 use Rattle.la_base.specs.declared.samples.Rate.{Rate}
 use Rattle.la_base.specs.declared.samples.TheConstants.{MOST_PINS}
 use Rattle.la_io.specs.Capture.{Told, Head, Good, Bad, Ending, Faulty}
@@ -66,12 +66,12 @@ pub record Searches (values : Values) (alternatives : List (List Meaning)) : Typ
 -- the values are those of a decoding, and this is its stack
 pub record Stacks (values : Values) (accepted : Accepted) : Type 0 where
   pub job : values.job ≡ Decode
-  pub stack : stack_of values.chains values.show None ≡ Ok accepted
+  pub stack : stack_of values.chains values.show values.binary ≡ Ok accepted
 
 -- the values are those of a decoding, and its stack has this first fault
 pub record HasStackFault (values : Values) (fault : StackFault) : Type 0 where
   pub job : values.job ≡ Decode
-  pub stack : stack_of values.chains values.show None ≡ Err fault
+  pub stack : stack_of values.chains values.show values.binary ≡ Err fault
 
 -- where the channels have these names, an alternative of a search has this first fault
 pub record SearchRefused (values : Values) (names : List (List ℕ)) (fault : BindFault) : Type 0 where

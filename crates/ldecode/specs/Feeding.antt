@@ -1,5 +1,5 @@
 -- What a tree of decoders is fed with, and what is gathered of it.
-use Rattle.std.specs.Prelude.{ℕ, ◌≡◌, ◌≢◌, ◌<◌, ◌≤◌, ◌^◌, Bool, true, false, List, [], ◌∷◌, map, length, Option, Some, None, Result, Ok, Err}
+use Rattle.std.specs.Prelude.{ℕ, ◌≡◌, ◌≢◌, ◌==◌, ◌<◌, ◌≤◌, ◌^◌, ◌&&◌, Bool, true, false, if◌then◌else◌, List, [], ◌∷◌, map, length, Option, Some, None, Result, Ok, Err}
 use Rattle.std.specs.List.{filter}
 use Rattle.la_base.specs.Runs.{samples_of}
 use Rattle.la_base.specs.declared.samples.Run.{Run}
@@ -7,6 +7,7 @@ use Rattle.la_base.specs.declared.wires.Mark.{Mark}
 use Rattle.la_base.specs.declared.wires.Mark.TheVariants.{Note as NoteMark, Piece as PieceMark, Floor as FloorMark, End as EndMark}
 use Rattle.la_base.specs.declared.wires.Note.{Note}
 use Rattle.la_base.specs.declared.wires.Out.{Out}
+use Rattle.la_base.specs.declared.wires.Piece.{Piece}
 use Rattle.la_io.specs.Capture.{Told}
 use Rattle.la_io.specs.declared.fault.CaptureError.{CaptureError}
 use Rattle.la_io.specs.declared.fault.CaptureError.TheVariants.{Fault as FaultError, Read as ReadError, NoMemory as NoMemoryError}
@@ -19,9 +20,10 @@ use Rattle.capture_any.specs.declared.end.ListingEnd.{ListingEnd}
 use Rattle.capture_any.specs.declared.end.ListingEnd.TheVariants.{Done, Read, Write, Fault, NoMemory}
 use Rattle.decoder_core.specs.Inputs.{Item}
 use Rattle.decoder_core.specs.Trees.{Node, given}
-use Rattle.note_order.specs.Order.{entries_from, entry_of, is_of}
+use Rattle.note_order.specs.Order.{entries_from, entry_of, in_order, is_of}
 use Rattle.note_order.specs.declared.entry.Entry.{Entry}
-use Rattle.ldecode.specs.Decoding.{notes_of, shown_from, where_shown}
+use Rattle.stack_spec.specs.Accepting.{Accepted, is_shown}
+use Rattle.ldecode.specs.Decoding.{note_lines, notes_of, shown_from, tree_bytes, where_shown}
 use Rattle.ldecode.specs.declared.capture_feed.CaptureFeed.{CaptureFeed}
 
 -- how a capture ended, where it answers that it has no more runs
@@ -71,3 +73,52 @@ pub record Keeps (shown : ℕ → Bool) (count : ℕ) (entries : List Entry) (ma
 abbrev pub Gathered : {S : Type 0} → (S → List Item → List Out) → List (Node S) → (ℕ → Bool) → List Entry → List ℕ → Type 0
 Gathered outputs nodes shown entries samples =
     (instance : ℕ) → filter (is_of instance) entries ≡ filter (is_of instance) (entries_from 0 (shown_from shown 0 (map notes_of (given outputs samples nodes))))
+
+-- the bytes of one class of binary data among marks
+abbrev pub bytes_in : ℕ → List Mark → List ℕ
+bytes_in class [] = []
+bytes_in class (NoteMark note ∷ marks) = bytes_in class marks
+bytes_in class (PieceMark piece ∷ marks) = if piece.class == class then piece.byte ∷ bytes_in class marks else bytes_in class marks
+bytes_in class (FloorMark start ∷ marks) = bytes_in class marks
+bytes_in class (EndMark ∷ marks) = bytes_in class marks
+
+-- whether a note of an instance is listed, where this binary data is wanted in place of notes, if any
+abbrev pub wants_note : Option (ℕ × ℕ) → (ℕ → Bool) → ℕ → Bool
+wants_note None shown instance = shown instance
+wants_note (Some wanted) shown instance = false
+
+-- whether a piece of this class of an instance is wanted
+abbrev pub wants_piece : Option (ℕ × ℕ) → ℕ → ℕ → Bool
+wants_piece None instance class = false
+wants_piece (Some wanted) instance class = (wanted.0 == instance) && (class == wanted.1)
+
+-- its byte, where it is wanted
+abbrev pub wanted_bytes : Option (ℕ × ℕ) → ℕ → Piece → List ℕ
+wanted_bytes binary instance piece = if wants_piece binary instance piece.class then piece.byte ∷ [] else []
+
+abbrev pub wanted_of : Option (ℕ × ℕ) → ℕ → Mark → List ℕ
+wanted_of binary instance (NoteMark note) = []
+wanted_of binary instance (PieceMark piece) = wanted_bytes binary instance piece
+wanted_of binary instance (FloorMark start) = []
+wanted_of binary instance EndMark = []
+
+-- what was kept of marks: the notes of the instances that are shown; or, where binary data is wanted, its bytes
+abbrev pub Kept : Option (ℕ × ℕ) → (ℕ → Bool) → ℕ → List Entry → List ℕ → (ℕ → List Mark) → Type 0
+Kept None shown count entries bytes marks = Keeps shown count entries marks
+Kept (Some wanted) shown count entries bytes marks = bytes ≡ bytes_in wanted.1 (marks wanted.0)
+
+abbrev pub GatheredBy : {S : Type 0} → (S → List Item → List Out) → List (Node S) → (ℕ → Bool) → Option (ℕ × ℕ) → List Entry → List ℕ → List ℕ → Type 0
+GatheredBy outputs nodes shown None entries bytes samples = Gathered outputs nodes shown entries samples
+GatheredBy outputs nodes shown (Some wanted) entries bytes samples = bytes ≡ tree_bytes outputs wanted nodes samples
+
+-- what was kept is what a stack's tree of decoders gives on samples
+abbrev pub Gathers : {S : Type 0} → (S → List Item → List Out) → List (Node S) → Accepted → List Entry → List ℕ → List ℕ → Type 0
+Gathers outputs nodes accepted entries bytes samples = GatheredBy outputs nodes (is_shown accepted.shown) accepted.binary entries bytes samples
+
+abbrev pub kept_by : Accepted → Option (ℕ × ℕ) → List Entry → List ℕ → List ℕ
+kept_by accepted None entries bytes = note_lines accepted.instances (in_order entries)
+kept_by accepted (Some wanted) entries bytes = bytes
+
+-- what is to be written of what was kept: the lines of the notes in order, or the bytes of the binary data that is wanted
+abbrev pub kept_output : Accepted → List Entry → List ℕ → List ℕ
+kept_output accepted entries bytes = kept_by accepted accepted.binary entries bytes

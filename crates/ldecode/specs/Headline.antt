@@ -15,7 +15,7 @@ use Rattle.wait_cond.specs.declared.alt.Alt.{Alt}
 use Rattle.words.specs.Lexer.{Text}
 use Rattle.words.specs.Settings.{Values, settings_of}
 use Rattle.words.specs.declared.kinds.WordFault.{WordFault}
-use Rattle.stack_spec.specs.Accepting.{Accepted, is_shown}
+use Rattle.stack_spec.specs.Accepting.{Accepted}
 use Rattle.stack_spec.specs.declared.faults.BindFault.{BindFault}
 use Rattle.stack_spec.specs.declared.faults.StackFault.{StackFault}
 use Rattle.decoder_core.specs.Trees.{Node}
@@ -65,8 +65,7 @@ pub record Decoded (values : Values) (bytes : List ℕ) (told : Told) (old new :
   pub accepted : Accepted
   pub nodes : List (Node Setup)
   pub asks : AsksStack values names rate pins accepted nodes
-  pub says : Says form pins (λ samples. Appends old new (decode_listing accepted.instances (is_shown accepted.shown) nodes samples))
-      (λ samples. AppendsFront old new (decode_listing accepted.instances (is_shown accepted.shown) nodes samples)) bytes told end
+  pub says : Says form pins (λ samples. Appends old new (decode_listing accepted nodes samples)) (λ samples. AppendsFront old new (decode_listing accepted nodes samples)) bytes told end
 
 -- the work that the values ask for came to this end
 abbrev pub Worked : Values → List ℕ → Told → Option (List ℕ) → Option (List ℕ) → ListingEnd → Type 0

@@ -6,13 +6,12 @@ mod capture_feed;
 mod decode;
 mod decode_stack;
 mod form;
+mod listing_taker;
 mod note_lines;
-mod note_taker;
 mod notices;
 mod run;
 mod search;
 mod status;
-mod text;
 
 pub use run::run_here;
 pub use status::{Status, exit_code};

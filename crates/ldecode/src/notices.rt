@@ -4,9 +4,9 @@ ghost use Rattle.std.specs.Fmt.{decimal};
 ghost use Rattle.ldecode.specs.Notices.{word_why, stack_why, bind_why, capture_why, capture_at, notice_of};
 
 use crate::status::Status;
-use crate::text::text;
 use la_io::CaptureFault;
 use line_text::LineBuf;
+use listing_out::push_text;
 use stack_spec::StackWhy;
 use wait_cond::BindWhy;
 use words::WordWhy;
@@ -106,13 +106,13 @@ fn at_word(line: &mut LineBuf, what: &str, word: u32, at: u32, why: &str)
     requires why { length why.now ≤ 20 }
     ensures { line.new ≡ what.now ++ decimal word ++ codes " at " ++ decimal at ++ codes ": " ++ why.now ++ codes "\n" }
 {
-    text(line, what);
+    push_text(line, what);
     line.push_number(u64::from(word));
-    text(line, " at ");
+    push_text(line, " at ");
     line.push_number(u64::from(at));
-    text(line, ": ");
-    text(line, why);
-    text(line, "\n");
+    push_text(line, ": ");
+    push_text(line, why);
+    push_text(line, "\n");
 }
 
 /// The line that tells of a status.
@@ -141,24 +141,24 @@ pub fn notice(status: &Status) -> LineBuf
             );
         }
         Status::Bind(fault) => {
-            text(&mut line, "ldecode: entry ");
+            push_text(&mut line, "ldecode: entry ");
             line.push_number(u64::from(fault.entry));
-            text(&mut line, " item ");
+            push_text(&mut line, " item ");
             line.push_number(u64::from(fault.item));
-            text(&mut line, ": ");
-            text(&mut line, bind_why(fault.why));
-            text(&mut line, "\n");
+            push_text(&mut line, ": ");
+            push_text(&mut line, bind_why(fault.why));
+            push_text(&mut line, "\n");
         }
-        Status::ReadFault => text(&mut line, "ldecode: read fault\n"),
+        Status::ReadFault => push_text(&mut line, "ldecode: read fault\n"),
         Status::Capture(fault) => {
-            text(&mut line, "ldecode: capture at ");
+            push_text(&mut line, "ldecode: capture at ");
             line.push_number(capture_at(fault));
-            text(&mut line, ": ");
-            text(&mut line, capture_why(fault));
-            text(&mut line, "\n");
+            push_text(&mut line, ": ");
+            push_text(&mut line, capture_why(fault));
+            push_text(&mut line, "\n");
         }
-        Status::WriteFault => text(&mut line, "ldecode: write fault\n"),
-        Status::NoMemory => text(&mut line, "ldecode: out of memory\n"),
+        Status::WriteFault => push_text(&mut line, "ldecode: write fault\n"),
+        Status::NoMemory => push_text(&mut line, "ldecode: out of memory\n"),
     }
     line
 }

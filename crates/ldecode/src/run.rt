@@ -48,8 +48,8 @@ fn tell<E: Sink>(status: &Status, notices: &mut E)
 /// Reads the capture from the source and writes to the sink what the words ask for, on this one
 /// thread, and then the line that tells of the status to the notices.
 ///
-/// What is written is the listing of the words' stack, or of their condition, on the settled samples of
-/// the bytes that were taken; the status is what words and capture give. `ReadFault` comes only where
+/// What is written is the listing of the words' stack, or the binary data that they want of it, or the
+/// listing of their condition, on the settled samples of the bytes that were taken; the status is what words and capture give. `ReadFault` comes only where
 /// the source failed, `WriteFault` exactly where the sink failed: a front of the listing is then
 /// written. `NoMemory`, for want of memory, may come in place of any status but `WriteFault`; a front
 /// of the listing, or nothing, is written then.

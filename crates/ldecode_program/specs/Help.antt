@@ -18,7 +18,7 @@ option_lines name sets values usual = in_a_row (codes "  --" ∷ name ∷ codes 
 abbrev pub TellsOption : Name → List ℕ → Type 0
 TellsOption name text = (sets values : List ℕ) × (text ≡ option_lines (row name).name sets values (unwrap_or (row name).usual (codes "none")))
 
--- a text that tells a decoder: its name, and then its options
+-- a text that tells a decoder: its name, and then its options and its classes of binary data
 abbrev pub TellsKind : Kind → List ℕ → Type 0
 TellsKind kind text = (options : List ℕ) × (text ≡ codes "  " ++ (kind_row kind).name ++ codes "\n" ++ options)
 

@@ -7,7 +7,7 @@ ghost use Rattle.words.specs.declared.options.TheConstants.{OPTIONS};
 ghost use Rattle.ldecode_program.specs.Help.{IsHelp, TellsKind, TellsOption, option_lines};
 ghost use Rattle.ldecode_program.specs.declared.help.TheConstants.{USAGE, DECODERS, EXAMPLES};
 
-use decoder_set::{KINDS, Kind, OptForm, kind_name, options_of};
+use decoder_set::{KINDS, Kind, OptForm, classes_of, kind_name, options_of};
 use std::alloc::{AllocError, Global};
 use words::{Name, OPTIONS};
 
@@ -39,7 +39,7 @@ Options, as --NAME VALUE or --NAME=VALUE, before, between or behind the other wo
 const DECODERS: &str = "\
 A run takes one thread so far: threads and ring change nothing of it.
 
-Decoders, and the options of each:
+Decoders, and the options and the binary data of each:
 ";
 
 // A whole example of each job.
@@ -47,6 +47,8 @@ const EXAMPLES: &str = "
 An I2C bus on the first two of eight channels, a byte a sample, and with an EEPROM:
     ldecode i2c:scl=D0:sda=D1 < capture.raw
     ldecode i2c:scl=D0:sda=D1,eeprom24 < capture.raw
+What a serial line says, as it was said:
+    ldecode --binary uart-1:data uart:rx=D0 < capture.raw
 Where D0 rises while D3 is low:
     ldecode --job find D0=r,D3=l < capture.raw
 ";
@@ -107,7 +109,7 @@ fn kind_line(alloc: Global, kind: Kind) -> Result<String, AllocError>
     format!(in alloc; "  {}\n", kind_name(kind))
 }
 
-// One decoder with its options.
+// One decoder with its options and its classes of binary data.
 fn kind_text(alloc: Global, kind: Kind) -> Result<String, AllocError>
     ensures { IfOk result (λ text. TellsKind kind (string_bytes text)) }
 {
@@ -116,6 +118,22 @@ fn kind_text(alloc: Global, kind: Kind) -> Result<String, AllocError>
         let takes = takes_text(alloc, row.form)?;
         text.push_str(format!(in alloc; "      {}: {takes}\n", row.name)?.as_str())?;
     }
+    text.push_str(classes_text(alloc, kind)?.as_str())?;
+    Ok(text)
+}
+
+// The classes of binary data of a decoder, and nothing where it has none.
+fn classes_text(alloc: Global, kind: Kind) -> Result<String, AllocError> {
+    let classes = classes_of(kind);
+    if classes.is_empty() {
+        return Ok(String::new(alloc));
+    }
+    let mut text = String::from_str(alloc, "      binary data:")?;
+    for (place, class) in classes.iter().enumerate() {
+        text.push_str(if place == 0 { " " } else { ", " })?;
+        text.push_str(class)?;
+    }
+    text.push_str("\n")?;
     Ok(text)
 }
 

@@ -4,6 +4,9 @@ use Rattle.la_base.specs.declared.wires.PacketKind.{PacketKind}
 use Rattle.i2c_phases.specs.Phases as phases
 use Rattle.dev_eeprom24.specs.declared.chip.Chip.{Chip}
 use Rattle.dev_eeprom24.specs.Eeprom.{reads_of, set_to, sets}
+use Rattle.dev_ds1307.specs.Clock as clock
+use Rattle.dev_lm75.specs.Thermometer as thermometer
+use Rattle.i2c_phases.specs.Pointers.{points}
 use Rattle.plain_devices.specs.declared.phases.Found.{Found}
 use Rattle.plain_devices.specs.declared.phases.Meaning.{Meaning}
 use Rattle.plain_devices.specs.declared.phases.Meaning.TheVariants as meaning
@@ -32,4 +35,10 @@ wants Ack kind = phases.is_ack kind
 
 -- where the pointer stands behind a phase
 abbrev pub moved : Chip → ℕ → phases.Meaning → ℕ
-moved chip at phase = if sets chip phase then set_to chip (Some phase) % chip.size else (at + reads_of chip phase) % chip.size
+moved chip at phase = if sets chip phase then set_to chip phase % chip.size else (at + reads_of chip phase) % chip.size
+
+abbrev pub clock_moved : ℕ → phases.Meaning → ℕ
+clock_moved at phase = if points phase then clock.set_to phase % 64 else (at + clock.moves phase) % 64
+
+abbrev pub lm75_moved : ℕ → phases.Meaning → ℕ
+lm75_moved at phase = if points phase then thermometer.set_to phase else at

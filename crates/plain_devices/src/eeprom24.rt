@@ -1,14 +1,15 @@
 // A 24xx EEPROM: each phase is told by what it means, and by all those before it.
 ghost use Rattle.std.specs.Prelude.{◌≡◌, ◌≤◌, ◌<◌, ◌++◌, ◌∷◌, [], map, take, drop, length, OnOk, IfOk};
 ghost use Rattle.std.specs.List.{flat_map, enumerate_from};
-ghost use Rattle.dev_eeprom24.specs.Eeprom.{address_len, byte_note, byte_piece, data_of, eeprom_outs, has_word, in_page, phase_outs, pointer, read_outs, step, word_note, word_of, write_outs};
+ghost use Rattle.dev_eeprom24.specs.Eeprom.{address_len, data_of, eeprom_outs, has_word, in_page, phase_outs, pointer, read_outs, step, word_note, word_of, write_outs};
 ghost use Rattle.i2c_phases.specs.Phases as phases;
 ghost use Rattle.list_cuts.specs.Along.{along};
 ghost use Rattle.plain_devices.specs.Meant.{meant, moved};
 
-use crate::phases::{Meaning, byte_of, meanings_of};
-use decoder_core::{span_note, span_piece};
+use crate::phases::{Meaning, meanings_of};
+use decoder_core::span_note;
 use dev_eeprom24::Chip;
+use i2c_phases::{byte_note, byte_of, byte_piece};
 use la_base::{Out, Packet};
 use std::alloc::{AllocError, Global};
 
@@ -70,18 +71,6 @@ fn pointer(chip: Chip, before: &[Meaning]) -> u32
         at = moved(chip, at, meaning);
     }
     at
-}
-
-fn byte_note(class: u16, packet: Packet, a: u64, b: u64) -> Out
-    ensures { result ≡ byte_note class packet a b }
-{
-    span_note(class, packet.start, packet.end, a, b)
-}
-
-fn byte_piece(class: u16, packet: Packet) -> Out
-    ensures { result ≡ byte_piece class packet }
-{
-    span_piece(class, packet.start, packet.end, byte_of(packet))
 }
 
 // The note of a word address.

@@ -1,9 +1,10 @@
 // The phases of I2C: the whole list of packets, cut into parts, and what each means to a device.
 ghost use Rattle.std.specs.Prelude.{◌≡◌, ◌&&◌, ◌==◌, ◌++◌, ◌∷◌, [], length, map, IfOk, OnOk};
 ghost use Rattle.std.specs.List.{flat_map};
-ghost use Rattle.i2c_phases.specs.Phases.{acknowledged, byte_of, data_in, first_of, is_ack, is_address, is_data, is_mark, is_six, is_start, is_stop, meaning, meanings, phase_in};
+ghost use Rattle.i2c_phases.specs.Phases.{acknowledged, data_in, first_of, is_ack, is_address, is_data, is_mark, is_six, is_start, is_stop, meaning, meanings, phase_in};
 ghost use Rattle.plain_devices.specs.Meant.{found, meant, wants};
 
+use i2c_phases::byte_of;
 use la_base::{Packet, PacketKind};
 use list_cuts::{Test, parts_of};
 use std::alloc::{AllocError, Global};
@@ -33,13 +34,6 @@ fn is_data(kind: PacketKind) -> bool
     ensures { result ≡ is_data kind }
 {
     matches!(kind, PacketKind::I2cData)
-}
-
-/// The byte of a data packet.
-pub fn byte_of(packet: Packet) -> u8
-    ensures { result ≡ byte_of packet }
-{
-    (packet.a % 256) as u8
 }
 
 // Starts and stops cut packets into parts.

@@ -37,6 +37,9 @@ pub const FAULTS: &str = "\
 [--show=all x --show all] 2 0 Repeat
 [--job=] 0 0 Empty
 [--show=] 0 0 Empty
+[--binary=] 0 0 Empty
+[--binary] 0 0 NoValue
+[--binary a --binary=b] 2 0 Repeat
 [--job ] 1 0 Empty
 [--show  i2c] 1 0 Empty
 [--job Find] 1 0 Value
@@ -159,7 +162,7 @@ pub const VALUES: &str = "\
 [--down 7 i2c] decode 8 1000000/1 yes 256
 [--ring=4 --threads no D0=h --rate=2/3 --channels 16 --format=raw --show all --job=find] find 16 2/3 no 4";
 
-// The decoders that are shown, and the other words, each with its number. Decode takes 24 chains,
+// The decoders that are shown, the binary data that is wanted, and the other words, each with its number. Decode takes 24 chains,
 // whatever they are, and find 8 alternatives.
 pub const TEXTS: &str = "\
 [help] 0:help
@@ -174,6 +177,10 @@ pub const TEXTS: &str = "\
 [--show=-all a] 0:-all of 1:a
 [--show=a=b a] 0:a=b of 1:a
 [--show==x a] 0:=x of 1:a
+[--binary i2c-1:read i2c] bytes 1:i2c-1:read of 2:i2c
+[a --binary=all] bytes 1:all of 0:a
+[--show=b --binary c a] 0:b of bytes 2:c of 3:a
+[--binary=-x D0=h --job=find] bytes 0:-x of 1:D0=h
 [D0=q a a a a a a a a a a a a a a a a a a a a a a a] 0:D0=q 1:a 2:a 3:a 4:a 5:a 6:a 7:a 8:a 9:a 10:a 11:a 12:a 13:a 14:a 15:a 16:a 17:a 18:a 19:a 20:a 21:a 22:a 23:a
 [a=h a=l a=r a=f a=e a=s a=h a=h --job=find] 0:a=h 1:a=l 2:a=r 3:a=f 4:a=e 5:a=s 6:a=h 7:a=h";
 
@@ -220,6 +227,9 @@ pub fn holds(alloc: Global, row: &str) -> Result<bool, Fail> {
     if let Some(show) = &settings.show {
         write!(texts, "{}:{} of ", show.word, show.text)?;
     }
+    if let Some(binary) = &settings.binary {
+        write!(texts, "bytes {}:{} of ", binary.word, binary.text)?;
+    }
     for chain in &settings.chains {
         write!(texts, "{}:{} ", chain.word, chain.text)?;
     }
@@ -236,4 +246,5 @@ down (1 to 1000000000) 1
 threads (yes, no) yes
 ring (1 to 16384) 256
 show (text) all
+binary (text) none
 ";

@@ -1,5 +1,7 @@
 // What is wanted is worked by hand, in tables that are texts. On all of these lists, on all short ones and on some long
 // ones a decoder is compared with its plain program.
+mod bus_traffic;
+mod clocks;
 mod eeprom24;
 mod feeding;
 mod i2c;
@@ -58,7 +60,11 @@ onewire_net 1 68 0|ROM command: Unknown 44
 onewire_net 2 11673330234173168642 0|ROM: 021CB801000000A2 CRC ok
 onewire_net 2 2 1|ROM: 0200000000000000 CRC bad
 onewire_net 3 10 0|Byte: 0A
-onewire_net 4 10 0|";
+onewire_net 4 10 0|
+ds1307 1 86 0|Write seconds: 56
+lm75 3 511 0|Read temperature: -0.5
+ds18b20 3 12 0|Resolution: 12
+flash25 5 170 256|Read 000100: AA";
 
 #[test]
 fn settings_and_texts(rt: HostRuntime) {
@@ -85,6 +91,10 @@ fn settings_and_texts(rt: HostRuntime) {
                 Kind::Eeprom24 => dev_eeprom24::text(note, &mut buf),
                 Kind::OwLink => dec_onewire::link::text(note, &mut buf),
                 Kind::OwNet => dec_onewire::net::text(note, &mut buf),
+                Kind::Ds1307 => dev_ds1307::text(note, &mut buf),
+                Kind::Lm75 => dev_lm75::text(note, &mut buf),
+                Kind::Ds18b20 => dev_ds18b20::text(note, &mut buf),
+                Kind::Flash25 => dev_flash25::text(note, &mut buf),
             }
             assert!(rt; buf.bytes() == want.as_bytes(), "{row}");
             let mut buf = LineBuf::new();

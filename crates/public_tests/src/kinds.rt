@@ -16,7 +16,7 @@ const RATE: Rate = Rate {
 };
 
 // Each kind, what it reads and gives, and its options, each with its usual number.
-const KINDS: [(&str, Kind, Wire, Wire, &[(&str, u64)]); 6] = [
+const KINDS: [(&str, Kind, Wire, Wire, &[(&str, u64)]); 10] = [
     (
         "i2c",
         Kind::I2c,
@@ -74,6 +74,22 @@ const KINDS: [(&str, Kind, Wire, Wire, &[(&str, u64)]); 6] = [
         ],
     ),
     ("onewire_net", Kind::OwNet, Wire::OwLink, Wire::OwNet, &[]),
+    (
+        "ds1307",
+        Kind::Ds1307,
+        Wire::I2c,
+        Wire::Nothing,
+        &[("gcall", 0)],
+    ),
+    (
+        "lm75",
+        Kind::Lm75,
+        Wire::I2c,
+        Wire::Nothing,
+        &[("addr", 0), ("gcall", 0)],
+    ),
+    ("ds18b20", Kind::Ds18b20, Wire::OwNet, Wire::Nothing, &[]),
+    ("flash25", Kind::Flash25, Wire::Spi, Wire::Nothing, &[]),
 ];
 
 #[test]
@@ -83,7 +99,7 @@ fn kinds_have_their_names_wires_and_options(rt: HostRuntime) {
         assert!(rt; kind_name(kind) == name);
         assert!(rt; input_of(kind) == input);
         assert!(rt; output_of(kind) == output);
-        assert!(rt; asked_of(kind).len() == 0);
+        assert!(rt; (asked_of(kind).len() == 0) == (name != "flash25"));
         assert!(rt; options_of(kind).len() == options.len());
         for (row, (option, usual)) in options_of(kind).iter().zip(options) {
             assert!(rt; row.name == *option && number_of(row.form, None) == *usual);
@@ -105,6 +121,12 @@ fn kinds_have_their_names_wires_and_options(rt: HostRuntime) {
         (Kind::Eeprom24, "read", Some(1)),
         (Kind::OwLink, "data", None),
         (Kind::OwNet, "data", Some(0)),
+        (Kind::Ds1307, "write", Some(0)),
+        (Kind::Ds1307, "read", Some(1)),
+        (Kind::Lm75, "read", None),
+        (Kind::Ds18b20, "scratchpad", Some(0)),
+        (Kind::Flash25, "read", Some(0)),
+        (Kind::Flash25, "program", Some(1)),
     ] {
         assert!(rt; class_of(kind, class.as_bytes()) == want);
     }
@@ -167,7 +189,14 @@ onewire_link 0 480000 0 > range
 onewire_link 0 480000 100000 1000000001 > range
 onewire_link 0 480000 100000 1000 > rate
 onewire_link 0 2000 100000 2000 > rate
-onewire_net > ok";
+onewire_net > ok
+ds1307 1 > ok
+ds1307 2 > range
+lm75 7 1 > ok
+lm75 8 > range
+lm75 0 2 > range
+ds18b20 > ok
+flash25 > ok";
 
 #[test]
 fn values_are_judged_by_their_rows(rt: HostRuntime) {

@@ -33,7 +33,12 @@ const HELP: &str = "  --job
   --show
   i2c
       scl: a channel, required
-      sda: a channel, required";
+      sda: a channel, required
+      binary data: write, read
+  --binary
+      values: text; usual: none
+  flash25
+      binary data: read, program";
 
 // How a line of the help begins that is an example.
 const EXAMPLE: &str = "    ldecode ";

@@ -62,6 +62,14 @@ pub const FAULTS: &str = "\
 [uart:rx=D0,eeprom24] 0 11 Mismatch
 [eeprom24] 0 0 NoParent
 [onewire_net] 0 0 NoParent
+[flash25] 0 0 NoParent
+[spi:sck=D0:miso=D1:bits=16,flash25] 0 27 Mismatch
+[spi:sck=D0:miso=D1:bits=7,flash25] 0 26 Mismatch
+[uart:rx=D0,lm75] 0 11 Mismatch
+[onewire_link:dq=D0,ds18b20] 0 19 Mismatch
+[i2c:scl=D0:sda=D1,ds1307:gcall=2] 0 25 Range
+[i2c:scl=D0:sda=D1,lm75:addr=8] 0 23 Range
+[i2c:scl=D0:sda=D1,ds1307:addr=1] 0 25 Unknown
 [onewire_link:dq=D0,eeprom24] 0 19 Mismatch
 [i2c:scl=D0:sda=D1,onewire_net] 0 18 Mismatch
 [i2c:scl=D0:sda=D1 eeprom24:addr=1] 1 0 NoParent
@@ -159,6 +167,9 @@ pub const STACKS: &str = "\
 [i2c:scl=D0:sda=D1,eeprom24 i2c-1,eeprom24:addr=07:size=4096:page=32:gcall=1||eeprom24-2:read] i2c-1 eeprom24-1 eeprom24-2 class 1 of 2
 [i2c:scl=D0:sda=D1,eeprom24|eeprom24-1] (i2c-1) eeprom24-1
 [onewire_link:dq=D0:reset=1,onewire_net||onewire_net-1:data] onewire_link-1 onewire_net-1 class 0 of 1
+[onewire_link:dq=D0,onewire_net,ds18b20||ds18b20-1:scratchpad] onewire_link-1 onewire_net-1 ds18b20-1 class 0 of 2
+[spi:sck=D0:miso=D1:bits=8,flash25 spi-1,flash25||flash25-2:program] spi-1 flash25-1 flash25-2 class 1 of 2
+[i2c:scl=D0:sda=D1,ds1307 i2c-1,lm75:addr=07] i2c-1 ds1307-1 lm75-1
 24[i2c-24] i2c-1 i2c-2 i2c-3 i2c-4 i2c-5 i2c-6 i2c-7 i2c-8 i2c-9 i2c-10 i2c-11 i2c-12 i2c-13 i2c-14 i2c-15 i2c-16 i2c-17 i2c-18 i2c-19 i2c-20 i2c-21 i2c-22 i2c-23 i2c-24
 23[i2c:scl=D0:sda=D1] i2c-1 i2c-2 i2c-3 i2c-4 i2c-5 i2c-6 i2c-7 i2c-8 i2c-9 i2c-10 i2c-11 i2c-12 i2c-13 i2c-14 i2c-15 i2c-16 i2c-17 i2c-18 i2c-19 i2c-20 i2c-21 i2c-22 i2c-23 i2c-24
 23[i2c:scl=D0:sda=D1||i2c-24:read] i2c-1 i2c-2 i2c-3 i2c-4 i2c-5 i2c-6 i2c-7 i2c-8 i2c-9 i2c-10 i2c-11 i2c-12 i2c-13 i2c-14 i2c-15 i2c-16 i2c-17 i2c-18 i2c-19 i2c-20 i2c-21 i2c-22 i2c-23 i2c-24 class 1 of 23";

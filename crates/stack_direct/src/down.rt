@@ -134,7 +134,7 @@ pub fn give<M: Machine, G: MarkTake>(
     ensures cause { HasCause (G.stops take.old) (G.stops take.new) result }
 {
     for out in outs {
-        match give_one(machines, parents, instance, *out, take) {
+        match give_one(machines, parents, instance, out, take) {
             Ok(()) => {}
             Err(Stopped) => return Err(Stopped),
         }
@@ -149,7 +149,7 @@ pub fn give_one<M: Machine, G: MarkTake>(
     machines: &mut [M],
     parents: &[Option<u32>],
     instance: u32,
-    out: Out,
+    out: &Out,
     take: &mut G,
 ) -> Result<(), Stopped>
     requires forest { IsForest parents.now }
@@ -158,14 +158,14 @@ pub fn give_one<M: Machine, G: MarkTake>(
     requires each { length machines.old ≡ length parents.now }
     requires takes { G.instances take.old ≡ length parents.now }
     ensures setups { map M.setup machines.new ≡ map M.setup machines.old }
-    ensures gives { Gives (is_ok result) (whole_of M.outputs (map M.setup machines.old)) (Stand M.consumed machines.old) (Stand M.consumed machines.new) parents.now (G.took take.old) (G.took take.new) instance (out ∷ []) }
+    ensures gives { Gives (is_ok result) (whole_of M.outputs (map M.setup machines.old)) (Stand M.consumed machines.old) (Stand M.consumed machines.new) parents.now (G.took take.old) (G.took take.new) instance (out.now ∷ []) }
     ensures instances { G.instances take.new ≡ G.instances take.old }
     ensures origin { G.origin take.new ≡ G.origin take.old }
     ensures cause { HasCause (G.stops take.old) (G.stops take.new) result }
 {
     match out {
-        Out::Note(note) => mark(take, instance, Mark::Note(note)),
-        Out::Piece(piece) => mark(take, instance, Mark::Piece(piece)),
-        Out::Packet(packet) => hand(machines, parents, Some(instance), packet, take),
+        Out::Note(note) => mark(take, instance, Mark::Note(*note)),
+        Out::Piece(piece) => mark(take, instance, Mark::Piece(*piece)),
+        Out::Packet(packet) => hand(machines, parents, Some(instance), *packet, take),
     }
 }

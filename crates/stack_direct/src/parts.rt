@@ -64,7 +64,8 @@ pub fn floor_at<M: Machine>(machines: &[M], instance: u32) -> u64
     machines[instance as usize].floor()
 }
 
-/// One mark of an instance.
+/// One mark of an instance. It is inlined, so that what takes it knows which kind of mark it is.
+#[inline(always)]
 pub fn mark<G: MarkTake>(take: &mut G, instance: u32, mark: Mark) -> Result<(), Stopped>
     requires { instance < G.instances take.old }
     ensures took { Took (G.took take.old) (G.took take.new) (only instance (mark ∷ [])) }

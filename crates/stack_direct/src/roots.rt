@@ -117,7 +117,8 @@ fn pass_run<M: Machine, G: MarkTake>(
 }
 
 // Hands runs to one machine, and what it puts out to those that stand on it. Those without a stop are passed
-// over together.
+// over together. It isn't inlined, so that its loop has the registers that it needs.
+#[inline(never)]
 fn pass_all<M: Machine, G: MarkTake>(
     machines: &mut [M],
     parents: &[Option<u32>],

@@ -10,10 +10,9 @@ use Rattle.std.specs.Str.{bytes_eq}
 use Rattle.words.specs.Given.{used_of}
 use Rattle.words.specs.Lexer.{Text}
 use Rattle.words.specs.Uses.{Used, chains_of, is_of}
-use Rattle.text_parts.specs.Chains.{WordText, chain_of}
+use Rattle.text_parts.specs.Chains.{chain_of}
 use Rattle.words.specs.Settings.{unless_all, use_of, word_text}
 use Rattle.words.specs.declared.options.Name.{Name}
-use Rattle.words.specs.declared.options.Name.TheVariants as name
 use Rattle.words.specs.declared.uses.Given.{Given}
 
 pub find_used : (name : Name) (gs : List Given) → find (λ u. is_of name u.name) (map used_of gs) ≡ option_map used_of (find (λ g. is_of name g.name) gs)
@@ -35,23 +34,21 @@ numbers_used (g ∷ gs) = by (not (is_some g.name)) (numbers_used gs)
     by true more = ap (λ rest. g.word ∷ rest) more
     by false more = more
 
--- what is shown, by the use that the code finds
-abbrev pub shown : List Given → Option WordText
-shown gs = option_and_then unless_all (use_of name.Show (map used_of gs))
+-- the use that the code finds, by the option
+pub found_none : (name : Name) (gs : List Given) → None ≡ find (λ g. is_of name g.name) gs → use_of name (map used_of gs) ≡ None
+found_none name gs e = find_used name gs ∙ ap (option_map used_of) (sym e)
 
-pub shown_none : (gs : List Given) → None ≡ find (λ g. is_of name.Show g.name) gs → shown gs ≡ None
-shown_none gs e = ap (option_and_then unless_all) (find_used name.Show gs ∙ ap (option_map used_of) (sym e))
+pub found_used : (name : Name) (gs : List Given) (g : Given) → Some g ≡ find (λ g. is_of name g.name) gs → use_of name (map used_of gs) ≡ Some (used_of g)
+found_used name gs g found = find_used name gs ∙ ap (option_map used_of) (sym found)
 
-pub found_used : (gs : List Given) (g : Given) → Some g ≡ find (λ g. is_of name.Show g.name) gs → use_of name.Show (map used_of gs) ≡ Some (used_of g)
-found_used gs g found = find_used name.Show gs ∙ ap (option_map used_of) (sym found)
+-- what is shown, by the value of the option
+pub shown_all : (text : Text) (o : Option Used) → ((u : Used) → o ≡ Some u → text ≡ u.text) → bytes_eq text (codes "all") ≡ true → option_and_then unless_all o ≡ None
+shown_all text None is all = refl
+shown_all text (Some u) is all = let e : bytes_eq u.text (codes "all") ≡ true = rw (is u refl) at all in rw e refl
 
-module _ (gs : List Given) (g : Given) (text : Text) (found : Some g ≡ find (λ g. is_of name.Show g.name) gs) (is : text ≡ g.text.now) where
-  pub shown_all : bytes_eq text (codes "all") ≡ true → shown gs ≡ None
-  shown_all all = ap (option_and_then unless_all) (found_used gs g found) ∙ (let e : bytes_eq g.text.now (codes "all") ≡ true = rw is at all in rw e refl)
-
-  pub shown_some : bytes_eq text (codes "all") ≡ false → shown gs ≡ Some (record { word = g.word; text = text })
-  shown_some other = ap (option_and_then unless_all) (found_used gs g found)
-      ∙ (let e : bytes_eq g.text.now (codes "all") ≡ false = rw is at other in rw e (ap (λ t. Some (record { word = g.word; text = t })) (sym is)))
+pub shown_some : (text : Text) (o : Option Used) → ((u : Used) → o ≡ Some u → text ≡ u.text) → bytes_eq text (codes "all") ≡ false → option_and_then unless_all o ≡ option_map word_text o
+shown_some text None is other = refl
+shown_some text (Some u) is other = let e : bytes_eq u.text (codes "all") ≡ false = rw (is u refl) at other in rw e refl
 
 -- the next text joins those before it
 pub chains_more : (chains : List ChainWord) (c : ChainWord) (uses : List Used) (ns : List ℕ) (ts : List (Bor Text)) (k : ℕ) (d : Bor Text) → d.now ≡ [] → k < length ts

@@ -15,7 +15,7 @@ use Rattle.words.specs.Readable.{IsShort}
 use Rattle.words.specs.Settings.{AreGood, unless_all, use_of, value_of, word_text}
 use Rattle.words.specs.Uses.{Part, Used, chains_of, is_of, parts_from, use_at, uses_of, why_value}
 use Rattle.words.specs.declared.options.Name.{Name}
-use Rattle.words.specs.declared.options.Name.TheVariants.{Job, Format, Channels, Rate, Down, Threads, Ring, Show}
+use Rattle.words.specs.declared.options.Name.TheVariants.{Job, Format, Channels, Rate, Down, Threads, Ring, Show, Binary}
 use Rattle.words.specs.declared.kinds.WordFault.{WordFault}
 use Rattle.words.proofs.Searches.{find_passes}
 use Rattle.words.proofs.Shapes.{Shape, chain, joined, split, shape_of}
@@ -101,6 +101,7 @@ named Down = refl
 named Threads = refl
 named Ring = refl
 named Show = refl
+named Binary = refl
 
 -- so two options have two names
 same_name : (a b : Name) → bytes_eq (row a).name (row b).name ≡ true → a ≡ b
@@ -123,6 +124,7 @@ usual_good Down = refl
 usual_good Threads = refl
 usual_good Ring = refl
 usual_good Show = refl
+usual_good Binary = tt
 
 good_value : (name : Name) (uses : List Used) → AllKept uses → IfSome (value_of name uses) (λ text. why_value (row name).takes text ≡ None)
 good_value name uses kept = by (use_of name uses) refl
@@ -161,6 +163,15 @@ module _ (words : List Text) (uses : List Used) (read : uses_of words ≡ Ok use
 
   pub chains_fit : (chains : List ChainWord) → map chain_of chains ≡ map word_text (chains_of uses) → All IsShort chains
   chains_fit chains same = fits chains (subst AllFit (sym same) (fit uses kept))
+
+  -- a value that an option was given is short
+  pub value_fits : (name : Name) (value : Option ChainWord) → option_map chain_of value ≡ option_map word_text (use_of name uses) → IfSome value IsShort
+  value_fits name None same = tt
+  value_fits name (Some c) same = by (use_of name uses) refl same
+    where
+      by : (o : Option Used) → use_of name uses ≡ o → Some (chain_of c) ≡ option_map word_text o → IsShort c
+      by None is e = cc
+      by (Some u) is e = let same : chain_of c ≡ word_text u = cc in subst (λ (w : WordText). length w.text ≤ 4096) (sym same) (kept_use name uses kept u is).short
 
   pub shown_fits : (shown : Option ChainWord) → option_map chain_of shown ≡ option_and_then unless_all (use_of Show uses) → IfSome shown IsShort
   shown_fits None same = tt

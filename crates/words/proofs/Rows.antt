@@ -13,7 +13,7 @@ use Rattle.words.specs.Options.{row}
 use Rattle.words.specs.Settings.{use_of}
 use Rattle.words.specs.Uses.{Used, chains_of, is_given, is_of}
 use Rattle.words.specs.declared.options.Name.{Name}
-use Rattle.words.specs.declared.options.Name.TheVariants.{Job, Format, Channels, Rate, Down, Threads, Ring, Show}
+use Rattle.words.specs.declared.options.Name.TheVariants.{Job, Format, Channels, Rate, Down, Threads, Ring, Show, Binary}
 
 -- the values of an id, behind those that it has
 abbrev pub joined : Option (List Text) → List Text → Option (List Text)
@@ -95,6 +95,7 @@ other_ids Down = refl
 other_ids Threads = refl
 other_ids Ring = refl
 other_ids Show = refl
+other_ids Binary = refl
 
 -- a use is of an option where its id is that option's name
 is_of-id : (name : Name) (o : Option Name) → bytes_eq (id_of o) (row name).name ≡ is_of name o
@@ -109,6 +110,7 @@ is_of-id name None = no_option name
     no_option Threads = refl
     no_option Ring = refl
     no_option Show = refl
+    no_option Binary = refl
 is_of-id name (Some other) = refl
 
 texts_at-none : (name : Name) (uses : List Used) → is_given name uses ≡ false → texts_at (row name).name uses ≡ []

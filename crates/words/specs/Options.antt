@@ -1,10 +1,10 @@
 -- The options that a word may name, and the values that each takes.
-use Rattle.std.specs.Prelude.{ℕ, ◌≤◌, List, [], ◌∷◌, Option, Some, codes, find}
+use Rattle.std.specs.Prelude.{ℕ, ◌≤◌, List, [], ◌∷◌, Option, Some, None, codes, find}
 use Rattle.std.specs.Str.{bytes_eq}
 use Rattle.la_base.specs.declared.samples.TheConstants.{MOST_PINS}
 use Rattle.words.specs.Lexer.{Text}
 use Rattle.words.specs.declared.options.Name.{Name}
-use Rattle.words.specs.declared.options.Name.TheVariants.{Job, Format, Channels, Rate, Down, Threads, Ring, Show}
+use Rattle.words.specs.declared.options.Name.TheVariants.{Job, Format, Channels, Rate, Down, Threads, Ring, Show, Binary}
 
 -- the values that an option takes: one of some texts, a number from the first to the second, a rate, or any text
 pub data Kind : Type 0 where
@@ -39,10 +39,11 @@ row Down = record { name = codes "down"; takes = Number 1 1000000000; usual = So
 row Threads = record { name = codes "threads"; takes = OneOf (codes "yes" ∷ codes "no" ∷ []); usual = Some (codes "yes") }
 row Ring = record { name = codes "ring"; takes = Number 1 16384; usual = Some (codes "256") }
 row Show = record { name = codes "show"; takes = Free; usual = Some (codes "all") }
+row Binary = record { name = codes "binary"; takes = Free; usual = None }
 
 -- all options
 abbrev pub names : List Name
-names = Job ∷ Format ∷ Channels ∷ Rate ∷ Down ∷ Threads ∷ Ring ∷ Show ∷ []
+names = Job ∷ Format ∷ Channels ∷ Rate ∷ Down ∷ Threads ∷ Ring ∷ Show ∷ Binary ∷ []
 
 -- the option that a text names
 abbrev pub name_of : Text → Option Name

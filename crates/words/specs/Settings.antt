@@ -34,6 +34,7 @@ pub record Values : Type 0 where
   pub threads : Bool
   pub ring : ℕ
   pub show : Option WordText
+  pub binary : Option WordText
   pub chains : List WordText
 
 -- the number and the text of a use
@@ -83,6 +84,7 @@ values_of uses = record {
   threads = is_yes (text_of name.Threads uses);
   ring = number_after 0 (text_of name.Ring uses);
   show = option_and_then unless_all (use_of name.Show uses);
+  binary = option_map word_text (use_of name.Binary uses);
   chains = map word_text (chains_of uses);
 }
 
@@ -154,5 +156,6 @@ meaning_of s = record {
   threads = s.threads;
   ring = s.ring;
   show = option_map chain_of s.show;
+  binary = option_map chain_of s.binary;
   chains = map chain_of s.chains.items;
 }

@@ -1,4 +1,4 @@
-// The words that are no options, and the decoders that are shown.
+// The words that are no options, and the values that name decoders.
 ghost use Rattle.std.specs.Prelude.{◌≡◌, List, length, Some, IfOk, option_and_then, option_map, map, filter, find, not, is_some};
 ghost use Rattle.text_parts.specs.Chains.{chain_of};
 ghost use Rattle.words.specs.Given.{used_of};
@@ -50,16 +50,37 @@ fn find_given<'u, 'a>(name: Name, uses: &'u [Given<'a>]) -> Option<&'u Given<'a>
     uses.iter().find(|given| is_of(name, given))
 }
 
+// The value of an option that is given, with the number of its word.
+fn given_value(
+    alloc: Global,
+    name: Name,
+    uses: &[Given],
+    text: &str,
+) -> Result<Option<ChainWord>, AllocError>
+    requires { (used : Used) → use_of name (map used_of uses.now) ≡ Some used → text.now ≡ used.text }
+    ensures { IfOk result (λ o. option_map chain_of o ≡ option_map word_text (use_of name (map used_of uses.now))) }
+{
+    match find_given(name, uses) {
+        Some(given) => Ok(Some(chain_word(alloc, given.word, text)?)),
+        None => Ok(None),
+    }
+}
+
 /// The value of `show` with the number of its word, where it isn't `all`.
 pub fn shown(alloc: Global, uses: &[Given], text: &str) -> Result<Option<ChainWord>, AllocError>
     requires { (used : Used) → use_of Name.Show (map used_of uses.now) ≡ Some used → text.now ≡ used.text }
     ensures { IfOk result (λ o. option_map chain_of o ≡ option_and_then unless_all (use_of Name.Show (map used_of uses.now))) }
 {
-    let Some(given) = find_given(Name::Show, uses) else {
-        return Ok(None);
-    };
     if text == "all" {
         return Ok(None);
     }
-    Ok(Some(chain_word(alloc, given.word, text)?))
+    given_value(alloc, Name::Show, uses, text)
+}
+
+/// The value of `binary` with the number of its word.
+pub fn binary(alloc: Global, uses: &[Given], text: &str) -> Result<Option<ChainWord>, AllocError>
+    requires { (used : Used) → use_of Name.Binary (map used_of uses.now) ≡ Some used → text.now ≡ used.text }
+    ensures { IfOk result (λ o. option_map chain_of o ≡ option_map word_text (use_of Name.Binary (map used_of uses.now))) }
+{
+    given_value(alloc, Name::Binary, uses, text)
 }

@@ -18,6 +18,7 @@ pub enum Name {
     Threads,
     Ring,
     Show,
+    Binary,
 }
 
 /// The values that an option takes.
@@ -75,7 +76,7 @@ pub const MOST_DOWN: u32 = 1_000_000_000;
 pub const MOST_RING: u32 = 16_384;
 
 /// The options, in the order in which they are told.
-pub const OPTIONS: [Name; 8] = [
+pub const OPTIONS: [Name; 9] = [
     Name::Job,
     Name::Format,
     Name::Channels,
@@ -84,6 +85,7 @@ pub const OPTIONS: [Name; 8] = [
     Name::Threads,
     Name::Ring,
     Name::Show,
+    Name::Binary,
 ];
 
 impl Name {
@@ -148,6 +150,12 @@ impl Name {
                 takes: Takes::Text,
                 usual: Some("all"),
                 help: "the decoders whose notes are written: all, or names with commas between them",
+            },
+            Name::Binary => OptionRow {
+                name: "binary",
+                takes: Takes::Text,
+                usual: None,
+                help: "NAME:CLASS, a decoder and a class of its binary data, whose bytes are written in place of lines",
             },
         }
     }

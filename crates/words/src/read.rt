@@ -11,7 +11,7 @@ ghost use Rattle.words.specs.Settings.{AreGood, settings_of, meaning_of, values_
 ghost use Rattle.words.specs.Uses.{chains_of};
 
 use crate::alternatives::fault_behind;
-use crate::chains::{chains, numbers, shown};
+use crate::chains::{binary, chains, numbers, shown};
 use crate::command::{chain_texts, matches, text};
 use crate::options::Name;
 use crate::reading::read_uses;
@@ -45,6 +45,7 @@ fn settings(alloc: Global, matches: &ArgMatches, uses: &[Given]) -> Result<Setti
     ensures { IfOk result (λ s. meaning_of s ≡ values_of (map used_of uses.now)) }
 {
     let show = shown(alloc, uses, text(matches, Name::Show))?;
+    let binary = binary(alloc, uses, text(matches, Name::Binary))?;
     let chains = chains_in(alloc, matches, uses)?;
     let channels = number(Name::Channels, text(matches, Name::Channels));
     let down = number(Name::Down, text(matches, Name::Down));
@@ -58,6 +59,7 @@ fn settings(alloc: Global, matches: &ArgMatches, uses: &[Given]) -> Result<Setti
         threads: is_yes(text(matches, Name::Threads)),
         ring: ring as u32,
         show,
+        binary,
         chains,
     })
 }
@@ -69,6 +71,7 @@ pub fn read_words(alloc: Global, words: &[String]) -> Result<Settings, WordsErro
     ensures gives { Gives meaning_of fault_in (settings_of (map string_bytes words.now)) result }
     ensures readable { IfOk result (λ settings. IsReadable settings.job settings.chains.items) }
     ensures shown { IfOk result (λ settings. IfSome settings.show IsShort) }
+    ensures binary { IfOk result (λ settings. IfSome settings.binary IsShort) }
 {
     let uses = match read_uses(alloc, words) {
         Ok(uses) => uses,

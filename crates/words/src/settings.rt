@@ -26,6 +26,9 @@ pub struct Settings {
     /// The decoders that are shown, where the words name them: the number of the word that holds the
     /// value, and the value.
     pub show: Option<ChainWord>,
+    /// The decoder and the class whose binary data is written in place of lines, where the words name one:
+    /// the number of the word that holds the value, and the value.
+    pub binary: Option<ChainWord>,
     /// The chains of decoders, or the alternatives of a condition.
     pub chains: Vec<ChainWord>,
     ghost channels_fit: { IsWithin (row Channels).takes channels },

@@ -13,7 +13,7 @@ use Rattle.dec_onewire.specs.Opening.{NetStandsFor}
 use Rattle.dec_onewire.specs.laws.NetMachine.{held_of, gives, next, near_by, net_walk}
 use Rattle.dec_onewire.specs.laws.NetPushed.{net_pushed, near_is}
 use Rattle.dec_onewire.specs.laws.NetSound.{net_fits, net_sound}
-use Rattle.dec_onewire.specs.laws.PacketWalks.{walk_nothing, walk_prefix, walk_few, walk_on, walk_order, walk_floor}
+use Rattle.packet_walks.specs.laws.WalkLaws.{walk_nothing, walk_prefix, walk_few, walk_on, walk_order, walk_floor}
 
 pub net_nothing : GivesNothing net_outs
 net_nothing = walk_nothing net_walk net_outs held_of net_pushed

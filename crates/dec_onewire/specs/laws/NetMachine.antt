@@ -11,7 +11,7 @@ use Rattle.dec_onewire.specs.declared.net.held.Held.TheVariants.{Outside, Reset,
 use Rattle.dec_onewire.specs.declared.net.held.Role.{Role}
 use Rattle.dec_onewire.specs.declared.net.held.Role.TheVariants.{Command, Rom, Search, Byte}
 use Rattle.dec_onewire.specs.Net.{is_reset, is_presence, is_bit, bit_in, size_of, number_in, rom_behind, Group, Cut, segment_cut, bits_in, starts_at, role_outs, resets, last_part}
-use Rattle.dec_onewire.specs.laws.PacketWalks.{PacketWalk}
+use Rattle.packet_walks.specs.Walks.{PacketWalk}
 
 -- no bit has come of what is next
 abbrev pub none_begun : Begun

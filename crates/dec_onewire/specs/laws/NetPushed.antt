@@ -19,7 +19,7 @@ use Rattle.dec_onewire.specs.declared.net.held.Role.TheVariants.{Command, Rom, S
 use Rattle.dec_onewire.specs.Net.{is_reset, is_presence, is_bit, bit_in, size_of, number_in, Cut, segment_cut, bits_in, starts_at, ends_at, role_outs, group_outs, reset_outs, segment_outs, resets, net_outs, last_part, begun_at, near_in, net_near}
 use Rattle.dec_onewire.specs.laws.CutLaws.{group_of, pushed_by, pushed, segment_cuts, role_more, nothing_begun, start_more, end_more, number_with, byte_small}
 use Rattle.dec_onewire.specs.laws.NetMachine.{none_begun, role_next, role_behind, begun_by, inside_of, held_in, held_of, start_of, with_bit, given_by, bit_gives, bit_next, inside_gives, inside_next, gives, next, near_by, net_walk}
-use Rattle.dec_onewire.specs.laws.PacketWalks.{PushedPackets}
+use Rattle.packet_walks.specs.Walks.{PushedPackets}
 
 less_is : (a b : ℕ) → nat_lt a b ≡ true → a < b
 less_is a b is = grind (arith, nat_tests)

@@ -17,7 +17,7 @@ use Rattle.dec_onewire.specs.declared.net.held.Role.{Role}
 use Rattle.dec_onewire.specs.declared.net.held.Role.TheVariants.{Command, Rom, Search, Byte}
 use Rattle.dec_onewire.specs.Net.{is_reset, is_presence, is_bit, bit_in, size_of}
 use Rattle.dec_onewire.specs.laws.NetMachine.{none_begun, role_next, start_of, with_bit, given_by, bit_gives, bit_next, answered_gives, answered_next, inside_gives, inside_next, gives, next, near_by, net_walk}
-use Rattle.dec_onewire.specs.laws.PacketWalks.{SoundPackets}
+use Rattle.packet_walks.specs.Walks.{SoundPackets}
 
 some_no : (n : ℕ) → (n + 1 == 0) ≡ false
 some_no n = grind (arith, nat_tests)

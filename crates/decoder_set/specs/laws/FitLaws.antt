@@ -10,12 +10,14 @@ use Rattle.decoder_core.specs.declared.faults.OptFault.TheVariants as fault
 use Rattle.dec_onewire.specs.Opening as onewire
 use Rattle.dec_spi.specs.Opening as spi
 use Rattle.dec_uart.specs.Ranges as uart
+use Rattle.dev_ds1307.specs.Opening as clock
 use Rattle.dev_eeprom24.specs.Opening as eeprom
+use Rattle.dev_lm75.specs.Opening as lm75
 use Rattle.decoder_set.specs.declared.kinds.Kind.{Kind}
-use Rattle.decoder_set.specs.declared.kinds.Kind.TheVariants.{Spi, Uart, Eeprom24, OwLink}
+use Rattle.decoder_set.specs.declared.kinds.Kind.TheVariants.{Spi, Uart, OwLink, Eeprom24, Ds1307, Lm75}
 use Rattle.decoder_set.specs.Kinds.{Pin, Number, Choice, kind_row}
 use Rattle.decoder_set.specs.Faults.{open_fault, too_slow}
-use Rattle.decoder_set.specs.Options.{eeprom_options, link_options, spi_options, uart_options}
+use Rattle.decoder_set.specs.Options.{clock_options, eeprom_options, link_options, lm75_options, spi_options, uart_options}
 use Rattle.decoder_set.specs.Values.{given_at, has_groups, in_range, maybe_channel_at, takes}
 use Rattle.decoder_set.specs.laws.RangeLaws.{both, channel_within, maybe_channel_within, number_within}
 
@@ -78,6 +80,17 @@ eeprom_in_range bits values all =
           (number_within bits row values 1 (record { name = codes "size"; form = Choice (codes "256" ∷ codes "128" ∷ codes "4096" ∷ codes "8192" ∷ codes "16384" ∷ codes "32768" ∷ codes "65536" ∷ []) }) all refl refl);
       page = below_suc _ 4 (number_within bits row values 2 (record { name = codes "page"; form = Choice (codes "8" ∷ codes "16" ∷ codes "32" ∷ codes "64" ∷ codes "128" ∷ []) }) all refl refl);
       gcall = (number_within bits row values 3 (record { name = codes "gcall"; form = Number 0 1 0 }) all refl refl).1;
+    }
+
+pub clock_in_range : (bits : ℕ) (values : List (Option ℕ)) → in_range bits Ds1307 values ≡ true → clock.InRange (clock_options values)
+clock_in_range bits values all = record { gcall = (number_within bits (kind_row Ds1307) values 0 (record { name = codes "gcall"; form = Number 0 1 0 }) all refl refl).1 }
+
+pub lm75_in_range : (bits : ℕ) (values : List (Option ℕ)) → in_range bits Lm75 values ≡ true → lm75.InRange (lm75_options values)
+lm75_in_range bits values all =
+    let row = kind_row Lm75 in
+    record {
+      addr = (number_within bits row values 0 (record { name = codes "addr"; form = Number 0 7 0 }) all refl refl).1;
+      gcall = (number_within bits row values 1 (record { name = codes "gcall"; form = Number 0 1 0 }) all refl refl).1;
     }
 
 pub link_in_range : (bits : ℕ) (values : List (Option ℕ)) → 0 < bits → in_range bits OwLink values ≡ true → onewire.LinkInRange bits (link_options values)

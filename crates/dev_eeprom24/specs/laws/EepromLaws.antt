@@ -1,6 +1,6 @@
 -- What holds of what an EEPROM gives.
 use Rattle.std.proofs.Common.{◌≡◌, ℕ, zero, suc, ◌+◌, ◌%◌, ◌≤◌, Bool, true, false, if◌then◌else◌, inl, inr, List, [], ◌∷◌, ◌++◌, length, take, drop, refl, sym, ◌∙◌, ap, subst, append_assoc, arith, length-append}
-use Rattle.std.specs.Prelude.{nat_le, min}
+use Rattle.std.specs.Prelude.{nat_le}
 use Rattle.std.specs.List.{flat_map, enumerate_from}
 use Rattle.std.proofs.lemmas.Bool.{cases_lt}
 use Rattle.std.proofs.lemmas.Bool.Decides.{nat_tests}
@@ -16,6 +16,7 @@ use Rattle.i2c_phases.specs.laws.DeviceLaws.{phased_nothing, phased_prefix, phas
 use Rattle.i2c_phases.specs.Phases.{Meaning, Nothing, Writes, Reads, Reset}
 use Rattle.i2c_phases.specs.Devices.{Adds, ByByte, Each, FewFrom, GivesByByte, GivesNoPackets, phased}
 use Rattle.i2c_phases.specs.laws.PhaseLaws.{by_weaker, each_push}
+use Rattle.i2c_phases.specs.laws.ByteLaws.{starts_later}
 use Rattle.dev_eeprom24.specs.declared.chip.Chip.{Chip}
 use Rattle.dev_eeprom24.specs.Eeprom.{address_len, number_of, has_word, word_of, data_of, word_note, write_outs, read_outs, phase_outs, pointer, step, eeprom_outs}
 
@@ -73,13 +74,9 @@ module _ (o : Chip) (floor : ℕ) where
   one_word (a ∷ []) w = omega arith
   one_word (a ∷ b ∷ bytes) w = omega arith
 
-  -- a note of a byte starts where the byte does
-  starts_later : (byte : Packet) → floor ≤ byte.start → floor ≤ min byte.start byte.end
-  starts_later byte here = let order = byte.in_order in omega (arith, here, order)
-
   word_later : (bytes : List Packet) (w : ℕ) → Each (Behind floor) bytes → NotesFrom floor (word_note bytes w)
   word_later [] w all = tt
-  word_later (a ∷ []) w all = (starts_later a all.0, tt)
+  word_later (a ∷ []) w all = (starts_later floor a all.0, tt)
   word_later (a ∷ b ∷ bytes) w all = let first = all.0 in let next = all.1.0 in let order = b.in_order in (omega (arith, first, next, order), tt)
 
   some_len : (t : Bool) → 1 ≤ (if t then 1 else 2)
@@ -90,10 +87,10 @@ module _ (o : Chip) (floor : ℕ) where
   some = some_len (nat_le o.size 256)
 
   one_read : (from : ℕ) (bytes : List Packet) (byte : Packet) → floor ≤ byte.start → Adds (Later floor) (flat_map (read_outs o from) (enumerate_from 0 bytes)) (flat_map (read_outs o from) (enumerate_from 0 (bytes ++ byte ∷ [])))
-  one_read from bytes byte here = (read_outs o from (length bytes, byte), read_grows o from bytes byte, (omega arith, (starts_later byte here, tt)))
+  one_read from bytes byte here = (read_outs o from (length bytes, byte), read_grows o from bytes byte, (omega arith, (starts_later floor byte here, tt)))
 
   more_data : (from : ℕ) (bytes : List Packet) (byte : Packet) → address_len o.size ≤ length bytes → floor ≤ byte.start → Adds (Later floor) (phase_outs o from (Writes bytes)) (phase_outs o from (Writes (bytes ++ byte ∷ [])))
-  more_data from bytes byte low here = (write_outs o (word_of o bytes) (length (data_of o bytes), byte), data_grows o from bytes byte low, (omega arith, (starts_later byte here, tt)))
+  more_data from bytes byte low here = (write_outs o (word_of o bytes) (length (data_of o bytes), byte), data_grows o from bytes byte low, (omega arith, (starts_later floor byte here, tt)))
 
   nothing_left : (k : ℕ) (xs : List Packet) → length xs ≤ k → drop k xs ≡ []
   nothing_left zero [] low = refl

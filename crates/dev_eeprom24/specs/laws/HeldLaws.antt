@@ -1,73 +1,41 @@
 -- What an EEPROM keeps and gives, behind one more byte.
-use Rattle.std.proofs.Common.{◌≡◌, ℕ, zero, suc, ◌+◌, ◌-◌, ◌*◌, ◌%◌, ◌≤◌, ◌<◌, Bool, true, false, if◌then◌else◌, List, [], ◌∷◌, ◌++◌, length, map, take, drop, Option, Some, None, refl, sym, ◌∙◌, ap, subst, arith, length-append}
-use Rattle.std.specs.Prelude.{nat_le, slice_get}
-use Rattle.std.specs.List.{flat_map, enumerate_from, sum}
+use Rattle.std.proofs.Common.{◌≡◌, ℕ, ◌+◌, ◌-◌, ◌*◌, ◌%◌, ◌≤◌, Bool, true, false, if◌then◌else◌, List, [], ◌∷◌, ◌++◌, length, take, drop, refl, sym, ◌∙◌, ap, subst, arith, length-append}
+use Rattle.std.specs.Prelude.{nat_le}
+use Rattle.std.specs.List.{flat_map, enumerate_from}
 use Rattle.std.proofs.Math.Nat.{mod-add-mod}
 use Rattle.std.proofs.lemmas.Bool.Decides.{nat_tests}
-use Rattle.std.proofs.lemmas.List.{append-nil, map-append, take-append-le, drop-append-le, drop_all}
-use Rattle.std.proofs.lemmas.List.Sums.{sum_by_push}
+use Rattle.std.proofs.lemmas.List.{append-nil, take-append-le, drop-append-le}
 use Rattle.la_base.specs.declared.wires.Out.{Out}
 use Rattle.la_base.specs.declared.wires.Packet.{Packet}
-use Rattle.list_cuts.specs.LastWhere.{last_where}
-use Rattle.list_cuts.proofs.LastLaws.{last_where_passes, last_where_fails, within_list}
 use Rattle.dev_eeprom24.specs.declared.chip.Chip.{Chip}
 use Rattle.dev_eeprom24.specs.declared.held.Word.{Word}
 use Rattle.dev_eeprom24.specs.declared.held.Word.TheVariants.{Empty, Half, Whole}
 use Rattle.dev_eeprom24.specs.declared.held.Held.{Held}
 use Rattle.i2c_phases.specs.Phases.{Meaning, Writes, Reads, byte_of}
-use Rattle.dev_eeprom24.specs.Eeprom.{address_len, number_of, has_word, word_of, data_of, word_note, write_outs, phase_outs, pointer, sets, set_to, reads_of, last_set, since, in_page, step}
-use Rattle.dev_eeprom24.specs.Held.{half_of, word_known, word_in, last_word, started, put_by, put_gives, get_gives}
+use Rattle.i2c_phases.specs.Pointers.{of_last, pointer_behind}
+use Rattle.i2c_phases.specs.laws.PointerLaws.{behind_sets, behind_keeps, of_last_is}
+use Rattle.dev_eeprom24.specs.Eeprom.{address_len, number_of, has_word, word_of, data_of, word_note, write_outs, phase_outs, pointer, sets, set_to, reads_of, in_page, step}
+use Rattle.dev_eeprom24.specs.Held.{half_of, word_known, word_in, started, put_by, put_gives, get_gives}
 use Rattle.dev_eeprom24.specs.laws.EepromLaws.{data_grows, read_grows}
-
-get_front : (xs ys : List Meaning) (k : ℕ) → k < length xs → slice_get (xs ++ ys) k ≡ slice_get xs k
-get_front [] ys k low = absurd (omega (arith, low))
-get_front (x ∷ xs) ys zero low = refl
-get_front (x ∷ xs) ys (suc k) low = get_front xs ys k (omega (arith, low))
-
-get_last : (xs : List Meaning) (m : Meaning) → slice_get (xs ++ m ∷ []) (length xs) ≡ Some m
-get_last [] m = refl
-get_last (x ∷ xs) m = get_last xs m
-
-sum_last : (xs : List Meaning) (m : Meaning) (f : Meaning → ℕ) → sum (map f (xs ++ m ∷ [])) ≡ sum (map f xs) + f m
-sum_last xs m f = ap sum (map-append f xs (m ∷ [])) ∙ sum_by_push (λ x. x) (map f xs) (f m)
 
 module _ (o : Chip) where
   -- the pointer behind one more phase
-  pub pointer_sets : (before : List Meaning) (m : Meaning) → sets o m ≡ true → pointer o (before ++ m ∷ []) ≡ set_to o (Some m) % o.size
-  pointer_sets before m is =
-      let place : last_where (sets o) (before ++ m ∷ []) ≡ Some (length before) = last_where_passes (sets o) before m is in
-      let none : drop (length before + 1) (before ++ m ∷ []) ≡ [] = drop_all (length before + 1) (before ++ m ∷ []) (let e = length-append before (m ∷ []) in omega (arith, e)) in
-      let zero_more : set_to o (Some m) + 0 ≡ set_to o (Some m) = omega arith in
-      ap (λ (k : Option ℕ). (set_to o (last_set o (before ++ m ∷ []) k) + sum (map (reads_of o) (since o (before ++ m ∷ []) k))) % o.size) place
-      ∙ (λ i. (set_to o (get_last before m i) + sum (map (reads_of o) (none i))) % o.size) ∙ ap (λ (n : ℕ). n % o.size) zero_more
+  pub pointer_sets : (before : List Meaning) (m : Meaning) → sets o m ≡ true → pointer o (before ++ m ∷ []) ≡ set_to o m % o.size
+  pointer_sets before m is = ap (λ (n : ℕ). n % o.size) (behind_sets (sets o) (set_to o) (reads_of o) before m is)
 
   pub pointer_keeps : (before : List Meaning) (m : Meaning) → sets o m ≡ false → pointer o (before ++ m ∷ []) ≡ (pointer o before + reads_of o m) % o.size
-  pointer_keeps before m is = ap (λ (k : Option ℕ). (set_to o (last_set o (before ++ m ∷ []) k) + sum (map (reads_of o) (since o (before ++ m ∷ []) k))) % o.size) (last_where_fails (sets o) before m is) ∙ by (last_where (sets o) before) (λ k e. within_list (sets o) before k e)
-    where
-      by : (k : Option ℕ) → ((n : ℕ) → k ≡ Some n → n < length before) → (set_to o (last_set o (before ++ m ∷ []) k) + sum (map (reads_of o) (since o (before ++ m ∷ []) k))) % o.size ≡ ((set_to o (last_set o before k) + sum (map (reads_of o) (since o before k))) % o.size + reads_of o m) % o.size
-      by None low =
-          let s = sum_last before m (reads_of o) in
-          let e : 0 + sum (map (reads_of o) (before ++ m ∷ [])) ≡ (0 + sum (map (reads_of o) before)) + reads_of o m = omega (arith, s) in
-          ap (λ (n : ℕ). n % o.size) e ∙ sym (mod-add-mod (0 + sum (map (reads_of o) before)) o.size (reads_of o m))
-      by (Some k) low =
-          let less = low k refl in
-          let had = set_to o (slice_get before k) in
-          let rest = drop (k + 1) before in
-          let cut : drop (k + 1) (before ++ m ∷ []) ≡ rest ++ m ∷ [] = drop-append-le (k + 1) before (m ∷ []) (omega (arith, less)) in
-          let s : sum (map (reads_of o) (drop (k + 1) (before ++ m ∷ []))) ≡ sum (map (reads_of o) rest) + reads_of o m = ap (λ (l : List Meaning). sum (map (reads_of o) l)) cut ∙ sum_last rest m (reads_of o) in
-          let e : had + (sum (map (reads_of o) rest) + reads_of o m) ≡ (had + sum (map (reads_of o) rest)) + reads_of o m = omega arith in
-          (λ i. (set_to o (get_front before (m ∷ []) k less i) + s i) % o.size) ∙ ap (λ (n : ℕ). n % o.size) e ∙ sym (mod-add-mod (had + sum (map (reads_of o) rest)) o.size (reads_of o m))
+  pointer_keeps before m is =
+      ap (λ (n : ℕ). n % o.size) (behind_keeps (sets o) (set_to o) (reads_of o) before m is)
+      ∙ sym (mod-add-mod (pointer_behind (sets o) (set_to o) (reads_of o) before) o.size (reads_of o m))
 
   pub pointer_same : (phases : List Meaning) → (pointer o phases + 0) % o.size ≡ pointer o phases
   pointer_same phases =
-      let x = set_to o (last_set o phases (last_where (sets o) phases)) + sum (map (reads_of o) (since o phases (last_where (sets o) phases))) in
+      let x = pointer_behind (sets o) (set_to o) (reads_of o) phases in
       let e : x + 0 ≡ x = omega arith in
       mod-add-mod x o.size 0 ∙ ap (λ (n : ℕ). n % o.size) e
 
-  pub last_word_is : (before : List Meaning) (m : Meaning) → last_word o (before ++ m ∷ []) ≡ word_in o m
-  last_word_is [] m = refl
-  last_word_is (x ∷ []) m = refl
-  last_word_is (x ∷ y ∷ before) m = last_word_is (y ∷ before) m
+  pub last_word_is : (before : List Meaning) (m : Meaning) → of_last (word_in o) Empty (before ++ m ∷ []) ≡ word_in o m
+  last_word_is before m = of_last_is (word_in o) Empty before m
 
   -- one more byte that is read
   pub pointer_read : (before : List Meaning) (bytes : List Packet) → pointer o (before ++ Reads bytes ∷ []) ≡ (pointer o before + length bytes) % o.size

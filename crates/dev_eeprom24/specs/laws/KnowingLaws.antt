@@ -5,13 +5,14 @@ use Rattle.std.proofs.Math.Nat.{zero-mod}
 use Rattle.la_base.specs.declared.wires.Packet.{Packet}
 use Rattle.la_base.specs.declared.wires.Out.{Out}
 use Rattle.i2c_phases.specs.Phases.{Meaning, Nothing, Writes, Reads, Reset}
+use Rattle.i2c_phases.specs.Pointers.{of_last}
 use Rattle.dev_eeprom24.specs.declared.chip.Chip.{Chip}
 use Rattle.dev_eeprom24.specs.declared.held.Word.{Word}
 use Rattle.dev_eeprom24.specs.declared.held.Word.TheVariants.{Empty, Whole}
 use Rattle.dev_eeprom24.specs.declared.held.Held.{Held}
 use Rattle.dev_eeprom24.specs.declared.held.Eeprom.{Eeprom}
 use Rattle.dev_eeprom24.specs.Eeprom.{data_of, word_of, has_word, pointer, step}
-use Rattle.dev_eeprom24.specs.Held.{Knows, held_of, word_known, word_in, last_word, put_by, put_gives, get_gives}
+use Rattle.dev_eeprom24.specs.Held.{Knows, held_of, word_known, word_in, put_by, put_gives, get_gives}
 use Rattle.dev_eeprom24.specs.laws.HeldLaws.{kept, last_word_is, pointer_keeps, pointer_same, pointer_sets, read_keeps, read_gives, wrote}
 
 -- the numbers of an EEPROM
@@ -28,7 +29,7 @@ module _ (o : Chip) where
   unfolding held_of
   held_is before m = ap (λ (w : Word). record { pointer = pointer o (before ++ m ∷ []); word = w }) (last_word_is o before m)
 
-  held_open : (phases : List Meaning) → held_of o phases ≡ record { pointer = pointer o phases; word = last_word o phases }
+  held_open : (phases : List Meaning) → held_of o phases ≡ record { pointer = pointer o phases; word = of_last (word_in o) Empty phases }
   unfolding held_of
   held_open phases = refl
 

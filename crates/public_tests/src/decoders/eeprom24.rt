@@ -1,11 +1,10 @@
 // EEPROMs: notes of scripts as lines, and the outputs of made traffic, where a decoder is compared with a plain program.
-ghost use Rattle.std.specs.Prelude.{◌≤◌, ◌<◌, ◌^◌};
-
+use super::bus_traffic::Traffic;
 use decoder_core::{Follower, Machine, OptFault, Outs};
 use dev_eeprom24::{Chip, Eeprom, EepromOpts, rows_hold, text};
 use la_base::{Feed, Out, Packet, PacketKind, Rate, Run};
 use line_text::LineBuf;
-use plain_devices::outputs_of;
+use plain_devices::eeprom_outputs_of;
 use std::alloc::{AllocError, Global};
 use std::process::Abort;
 use std::test::Fail;
@@ -85,7 +84,7 @@ fn check(
         follower.step(Feed::Packet(*packet), &mut outs);
         all.extend_from_slice(outs.list())?;
     }
-    let want = outputs_of(alloc, chip, packets)?;
+    let want = eeprom_outputs_of(alloc, chip, packets)?;
     assert!(rt; all.as_slice() == want.as_slice());
     Ok(all)
 }
@@ -162,92 +161,6 @@ const SCRIPTS: &str = "\
 0 0 0 0|S w50 N 01 K 02 S w50 03 K 04 S w50 S r50 K 05| 100-105 Word address: 0004; 160-165 Read 0004: 05;
 0 0 0 0|w50 K 01 P w50 K 02 S w51 w50 K 03 S w50 K 04 P 05| 150-155 Word address: 0004;";
 
-// Traffic on a bus that is made by numbers from a generator.
-#[derive(Drop)]
-struct Traffic {
-    state: u64,
-    at: u64,
-    ghost small: { state < 2 ^ 31 },
-    ghost early: { at ≤ 2 ^ 40 },
-}
-
-impl Traffic {
-    // The next number, below `count`.
-    fn draw(&mut self, count: u64) -> u64
-        requires { 0 < count }
-    {
-        self.state = (self.state * 1_103_515_245 + 12_345) % (1 << 31);
-        self.state / 65_536 % count
-    }
-
-    // A packet that starts no earlier than those before it. An address is that of the device, of another one, or of all.
-    // A byte is mostly any, often one that a general call's reset has; the eight bits above it say nothing. An
-    // acknowledge bit is refused once in so many times.
-    fn packet(&mut self, kind: PacketKind, refused: u64) -> Packet
-        requires { 0 < refused }
-    {
-        let (a, b) = match kind {
-            PacketKind::I2cAddress => {
-                let address = match self.draw(6) {
-                    0 => 0,
-                    1 => 0x51,
-                    2 => 0x250,
-                    _ => 0x50,
-                };
-                (address, self.draw(5) / 2)
-            }
-            PacketKind::I2cData => match self.draw(4) {
-                0 => (6, 0),
-                1 => (0x106, 0),
-                _ => (self.draw(256), 0),
-            },
-            PacketKind::I2cAck => (u64::from(self.draw(refused) == 0), 0),
-            _ => (0, 0),
-        };
-        let step = self.draw(3);
-        let len = self.draw(9).min(9);
-        self.at = (self.at + step.min(3)).min(1 << 40);
-        let start = self.at;
-        Packet {
-            kind,
-            start,
-            end: start + len,
-            a,
-            b,
-        }
-    }
-
-    // Appends a phase: now and then without its START, its acknowledge or its STOP, with data before the address, or
-    // with a second address.
-    fn add_phase(&mut self, packets: &mut Vec<Packet>) -> Result<(), AllocError> {
-        if self.draw(16) != 0 {
-            packets.push(self.packet(PacketKind::I2cStart, 1))?;
-        }
-        if self.draw(12) == 0 {
-            packets.push(self.packet(PacketKind::I2cData, 1))?;
-        }
-        packets.push(self.packet(PacketKind::I2cAddress, 1))?;
-        if self.draw(12) == 0 {
-            packets.push(self.packet(PacketKind::I2cData, 1))?;
-        }
-        if self.draw(16) != 0 {
-            packets.push(self.packet(PacketKind::I2cAck, 6))?;
-        }
-        for _ in 0..self.draw(14) {
-            packets.push(self.packet(PacketKind::I2cData, 1))?;
-            packets.push(self.packet(PacketKind::I2cAck, 3))?;
-        }
-        if self.draw(10) == 0 {
-            packets.push(self.packet(PacketKind::I2cAddress, 1))?;
-            packets.push(self.packet(PacketKind::I2cAck, 3))?;
-        }
-        if self.draw(3) != 0 {
-            packets.push(self.packet(PacketKind::I2cStop, 1))?;
-        }
-        Ok(())
-    }
-}
-
 #[test]
 fn scripts_and_made_traffic(rt: HostRuntime) -> Result<(), Fail> {
     let alloc = rt.alloc();
@@ -291,7 +204,7 @@ fn scripts_and_made_traffic(rt: HostRuntime) -> Result<(), Fail> {
             page,
             gcall,
         };
-        let mut traffic = Traffic { state, at: 0 };
+        let mut traffic = Traffic::new(state, 0x50);
         let mut packets = Vec::new(alloc);
         for _ in 0..300u32 {
             traffic.add_phase(&mut packets)?;

@@ -7,7 +7,7 @@ use decoder_set::{AnyDecoder, Kind, MOST_OPTIONS, OptValues};
 use dev_eeprom24::Chip;
 use la_base::{Feed, Mark, Out, Rate, Run, Word};
 use la_io::{MarkTake, RunFeed, Stopped};
-use plain_devices::outputs_of;
+use plain_devices::eeprom_outputs_of;
 use stack_direct::run_direct;
 use std::test::Fail;
 
@@ -164,7 +164,7 @@ fn each_instance_gives_what_it_gives_alone(rt: HostRuntime) -> Result<(), Fail> 
                     page: 8,
                     resets: false,
                 };
-                outputs_of(alloc, chip, &packets)?
+                eeprom_outputs_of(alloc, chip, &packets)?
             };
             assert!(rt; outs.len() > 3);
             // notes and pieces, and at the end the end

@@ -4,7 +4,7 @@ use Rattle.la_io.proofs.Buffering.{all_handed, front_through, front_handed}
 use Rattle.capture_any.proofs.ListingLemmas.{lists_cut, lists_on}
 use Rattle.la_io.proofs.Fronts.{front_whole}
 use Rattle.find_job.proofs.Handing.{fails_through, goes_through, read_later, write_kept, front_over, cut_over}
-use Rattle.find_job.specs.Listing.{lines_of}
+use Rattle.listing_out.specs.StopLines.{lines_of}
 use Rattle.capture_any.specs.declared.end.ListingEnd.TheVariants.{Write}
 use Rattle.find_job.proofs.search.find_buffered.Goals as goal
 

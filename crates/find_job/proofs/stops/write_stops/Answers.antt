@@ -1,9 +1,7 @@
-use Rattle.std.proofs.Common.{◌≡◌, ◌+◌, ◌++◌, refl, ◌∙◌, ap, subst, List, ℕ, Option, Some, None, arith}
-use Rattle.std.specs.Io.KnownBytes.{Appends}
+use Rattle.std.proofs.Common.{◌++◌, refl, ◌∙◌, ap, subst, Option, arith}
 use Rattle.la_base.specs.Samples.{samples}
 use Rattle.la_base.specs.declared.samples.Run.{Run}
-use Rattle.la_io.specs.Causes.{AppendsFront}
-use Rattle.wait_cond.specs.Waiting.{alts_of, consumed_by, rest_len}
+use Rattle.wait_cond.specs.Waiting.{alts_of, rest_len}
 use Rattle.find_job.proofs.Going.{Going, going_starts, going_met, going_cut, going_through, going_ends}
 use Rattle.find_job.proofs.stops.write_stops.Goals as goal
 
@@ -23,8 +21,8 @@ returns-in-Err-clause-written g c = λ list stops w chain.
     let alts = alts_of c.args.waiter.now in
     let all = list ++ samples c.args.run in
     let old = k.written c.args.sink.now in
-    let line = subst (λ (l : List ℕ). AppendsFront (k.written c.loop-at.sink) (k.written c.write_whole.new.sink) l) (c.bytes.ensures ∙ c.put.ensures) c.in-Err.ensures.front in
-    going_cut alts all stops c.loop-at.waiter c.loop-at.left old (k.written c.loop-at.sink) (i.going list stops w chain) i.alts c.scan.new.self c.in-Met.at c.in-Met.value c.in-Met.met c.in-Met.rest c.in-Met.ensures.scanned (k.written c.write_whole.new.sink) line
+    let line = c.in-Err.ensures.front in
+    going_cut alts all stops c.loop-at.waiter c.loop-at.left old (k.written c.loop-at.sink) (i.going list stops w chain) i.alts c.scan.new.self c.in-Met.at c.in-Met.value c.in-Met.met c.in-Met.rest c.in-Met.ensures.scanned (k.written c.write.new.sink) line
 
 -- the stop was the last sample
 pub returns-in-None-clause-written : goal.returns-in-None-clause-written
@@ -34,8 +32,8 @@ returns-in-None-clause-written g c = λ list stops w chain.
     let alts = alts_of c.args.waiter.now in
     let all = list ++ samples c.args.run in
     let old = k.written c.args.sink.now in
-    let now = k.written c.write_whole.new.sink in
-    let line = subst (λ (l : List ℕ). Appends (k.written c.loop-at.sink) now l) (c.bytes.ensures ∙ c.put.ensures) c.in-Ok.ensures.whole in
+    let now = k.written c.write.new.sink in
+    let line = c.in-Ok.ensures.whole in
     let met = going_met alts all stops c.loop-at.waiter c.loop-at.left old (k.written c.loop-at.sink) (i.going list stops w chain) i.alts c.scan.new.self c.in-Met.at c.in-Met.value c.in-Met.met c.in-Met.rest c.in-Met.ensures.scanned now line in
     going_ends alts all stops c.scan.new.self old now (subst (λ (o : Option Run). Going alts all stops c.scan.new.self o old now) c.in-None.is met)
 
@@ -62,8 +60,8 @@ returns-then-rests-clause-written g c = λ list stops w chain.
     let alts = alts_of c.args.waiter.now in
     let all = list ++ samples c.args.run in
     let old = k.written c.args.sink.now in
-    let now = k.written c.write_whole.new.sink in
-    let line = subst (λ (l : List ℕ). Appends (k.written c.loop-at.sink) now l) (c.bytes.ensures ∙ c.put.ensures) c.in-Ok.ensures.whole in
+    let now = k.written c.write.new.sink in
+    let line = c.in-Ok.ensures.whole in
     let met = going_met alts all stops c.loop-at.waiter c.loop-at.left old (k.written c.loop-at.sink) (i.going list stops w chain) i.alts c.scan.new.self c.in-Met.at c.in-Met.value c.in-Met.met c.in-Met.rest c.in-Met.ensures.scanned now line in
     going_ends alts all stops c.pass.new.self old now
     (going_through alts all stops c.scan.new.self c.in-Some.more old now (subst (λ (o : Option Run). Going alts all stops c.scan.new.self o old now) c.in-Some.is met) (c.in-Met.ensures.alts ∙ i.alts) c.pass.new.self
@@ -91,8 +89,8 @@ loop-at-preserved g c =
           let alts = alts_of c.args.waiter.now in
           let all = list ++ samples c.args.run in
           let old = k.written c.args.sink.now in
-          let now = k.written c.write_whole.new.sink in
-          let line = subst (λ (l : List ℕ). Appends (k.written c.loop-at.sink) now l) (c.bytes.ensures ∙ c.put.ensures) c.in-Ok.ensures.whole in
+          let now = k.written c.write.new.sink in
+          let line = c.in-Ok.ensures.whole in
           let met = going_met alts all stops c.loop-at.waiter c.loop-at.left old (k.written c.loop-at.sink) (i.going list stops w chain) i.alts c.scan.new.self c.in-Met.at c.in-Met.value c.in-Met.met c.in-Met.rest c.in-Met.ensures.scanned now line in
           subst (λ (o : Option Run). Going alts all stops c.scan.new.self o old now) c.in-Some.is met;
       faults = c.in-Ok.ensures.cause.kept ∙ i.faults;
@@ -108,3 +106,9 @@ returns-in-Through-clause-written g c = λ list stops w chain.
     let old = k.written c.args.sink.now in
     let now = k.written c.loop-at.sink in
     going_ends alts all stops c.scan.new.self old now (going_through alts all stops c.loop-at.waiter c.loop-at.left old now (i.going list stops w chain) i.alts c.scan.new.self c.in-Through.ensures.scanned)
+
+pub returns-in-Err-clause-goes_on : goal.returns-in-Err-clause-goes_on
+returns-in-Err-clause-goes_on g c = g.met.K.Sink.goes_on_further _ _ _ c.loop-at.invariant.goes_on c.in-Err.ensures.goes_on
+
+pub returns-in-None-clause-goes_on : goal.returns-in-None-clause-goes_on
+returns-in-None-clause-goes_on g c = g.met.K.Sink.goes_on_further _ _ _ c.loop-at.invariant.goes_on c.in-Ok.ensures.goes_on

@@ -10,10 +10,10 @@ use Rattle.stack_direct.proofs.Fresh.{fresh, nothing_at}
 use Rattle.stack_spec.specs.Accepting.{is_shown}
 use Rattle.stack_spec.specs.Stacks.{instances_in, stack_meaning}
 use Rattle.stack_spec.specs.declared.stack.Stack.{Stack}
-use Rattle.ldecode.specs.Feeding.{Gathered, Keeps}
-use Rattle.ldecode.proofs.Collecting.{all_gathered, machines_stand}
+use Rattle.ldecode.specs.Feeding.{Gathers, Kept}
+use Rattle.ldecode.proofs.Collecting.{all_kept, machines_stand}
 use Rattle.ldecode.proofs.FeedLemmas.{closed_at_end, feed_cause, feed_failed, feed_stopped, feed_whole}
-use Rattle.ldecode.proofs.TakerLemmas.{keeps_none}
+use Rattle.ldecode.proofs.TakerLemmas.{kept_none}
 use Rattle.ldecode.proofs.decode.run_tree.Goals as goal
 
 pub returns-in-Ended-clause-gathers : goal.returns-in-Ended-clause-gathers
@@ -25,7 +25,8 @@ returns-in-Ended-clause-gathers g c = λ before told at stands new.
     let setups = map m.setup ms in
     let first = c.args.capture.now in
     let taker = c.args.notes.now in
-    let shown = is_shown (stack_meaning taker.stack.now).shown in
+    let accepted = stack_meaning taker.stack.now in
+    let shown = is_shown accepted.shown in
     let run = c.in-Ended.ensures in
     let feed = c.run_direct-ran.new.feed in
     let taken = c.run_direct-ran.new.take in
@@ -37,12 +38,12 @@ returns-in-Ended-clause-gathers g c = λ before told at stands new.
     let count : length setups ≡ length parents = length-map ms m.setup ∙ c.requires.each in
     let nothing : (j : ℕ) → j < length parents → GivesNothing (whole_of m.outputs setups j) = λ j within. nothing_at m.setup m.outputs g.met.M.Machine.nothing ms j (omega (arith, within, c.requires.each)) in
     let stand = fresh m.outputs setups parents c.requires.forest count nothing (Stand m.consumed ms) (λ j within. machines_stand m.consumed ms new j (omega (arith, within, c.requires.each))) in
-    let kept = run.runs.took (λ _. []) run.runs.marks (λ never. keeps_none shown (length (instances_in taker.stack.now)) taker.entries.items (λ _. []) c.requires.empty (λ i. refl)) (λ j. refl) (run.ended refl ∙ c.requires.never) in
-    let keeps : Keeps shown (length parents) taken.entries.items run.runs.marks =
-    subst (λ (n : ℕ). Keeps shown n taken.entries.items run.runs.marks) c.requires.instances
-    (subst (λ (s : Bor Stack). Keeps (is_shown (stack_meaning s.now).shown) (length (instances_in s.now)) taken.entries.items run.runs.marks) run.take_origin kept) in
-    let gathered = all_gathered m.outputs setups parents c.requires.forest count nothing shown _ samples taken.entries.items run.runs.marks keeps (run.runs.told [] stand) in
-    let Whole : List ℕ → Type 0 = Gathered m.outputs (nodes_of setups parents) shown taken.entries.items in
+    let kept = run.runs.took (λ _. []) run.runs.marks (λ never. kept_none shown (length (instances_in taker.stack.now)) taker.entries.items taker.bytes.items accepted.binary (λ _. []) c.requires.empty c.requires.no_bytes (λ i. refl)) (λ j. refl) (run.ended refl ∙ c.requires.never) in
+    let keeps : Kept accepted.binary shown (length parents) taken.entries.items taken.bytes.items run.runs.marks =
+    subst (λ (n : ℕ). Kept accepted.binary shown n taken.entries.items taken.bytes.items run.runs.marks) c.requires.instances
+    (subst (λ (s : Bor Stack). Kept (stack_meaning s.now).binary (is_shown (stack_meaning s.now).shown) (length (instances_in s.now)) taken.entries.items taken.bytes.items run.runs.marks) run.take_origin kept) in
+    let gathered = all_kept m.outputs setups parents c.requires.forest count nothing shown accepted.binary c.requires.wanted _ samples taken.entries.items taken.bytes.items run.runs.marks keeps (run.runs.told [] stand) in
+    let Whole : List ℕ → Type 0 = Gathers m.outputs (nodes_of setups parents) accepted taken.entries.items taken.bytes.items in
     lists_on (form_of first) (pins_of first) (λ settled. settled ≡ samples) (λ _. Unit {0}) before told (left c.args.source.now) (left feed.source.now) (λ _. Unit {0}) (λ _ _. tt) Whole
     (λ given is. subst Whole (sym is) gathered) feed.end
     (feed_whole left g.S.Source.faults feed run.runs.runs gave first capture c.args.source.now source feed.source.now refl closed before told at stands)
@@ -75,7 +76,7 @@ returns-clause-gathers g c = λ before told at stands new.
     let capture = ap (λ o. o.0.value.now) run.feed_origin ∙ c.new-feed.ensures.capture in
     let source = ap (λ o. o.1.value.now) run.feed_origin ∙ c.new-feed.ensures.source in
     feed_stopped g.S.Source.left g.S.Source.faults feed run.runs.runs gave c.args.capture.now capture c.args.source.now source feed.source.now refl
-    (Gathered m.outputs (nodes_of (map m.setup c.args.machines.now) c.args.parents.now) (is_shown (stack_meaning c.args.notes.now.stack.now).shown) c.run_direct-ran.new.take.entries.items) before told at stands
+    (Gathers m.outputs (nodes_of (map m.setup c.args.machines.now) c.args.parents.now) (stack_meaning c.args.notes.now.stack.now) c.run_direct-ran.new.take.entries.items c.run_direct-ran.new.take.bytes.items) before told at stands
 
 pub returns-clause-read : goal.returns-clause-read
 returns-clause-read g c =

@@ -2,7 +2,6 @@ use Rattle.std.proofs.Common.{ℕ, List, map, Option, ap, inr, sym, ◌∙◌, s
 use Rattle.la_base.specs.declared.samples.TheConstants.{MOST_PINS}
 use Rattle.la_base.specs.declared.samples.Rate.{Rate}
 use Rattle.capture_any.specs.Reading.{form_of, names_of, pins_of, rate_of}
-use Rattle.stack_spec.specs.Accepting.{is_shown}
 use Rattle.stack_spec.specs.BindSteps.{Binds}
 use Rattle.stack_spec.specs.Stacks.{stack_meaning}
 use Rattle.stack_spec.specs.declared.faults.BindFault.{BindFault}
@@ -19,7 +18,7 @@ use Rattle.decoder_set.specs.Setups.{outs_of}
 use Rattle.stack_direct.specs.Passing.{IsForest}
 use Rattle.stack_direct.specs.Runs.{nodes_of as tree_nodes}
 use Rattle.decoder_set.specs.declared.setup.Setup.{Setup}
-use Rattle.ldecode.specs.Decoding.{tree_listing}
+use Rattle.ldecode.specs.Decoding.{tree_output}
 use Rattle.ldecode.specs.Headline.{WorksOn}
 use Rattle.ldecode.specs.declared.status.Status.{Status}
 use Rattle.ldecode.specs.declared.status.Status.TheVariants.{Bind}
@@ -34,7 +33,7 @@ pub returns-in-Err-clause-works : goal.returns-in-Err-clause-works
 returns-in-Err-clause-works g c =
     let values = meaning_of c.args.settings.now in
     let accepted = stack_meaning c.in-Ok.stack in
-    let stacks = the_stack c.args.settings.now c.deref.result.now c.as_ref.result c.in-Ok.stack c.requires.job c.deref.ensures.value c.as_ref.ensures.value c.in-Ok.ensures.gives in
+    let stacks = the_stack c.args.settings.now c.deref.result.now c.as_ref.result c.as_ref-2.result c.in-Ok.stack c.requires.job c.deref.ensures.value c.as_ref.ensures.value c.as_ref-2.ensures.value c.in-Ok.ensures.gives in
     subst (λ (s : Status). WorksOn values (g.S.Source.left c.args.source.now) (g.S.Source.left c.open.new.source) (g.K.Sink.written c.args.sink.now) (g.K.Sink.written c.args.sink.now) s) (sym c.status_at_head.ensures)
     (opening_fails values c.form_of.result c.form_of.ensures.named (inr (accepted, stacks)) _ _ _ c.in-Err.error c.in-Err.ensures.opens)
 
@@ -43,7 +42,7 @@ returns-in-Err-Fault-bind-clause-works g c =
     let values = meaning_of c.args.settings.now in
     let capture = c.in-Ok-open.capture in
     let accepted = stack_meaning c.in-Ok.stack in
-    let stacks = the_stack c.args.settings.now c.deref.result.now c.as_ref.result c.in-Ok.stack c.requires.job c.deref.ensures.value c.as_ref.ensures.value c.in-Ok.ensures.gives in
+    let stacks = the_stack c.args.settings.now c.deref.result.now c.as_ref.result c.as_ref-2.result c.in-Ok.stack c.requires.job c.deref.ensures.value c.as_ref.ensures.value c.as_ref-2.ensures.value c.in-Ok.ensures.gives in
     let fault = c.in-Err-Fault-bind.fault in
     let refused = subst (λ (n : List (List ℕ)). Binds MOST_PINS n (rate_of capture) accepted.instances (Err (Fault fault))) c.names.ensures
     (subst (λ (r : Rate). Binds MOST_PINS c.names.result.now r accepted.instances (Err (Fault fault))) c.rate.ensures
@@ -58,18 +57,17 @@ returns-clause-works g c =
     let opens = c.in-Ok-open.ensures.opens in
     let now = c.select.new.self in
     let accepted = stack_meaning c.in-Ok.stack in
-    let stacks = the_stack c.args.settings.now c.deref.result.now c.as_ref.result c.in-Ok.stack c.requires.job c.deref.ensures.value c.as_ref.ensures.value c.in-Ok.ensures.gives in
+    let stacks = the_stack c.args.settings.now c.deref.result.now c.as_ref.result c.as_ref-2.result c.in-Ok.stack c.requires.job c.deref.ensures.value c.as_ref.ensures.value c.as_ref-2.ensures.value c.in-Ok.ensures.gives in
     let bound = c.in-Ok-bind.bound in
     let is_bound = subst (λ (n : List (List ℕ)). Binds MOST_PINS n (rate_of capture) accepted.instances (Ok bound)) c.names.ensures
     (subst (λ (r : Rate). Binds MOST_PINS c.names.result.now r accepted.instances (Ok bound)) c.rate.ensures c.in-Ok-bind.ensures.binds) in
     let nodes = nodes_of accepted.instances is_bound.read in
-    let shown = is_shown accepted.shown in
     let old = g.K.Sink.written c.args.sink.now in
     let new = g.K.Sink.written c.decode.new.sink in
     let left = g.S.Source.left in
     let asks = stack_asks values (names_of capture) (rate_of capture) accepted stacks bound.pins.items is_bound.read is_bound.reads is_bound.pins in
     let lists = c.decode.ensures.lists opens.bytes opens.opened.0 opens.opened.1 (c.select.ensures.stands opens.bytes opens.opened.0 opens.opened.2) is_bound.consumed in
-    let lists_of = λ (some : List (Node Setup)). Lists (form_of now) (pins_of now) (λ samples. Appends old new (tree_listing outs_of accepted.instances shown some samples)) (λ samples. AppendsFront old new (tree_listing outs_of accepted.instances shown some samples)) opens.bytes opens.opened.0 (left c.open.new.source) (left c.decode.new.source) c.decode.result in
+    let lists_of = λ (some : List (Node Setup)). Lists (form_of now) (pins_of now) (λ samples. Appends old new (tree_output outs_of accepted some samples)) (λ samples. AppendsFront old new (tree_output outs_of accepted some samples)) opens.bytes opens.opened.0 (left c.open.new.source) (left c.decode.new.source) c.decode.result in
     let named = subst lists_of (ap (λ (l : List (Option ℕ)). tree_nodes (map setup_of bound.machines.items) l) c.deref-2.ensures.value ∙ bound_nodes (names_of capture) (rate_of capture) accepted.instances bound is_bound) lists in
     subst (λ (status : Status). WorksOn values (left c.args.source.now) (left c.decode.new.source) old new status) (sym c.from.ensures)
     (decoding_ends values c.form_of.result c.form_of.ensures.named (inr (accepted, stacks)) (left c.args.source.now) (left c.open.new.source) old capture opens now bound.pins.items

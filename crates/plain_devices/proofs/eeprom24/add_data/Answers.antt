@@ -1,6 +1,7 @@
 use Rattle.std.proofs.Common.{◌∙◌, ◌<◌, [], ◌∷◌, ◌++◌, List, length, ap, arith}
 use Rattle.la_base.specs.declared.wires.Out.{Out}
-use Rattle.dev_eeprom24.specs.Eeprom.{byte_note, write_outs}
+use Rattle.i2c_phases.specs.Bytes.{byte_note}
+use Rattle.dev_eeprom24.specs.Eeprom.{write_outs}
 use Rattle.plain_devices.proofs.Rounds.{bytes_round}
 use Rattle.plain_devices.proofs.eeprom24.add_data.Goals as goal
 

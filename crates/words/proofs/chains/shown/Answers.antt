@@ -1,19 +1,15 @@
-use Rattle.std.proofs.Common.{◌≡◌, Some, None, false, find, sym, rules, ap, codes, ◌∙◌}
-use Rattle.std.specs.Str.{bytes_eq}
+use Rattle.std.proofs.Common.{◌≡◌, Option, map, option_map, sym, subst, rules}
+use Rattle.std.specs.Result.{IfOk}
+use Rattle.text_parts.specs.Chains.{WordText, chain_of}
 use Rattle.words.specs.Given.{used_of}
-use Rattle.words.specs.Uses.{is_of}
+use Rattle.words.specs.Settings.{use_of}
 use Rattle.words.specs.declared.options.Name.TheVariants as name
-use Rattle.words.proofs.Kept.{found_used, shown_none, shown_some}
+use Rattle.words.proofs.Kept.{shown_all, shown_some}
 use Rattle.words.proofs.chains.shown.Goals as goal
 
-pub returns-in_default : goal.returns-in_default
-returns-in_default c =
-    let none : None ≡ find (λ g. is_of name.Show g.name) c.args.uses.now = search rules in
-    sym (shown_none c.args.uses.now none)
+pub returns-then-eq : goal.returns-then-eq
+returns-then-eq c = sym (shown_all c.args.text.now (use_of name.Show (map used_of c.args.uses.now)) c.requires (search rules))
 
 pub returns : goal.returns
-returns c =
-    let found : Some c.in-Some.given.now ≡ find (λ g. is_of name.Show g.name) c.args.uses.now = search rules in
-    let is : c.args.text.now ≡ c.in-Some.given.now.text.now = c.requires (used_of c.in-Some.given.now) (found_used c.args.uses.now c.in-Some.given.now found) in
-    let other : bytes_eq c.args.text.now (codes "all") ≡ false = search rules in
-    ap (λ w. Some w) c.in_ok-chain_word.ensures ∙ sym (shown_some c.args.uses.now c.in-Some.given.now c.args.text.now found is other)
+returns c = subst (λ (asked : Option WordText). IfOk c.given_value.result (λ o. option_map chain_of o ≡ asked))
+    (sym (shown_some c.args.text.now (use_of name.Show (map used_of c.args.uses.now)) c.requires (search rules))) c.given_value.ensures

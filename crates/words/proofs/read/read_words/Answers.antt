@@ -5,8 +5,8 @@ use Rattle.text_parts.specs.Chains.{chain_of}
 use Rattle.words.specs.Given.{used_of}
 use Rattle.words.specs.Settings.{Values, fault_behind, unless_all, use_of, word_text}
 use Rattle.words.specs.Uses.{chains_of}
-use Rattle.words.specs.declared.options.Name.TheVariants.{Show}
-use Rattle.words.proofs.KeptRules.{are_good, chains_fit, shown_fits}
+use Rattle.words.specs.declared.options.Name.TheVariants.{Binary, Show}
+use Rattle.words.proofs.KeptRules.{are_good, chains_fit, shown_fits, value_fits}
 use Rattle.words.proofs.ReadableLemmas.{readable}
 use Rattle.words.proofs.read.read_words.Goals as goal
 
@@ -33,3 +33,9 @@ returns-in-Ok-None-clause-shown c =
     let same : option_map chain_of c.in-Ok-settings.settings.show ≡ option_and_then unless_all (use_of Show (map used_of c.in-Ok.uses.items)) =
     ap (λ (v : Values). v.show) c.in-Ok-settings.ensures ∙ ap (λ gs. option_and_then unless_all (use_of Show (map used_of gs))) c.deref.ensures.value in
     shown_fits (map string_bytes c.args.words.now) (map used_of c.in-Ok.uses.items) c.in-Ok.ensures.reads c.in-Ok-settings.settings.show same
+
+pub returns-in-Ok-None-clause-binary : goal.returns-in-Ok-None-clause-binary
+returns-in-Ok-None-clause-binary c =
+    let same : option_map chain_of c.in-Ok-settings.settings.binary ≡ option_map word_text (use_of Binary (map used_of c.in-Ok.uses.items)) =
+    ap (λ (v : Values). v.binary) c.in-Ok-settings.ensures ∙ ap (λ gs. option_map word_text (use_of Binary (map used_of gs))) c.deref.ensures.value in
+    value_fits (map string_bytes c.args.words.now) (map used_of c.in-Ok.uses.items) c.in-Ok.ensures.reads Binary c.in-Ok-settings.settings.binary same

@@ -1,10 +1,60 @@
 use Rattle.std.proofs.Common.{rules}
-use Rattle.decoder_set.proofs.Eeproms.{eeprom_floor}
-use Rattle.decoder_set.proofs.Nets.{net_floor}
+use Rattle.la_base.specs.declared.wires.Wire.TheVariants as wire
+use Rattle.decoder_core.specs.Packets.{counted_packets}
+use Rattle.dec_onewire.specs.Net.{net_outs}
+use Rattle.dev_ds18b20.specs.Held as probe
+use Rattle.dev_ds18b20.specs.Probe.{probe_outs}
+use Rattle.dev_ds1307.specs.Opening as clock
+use Rattle.dev_eeprom24.specs.Opening as eeprom
+use Rattle.dev_flash25.specs.Flash.{flash_outs}
+use Rattle.dev_flash25.specs.Held as flash
+use Rattle.dev_lm75.specs.Opening as lm75
+use Rattle.dec_onewire.specs.Opening as onewire
+use Rattle.decoder_set.specs.declared.any.AnyMachine.TheVariants as machine
+use Rattle.decoder_set.specs.Opening.{IsAny, IsClock, IsEeprom, IsLm75}
+use Rattle.decoder_set.specs.Options.{clock_options, eeprom_options, lm75_options}
+use Rattle.decoder_set.proofs.KindLemmas.{clock_gives, clock_outs_are, eeprom_gives, eeprom_outs_are, flash_outs_are, lm75_gives, lm75_outs_are, net_outs_are, probe_outs_are}
+use Rattle.decoder_set.proofs.Following.{floor_followed}
 use Rattle.decoder_set.proofs.machine.AnyDecoderMachine.floor.Goals as goal
 
 pub returns-in-Eeprom24-clause-floor : goal.returns-in-Eeprom24-clause-floor
-returns-in-Eeprom24-clause-floor c = eeprom_floor c.args.self.now.setup c.args.self.now.machine c.in-Eeprom24.follower (search rules) c.floor-in-Eeprom24.result c.floor-in-Eeprom24.ensures.floor
+returns-in-Eeprom24-clause-floor c =
+    let s = c.args.self.now.setup in
+    let f = c.in-Eeprom24.follower in
+    let e = c.floor-in-Eeprom24 in
+    floor_followed s machine.Eeprom24 eeprom.StandsFor wire.I2c (IsEeprom (eeprom_options s.values.given)) (λ follower input has. has) c.args.self.now.machine f (search rules) (eeprom_gives (eeprom.chip_in f.machine)) (eeprom_outs_are s f.machine) e.result e.ensures.floor
+
+pub returns-in-Ds1307-clause-floor : goal.returns-in-Ds1307-clause-floor
+returns-in-Ds1307-clause-floor c =
+    let s = c.args.self.now.setup in
+    let f = c.in-Ds1307.follower in
+    let e = c.floor-in-Ds1307 in
+    floor_followed s machine.Ds1307 clock.StandsFor wire.I2c (IsClock (clock_options s.values.given)) (λ follower input has. has) c.args.self.now.machine f (search rules) (clock_gives (clock.chip_in f.machine)) (clock_outs_are s f.machine) e.result e.ensures.floor
+
+pub returns-in-Lm75-clause-floor : goal.returns-in-Lm75-clause-floor
+returns-in-Lm75-clause-floor c =
+    let s = c.args.self.now.setup in
+    let f = c.in-Lm75.follower in
+    let e = c.floor-in-Lm75 in
+    floor_followed s machine.Lm75 lm75.StandsFor wire.I2c (IsLm75 (lm75_options s.values.given)) (λ follower input has. has) c.args.self.now.machine f (search rules) (lm75_gives (lm75.chip_in f.machine)) (lm75_outs_are s f.machine) e.result e.ensures.floor
 
 pub returns-in-OwNet-clause-floor : goal.returns-in-OwNet-clause-floor
-returns-in-OwNet-clause-floor c = net_floor c.args.self.now.setup c.args.self.now.machine c.in-OwNet.follower (search rules) c.floor-in-OwNet.result c.floor-in-OwNet.ensures.floor
+returns-in-OwNet-clause-floor c =
+    let s = c.args.self.now.setup in
+    let f = c.in-OwNet.follower in
+    let e = c.floor-in-OwNet in
+    floor_followed s machine.OwNet onewire.NetStandsFor wire.OwLink IsAny (λ follower input has. has) c.args.self.now.machine f (search rules) (λ input. net_outs (counted_packets wire.OwLink input)) (λ is own. net_outs_are s is) e.result e.ensures.floor
+
+pub returns-in-Ds18b20-clause-floor : goal.returns-in-Ds18b20-clause-floor
+returns-in-Ds18b20-clause-floor c =
+    let s = c.args.self.now.setup in
+    let f = c.in-Ds18b20.follower in
+    let e = c.floor-in-Ds18b20 in
+    floor_followed s machine.Ds18b20 probe.StandsFor wire.OwNet IsAny (λ follower input has. has) c.args.self.now.machine f (search rules) (λ input. probe_outs (counted_packets wire.OwNet input)) (λ is own. probe_outs_are s is) e.result e.ensures.floor
+
+pub returns-in-Flash25-clause-floor : goal.returns-in-Flash25-clause-floor
+returns-in-Flash25-clause-floor c =
+    let s = c.args.self.now.setup in
+    let f = c.in-Flash25.follower in
+    let e = c.floor-in-Flash25 in
+    floor_followed s machine.Flash25 flash.StandsFor wire.Spi IsAny (λ follower input has. has) c.args.self.now.machine f (search rules) (λ input. flash_outs (counted_packets wire.Spi input)) (λ is own. flash_outs_are s is) e.result e.ensures.floor

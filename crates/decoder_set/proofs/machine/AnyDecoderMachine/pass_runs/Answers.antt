@@ -1,5 +1,18 @@
 use Rattle.std.proofs.Common.{◌≡◌, sym, subst, take, rules}
 use Rattle.la_base.specs.Runs.{samples_of}
+use Rattle.la_base.specs.declared.wires.Wire.TheVariants as wire
+use Rattle.decoder_core.specs.Packets.{counted_packets}
+use Rattle.dec_onewire.specs.Net.{net_outs}
+use Rattle.dev_ds18b20.specs.Held as probe
+use Rattle.dev_ds18b20.specs.Probe.{probe_outs}
+use Rattle.dev_ds1307.specs.Opening as clock
+use Rattle.dev_ds1307.specs.declared.chip.Chip.{Chip as ClockChip}
+use Rattle.dev_eeprom24.specs.Opening as eeprom
+use Rattle.dev_eeprom24.specs.declared.chip.Chip.{Chip}
+use Rattle.dev_flash25.specs.Flash.{flash_outs}
+use Rattle.dev_flash25.specs.Held as flash
+use Rattle.dev_lm75.specs.Opening as lm75
+use Rattle.dev_lm75.specs.declared.chip.Chip.{Chip as Lm75Chip}
 use Rattle.dec_i2c.specs.Opening as i2c
 use Rattle.dec_i2c.specs.Bus.{i2c_outs}
 use Rattle.dec_i2c.specs.declared.held.Bus.{Bus}
@@ -13,12 +26,11 @@ use Rattle.dec_uart.specs.Opening as uart
 use Rattle.dec_uart.specs.Frames.{uart_outs}
 use Rattle.dec_uart.specs.declared.held.Line.{Line}
 use Rattle.decoder_set.specs.declared.any.AnyMachine.TheVariants as machine
-use Rattle.decoder_set.specs.Opening.{IsI2c, IsLink, IsSpi, IsUart, i2c_alts_of}
-use Rattle.decoder_set.specs.Options.{i2c_options, link_options, spi_options, uart_options}
-use Rattle.decoder_set.proofs.Eeproms.{eeprom_passes}
+use Rattle.decoder_set.specs.Opening.{IsAny, IsClock, IsEeprom, IsI2c, IsLink, IsLm75, IsSpi, IsUart, i2c_alts_of}
+use Rattle.decoder_set.specs.Options.{clock_options, eeprom_options, i2c_options, link_options, lm75_options, spi_options, uart_options}
 use Rattle.decoder_set.proofs.Handing.{passes_by}
-use Rattle.decoder_set.proofs.KindLemmas.{i2c_outs_are, link_outs_are, spi_outs_are, uart_outs_are}
-use Rattle.decoder_set.proofs.Nets.{net_passes}
+use Rattle.decoder_set.proofs.KindLemmas.{clock_gives, clock_outs_are, eeprom_gives, eeprom_outs_are, flash_outs_are, i2c_outs_are, link_outs_are, lm75_gives, lm75_outs_are, net_outs_are, probe_outs_are, spi_outs_are, uart_outs_are}
+use Rattle.decoder_set.proofs.Following.{passes_followed}
 use Rattle.decoder_set.proofs.machine.AnyDecoderMachine.pass_runs.Goals as goal
 
 pub returns-in-I2c-clause-passes : goal.returns-in-I2c-clause-passes
@@ -45,11 +57,6 @@ returns-in-Uart-clause-passes c =
     (uart_outs (uart.line_of driver.machine).opts (uart.line_of driver.machine).rate) (uart_outs_are s driver.machine) c.pass_runs-in-Uart.new.self (samples_of (take c.pass_runs-in-Uart.result c.args.runs.now))
     (λ input is own drives. (is, record { own = (subst (λ (l : Line). (l.opts ≡ uart_options s.values.given) × (l.rate ≡ s.rate)) (sym c.pass_runs-in-Uart.ensures.setup) own); drives = drives })) c.pass_runs-in-Uart.ensures.passes
 
-pub returns-in-Eeprom24-clause-passes : goal.returns-in-Eeprom24-clause-passes
-returns-in-Eeprom24-clause-passes c =
-    let e = c.pass_runs-in-Eeprom24 in
-    eeprom_passes c.args.self.now.setup c.args.self.now.machine c.in-Eeprom24.follower (search rules) e.new.self (samples_of (take e.result c.args.runs.now)) e.ensures.setup e.ensures.passes
-
 pub returns-in-OwLink-clause-passes : goal.returns-in-OwLink-clause-passes
 returns-in-OwLink-clause-passes c =
     let s = c.args.self.now.setup in
@@ -58,7 +65,50 @@ returns-in-OwLink-clause-passes c =
     (link_outs (onewire.line_of driver.machine).opts (onewire.line_of driver.machine).rate) (link_outs_are s driver.machine) c.pass_runs-in-OwLink.new.self (samples_of (take c.pass_runs-in-OwLink.result c.args.runs.now))
     (λ input is own drives. (is, record { own = (subst (λ (l : DqLine). (l.opts ≡ link_options s.values.given) × (l.rate ≡ s.rate)) (sym c.pass_runs-in-OwLink.ensures.setup) own); drives = drives })) c.pass_runs-in-OwLink.ensures.passes
 
+pub returns-in-Eeprom24-clause-passes : goal.returns-in-Eeprom24-clause-passes
+returns-in-Eeprom24-clause-passes c =
+    let s = c.args.self.now.setup in
+    let f = c.in-Eeprom24.follower in
+    let e = c.pass_runs-in-Eeprom24 in
+    passes_followed s machine.Eeprom24 eeprom.StandsFor wire.I2c (IsEeprom (eeprom_options s.values.given)) (λ follower input has. has) c.args.self.now.machine f (search rules) (eeprom_gives (eeprom.chip_in f.machine)) (eeprom_outs_are s f.machine) e.new.self (samples_of (take e.result c.args.runs.now))
+    (λ input is own follows. (is, record { own = subst (λ (o : Chip). o ≡ eeprom.chip_by (eeprom_options s.values.given)) (sym e.ensures.setup) own; follows = follows })) e.ensures.passes
+
+pub returns-in-Ds1307-clause-passes : goal.returns-in-Ds1307-clause-passes
+returns-in-Ds1307-clause-passes c =
+    let s = c.args.self.now.setup in
+    let f = c.in-Ds1307.follower in
+    let e = c.pass_runs-in-Ds1307 in
+    passes_followed s machine.Ds1307 clock.StandsFor wire.I2c (IsClock (clock_options s.values.given)) (λ follower input has. has) c.args.self.now.machine f (search rules) (clock_gives (clock.chip_in f.machine)) (clock_outs_are s f.machine) e.new.self (samples_of (take e.result c.args.runs.now))
+    (λ input is own follows. (is, record { own = subst (λ (o : ClockChip). o ≡ clock.chip_by (clock_options s.values.given)) (sym e.ensures.setup) own; follows = follows })) e.ensures.passes
+
+pub returns-in-Lm75-clause-passes : goal.returns-in-Lm75-clause-passes
+returns-in-Lm75-clause-passes c =
+    let s = c.args.self.now.setup in
+    let f = c.in-Lm75.follower in
+    let e = c.pass_runs-in-Lm75 in
+    passes_followed s machine.Lm75 lm75.StandsFor wire.I2c (IsLm75 (lm75_options s.values.given)) (λ follower input has. has) c.args.self.now.machine f (search rules) (lm75_gives (lm75.chip_in f.machine)) (lm75_outs_are s f.machine) e.new.self (samples_of (take e.result c.args.runs.now))
+    (λ input is own follows. (is, record { own = subst (λ (o : Lm75Chip). o ≡ lm75.chip_by (lm75_options s.values.given)) (sym e.ensures.setup) own; follows = follows })) e.ensures.passes
+
 pub returns-in-OwNet-clause-passes : goal.returns-in-OwNet-clause-passes
 returns-in-OwNet-clause-passes c =
+    let s = c.args.self.now.setup in
+    let f = c.in-OwNet.follower in
     let e = c.pass_runs-in-OwNet in
-    net_passes c.args.self.now.setup c.args.self.now.machine c.in-OwNet.follower (search rules) e.new.self (samples_of (take e.result c.args.runs.now)) e.ensures.passes
+    passes_followed s machine.OwNet onewire.NetStandsFor wire.OwLink IsAny (λ follower input has. has) c.args.self.now.machine f (search rules) (λ input. net_outs (counted_packets wire.OwLink input)) (λ is own. net_outs_are s is) e.new.self (samples_of (take e.result c.args.runs.now))
+    (λ input is own follows. (is, record { own = own; follows = follows })) e.ensures.passes
+
+pub returns-in-Ds18b20-clause-passes : goal.returns-in-Ds18b20-clause-passes
+returns-in-Ds18b20-clause-passes c =
+    let s = c.args.self.now.setup in
+    let f = c.in-Ds18b20.follower in
+    let e = c.pass_runs-in-Ds18b20 in
+    passes_followed s machine.Ds18b20 probe.StandsFor wire.OwNet IsAny (λ follower input has. has) c.args.self.now.machine f (search rules) (λ input. probe_outs (counted_packets wire.OwNet input)) (λ is own. probe_outs_are s is) e.new.self (samples_of (take e.result c.args.runs.now))
+    (λ input is own follows. (is, record { own = own; follows = follows })) e.ensures.passes
+
+pub returns-in-Flash25-clause-passes : goal.returns-in-Flash25-clause-passes
+returns-in-Flash25-clause-passes c =
+    let s = c.args.self.now.setup in
+    let f = c.in-Flash25.follower in
+    let e = c.pass_runs-in-Flash25 in
+    passes_followed s machine.Flash25 flash.StandsFor wire.Spi IsAny (λ follower input has. has) c.args.self.now.machine f (search rules) (λ input. flash_outs (counted_packets wire.Spi input)) (λ is own. flash_outs_are s is) e.new.self (samples_of (take e.result c.args.runs.now))
+    (λ input is own follows. (is, record { own = own; follows = follows })) e.ensures.passes

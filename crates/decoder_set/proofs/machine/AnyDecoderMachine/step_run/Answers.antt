@@ -1,6 +1,19 @@
 use Rattle.std.proofs.Common.{◌≡◌, sym, subst, rules}
 use Rattle.la_base.specs.declared.wires.Feed.TheVariants.{Run as RunFeed}
 use Rattle.decoder_core.specs.Inputs.{left_feed}
+use Rattle.la_base.specs.declared.wires.Wire.TheVariants as wire
+use Rattle.decoder_core.specs.Packets.{counted_packets}
+use Rattle.dec_onewire.specs.Net.{net_outs}
+use Rattle.dev_ds18b20.specs.Held as probe
+use Rattle.dev_ds18b20.specs.Probe.{probe_outs}
+use Rattle.dev_ds1307.specs.Opening as clock
+use Rattle.dev_ds1307.specs.declared.chip.Chip.{Chip as ClockChip}
+use Rattle.dev_eeprom24.specs.Opening as eeprom
+use Rattle.dev_eeprom24.specs.declared.chip.Chip.{Chip}
+use Rattle.dev_flash25.specs.Flash.{flash_outs}
+use Rattle.dev_flash25.specs.Held as flash
+use Rattle.dev_lm75.specs.Opening as lm75
+use Rattle.dev_lm75.specs.declared.chip.Chip.{Chip as Lm75Chip}
 use Rattle.dec_i2c.specs.Opening as i2c
 use Rattle.dec_i2c.specs.Bus.{i2c_outs}
 use Rattle.dec_i2c.specs.declared.held.Bus.{Bus}
@@ -14,12 +27,11 @@ use Rattle.dec_uart.specs.Opening as uart
 use Rattle.dec_uart.specs.Frames.{uart_outs}
 use Rattle.dec_uart.specs.declared.held.Line.{Line}
 use Rattle.decoder_set.specs.declared.any.AnyMachine.TheVariants as machine
-use Rattle.decoder_set.specs.Opening.{IsI2c, IsLink, IsSpi, IsUart, i2c_alts_of}
-use Rattle.decoder_set.specs.Options.{i2c_options, link_options, spi_options, uart_options}
-use Rattle.decoder_set.proofs.Eeproms.{eeprom_steps}
+use Rattle.decoder_set.specs.Opening.{IsAny, IsClock, IsEeprom, IsI2c, IsLink, IsLm75, IsSpi, IsUart, i2c_alts_of}
+use Rattle.decoder_set.specs.Options.{clock_options, eeprom_options, i2c_options, link_options, lm75_options, spi_options, uart_options}
 use Rattle.decoder_set.proofs.Handing.{steps_by, reaches_by}
-use Rattle.decoder_set.proofs.KindLemmas.{i2c_outs_are, link_outs_are, spi_outs_are, uart_outs_are}
-use Rattle.decoder_set.proofs.Nets.{net_steps}
+use Rattle.decoder_set.proofs.KindLemmas.{clock_gives, clock_outs_are, eeprom_gives, eeprom_outs_are, flash_outs_are, i2c_outs_are, link_outs_are, lm75_gives, lm75_outs_are, net_outs_are, probe_outs_are, spi_outs_are, uart_outs_are}
+use Rattle.decoder_set.proofs.Following.{steps_followed}
 use Rattle.decoder_set.proofs.machine.AnyDecoderMachine.step_run.Goals as goal
 
 pub returns-in-I2c-clause-step : goal.returns-in-I2c-clause-step
@@ -64,11 +76,6 @@ returns-in-Uart-clause-stops c =
     reaches_by s machine.Uart uart.StandsFor uart.alts_of (IsUart (uart_options s.values.given) s.rate) (λ driver input has. has) c.args.self.now.machine c.in-Uart.driver (search rules) (RunFeed c.args.run) (left_feed c.step_run-in-Uart.result)
     (λ input more rests. rests) c.step_run-in-Uart.ensures.stops
 
-pub returns-in-Eeprom24-clause-step : goal.returns-in-Eeprom24-clause-step
-returns-in-Eeprom24-clause-step c =
-    let e = c.step_run-in-Eeprom24 in
-    eeprom_steps c.args.self.now.setup c.args.self.now.machine c.in-Eeprom24.follower (search rules) e.new.self (RunFeed c.args.run) (left_feed e.result) e.new._into e.ensures.setup e.ensures.step
-
 pub returns-in-OwLink-clause-step : goal.returns-in-OwLink-clause-step
 returns-in-OwLink-clause-step c =
     let s = c.args.self.now.setup in
@@ -83,7 +90,50 @@ returns-in-OwLink-clause-stops c =
     reaches_by s machine.OwLink onewire.StandsFor onewire.alts_of (IsLink (link_options s.values.given) s.rate) (λ driver input has. has) c.args.self.now.machine c.in-OwLink.driver (search rules) (RunFeed c.args.run) (left_feed c.step_run-in-OwLink.result)
     (λ input more rests. rests) c.step_run-in-OwLink.ensures.stops
 
+pub returns-in-Eeprom24-clause-step : goal.returns-in-Eeprom24-clause-step
+returns-in-Eeprom24-clause-step c =
+    let s = c.args.self.now.setup in
+    let f = c.in-Eeprom24.follower in
+    let e = c.step_run-in-Eeprom24 in
+    steps_followed s machine.Eeprom24 eeprom.StandsFor wire.I2c (IsEeprom (eeprom_options s.values.given)) (λ follower input has. has) c.args.self.now.machine f (search rules) (eeprom_gives (eeprom.chip_in f.machine)) (eeprom_outs_are s f.machine) e.new.self (RunFeed c.args.run) (left_feed e.result) e.new._into
+    (λ input is own follows. (is, record { own = subst (λ (o : Chip). o ≡ eeprom.chip_by (eeprom_options s.values.given)) (sym e.ensures.setup) own; follows = follows })) e.ensures.step
+
+pub returns-in-Ds1307-clause-step : goal.returns-in-Ds1307-clause-step
+returns-in-Ds1307-clause-step c =
+    let s = c.args.self.now.setup in
+    let f = c.in-Ds1307.follower in
+    let e = c.step_run-in-Ds1307 in
+    steps_followed s machine.Ds1307 clock.StandsFor wire.I2c (IsClock (clock_options s.values.given)) (λ follower input has. has) c.args.self.now.machine f (search rules) (clock_gives (clock.chip_in f.machine)) (clock_outs_are s f.machine) e.new.self (RunFeed c.args.run) (left_feed e.result) e.new._into
+    (λ input is own follows. (is, record { own = subst (λ (o : ClockChip). o ≡ clock.chip_by (clock_options s.values.given)) (sym e.ensures.setup) own; follows = follows })) e.ensures.step
+
+pub returns-in-Lm75-clause-step : goal.returns-in-Lm75-clause-step
+returns-in-Lm75-clause-step c =
+    let s = c.args.self.now.setup in
+    let f = c.in-Lm75.follower in
+    let e = c.step_run-in-Lm75 in
+    steps_followed s machine.Lm75 lm75.StandsFor wire.I2c (IsLm75 (lm75_options s.values.given)) (λ follower input has. has) c.args.self.now.machine f (search rules) (lm75_gives (lm75.chip_in f.machine)) (lm75_outs_are s f.machine) e.new.self (RunFeed c.args.run) (left_feed e.result) e.new._into
+    (λ input is own follows. (is, record { own = subst (λ (o : Lm75Chip). o ≡ lm75.chip_by (lm75_options s.values.given)) (sym e.ensures.setup) own; follows = follows })) e.ensures.step
+
 pub returns-in-OwNet-clause-step : goal.returns-in-OwNet-clause-step
 returns-in-OwNet-clause-step c =
+    let s = c.args.self.now.setup in
+    let f = c.in-OwNet.follower in
     let e = c.step_run-in-OwNet in
-    net_steps c.args.self.now.setup c.args.self.now.machine c.in-OwNet.follower (search rules) e.new.self (RunFeed c.args.run) (left_feed e.result) e.new._into e.ensures.step
+    steps_followed s machine.OwNet onewire.NetStandsFor wire.OwLink IsAny (λ follower input has. has) c.args.self.now.machine f (search rules) (λ input. net_outs (counted_packets wire.OwLink input)) (λ is own. net_outs_are s is) e.new.self (RunFeed c.args.run) (left_feed e.result) e.new._into
+    (λ input is own follows. (is, record { own = own; follows = follows })) e.ensures.step
+
+pub returns-in-Ds18b20-clause-step : goal.returns-in-Ds18b20-clause-step
+returns-in-Ds18b20-clause-step c =
+    let s = c.args.self.now.setup in
+    let f = c.in-Ds18b20.follower in
+    let e = c.step_run-in-Ds18b20 in
+    steps_followed s machine.Ds18b20 probe.StandsFor wire.OwNet IsAny (λ follower input has. has) c.args.self.now.machine f (search rules) (λ input. probe_outs (counted_packets wire.OwNet input)) (λ is own. probe_outs_are s is) e.new.self (RunFeed c.args.run) (left_feed e.result) e.new._into
+    (λ input is own follows. (is, record { own = own; follows = follows })) e.ensures.step
+
+pub returns-in-Flash25-clause-step : goal.returns-in-Flash25-clause-step
+returns-in-Flash25-clause-step c =
+    let s = c.args.self.now.setup in
+    let f = c.in-Flash25.follower in
+    let e = c.step_run-in-Flash25 in
+    steps_followed s machine.Flash25 flash.StandsFor wire.Spi IsAny (λ follower input has. has) c.args.self.now.machine f (search rules) (λ input. flash_outs (counted_packets wire.Spi input)) (λ is own. flash_outs_are s is) e.new.self (RunFeed c.args.run) (left_feed e.result) e.new._into
+    (λ input is own follows. (is, record { own = own; follows = follows })) e.ensures.step

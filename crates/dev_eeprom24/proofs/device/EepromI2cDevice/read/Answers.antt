@@ -1,5 +1,5 @@
 use Rattle.std.proofs.Common.{ℕ, ◌∙◌, ap, [], ◌∷◌, ◌++◌}
-use Rattle.dev_eeprom24.specs.Eeprom.{byte_note}
+use Rattle.i2c_phases.specs.Bytes.{byte_note}
 use Rattle.dev_eeprom24.specs.laws.KnowingLaws.{read_known}
 use Rattle.dev_eeprom24.proofs.device.EepromI2cDevice.read.Goals as goal
 

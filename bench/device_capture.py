@@ -1,0 +1,54 @@
+#!/usr/bin/env python3
+"""Writes a raw capture of an I2C bus that is kept busy by one device: SCL is D0, SDA is D1.
+
+usage: bench/device_capture.py [TRANSACTIONS [ADDRESS]] > capture.raw
+
+Each transaction writes a byte that says where, and two bytes there, or reads two from where the last one
+ended; one of eight is for a part that isn't there, and isn't acknowledged. Bytes are drawn from a generator
+of numbers that always gives the same. A bit is four samples long, and a transaction 120 to 200. ADDRESS is
+the device's, in hexadecimal: 50, an EEPROM of one address byte, or 68, a clock, or 48, a thermometer.
+
+    bench/device_capture.py 100000 > capture.raw
+    bin/ldecode i2c:scl=D0:sda=D1,eeprom24 < capture.raw
+"""
+import sys
+
+from decode import draws
+
+
+def samples(segments):
+    """The samples of one transaction: segments of bytes, each with whether it is acknowledged."""
+    clock, data = [1] * 4, [1, 1, 0, 0]
+    for number, segment in enumerate(segments):
+        if number > 0:
+            clock += [0, 0, 1, 1, 1, 1]
+            data += [1, 1, 1, 1, 0, 0]
+        for byte, acknowledged in segment:
+            for bit in [byte >> place & 1 for place in range(7, -1, -1)] + [0 if acknowledged else 1]:
+                clock += [0, 0, 1, 1]
+                data += [bit] * 4
+    clock += [0, 0] + [1] * 6
+    data += [0] * 4 + [1] * 4
+    return bytes(c | d << 1 for c, d in zip(clock, data))
+
+
+def transaction(address, kind, place, one, other):
+    """A write of two bytes, a read of two, or an address that nobody answers."""
+    if kind == 0:
+        return samples([[((address ^ 4) * 2, False)]])
+    if kind % 2 == 0:
+        return samples([[(address * 2 + 1, True), (one, True), (other, False)]])
+    return samples([[(address * 2, True), (place, True), (one, True), (other, True)]])
+
+
+def main():
+    count = int(sys.argv[1]) if len(sys.argv) > 1 else 100000
+    address = int(sys.argv[2], 16) if len(sys.argv) > 2 else 0x50
+    numbers = draws(7)
+    for _ in range(count):
+        drawn = next(numbers) % 8, next(numbers), next(numbers), next(numbers)
+        sys.stdout.buffer.write(transaction(address, *drawn))
+
+
+if __name__ == "__main__":
+    main()

@@ -1,0 +1,6 @@
+use Rattle.std.proofs.Common.{refl}
+use Rattle.dev_ds1307.specs.laws.KnowingLaws.{begin_known}
+use Rattle.dev_ds1307.proofs.device.ClockI2cDevice.begin.Goals as goal
+
+pub returns-clause-knows : goal.returns-clause-knows
+returns-clause-knows c = λ phases knows. begin_known c.args.self.now.held _ phases knows refl

@@ -1,0 +1,5 @@
+use Rattle.dev_ds1307.specs.laws.KnowingLaws.{write_known}
+use Rattle.dev_ds1307.proofs.device.ClockI2cDevice.write.Goals as goal
+
+pub returns-clause-takes : goal.returns-clause-takes
+returns-clause-takes c = λ before bytes knows. write_known c.args.self.now.held _ before bytes c.args.byte c.put.new.into knows c.put_by-self.ensures c.put.ensures

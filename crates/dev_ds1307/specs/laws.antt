@@ -1,0 +1,4 @@
+-- Lemmas that laws of clocks cite.
+pub mod RowLaws
+pub mod GivenLaws
+pub mod KnowingLaws

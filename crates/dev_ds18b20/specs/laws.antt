@@ -1,0 +1,4 @@
+-- Lemmas that laws of machines cite.
+pub mod ByteLaws
+pub mod SoundLaws
+pub mod ProbeLaws

@@ -1,0 +1,6 @@
+pub mod Flash
+pub mod Held
+pub mod Texts
+pub mod Opening
+pub mod Rows
+pub mod laws

@@ -1,0 +1,17 @@
+//! Serial flash of the 25 series on SPI: its instructions, with what is read from it and programmed into it, and their addresses.
+#![tactic(auto)]
+
+mod closing;
+mod held;
+mod machine;
+mod opening;
+mod rows;
+#[cfg(test)]
+mod tests;
+mod texts;
+mod words;
+
+pub use held::{Command, Flash, FlashOpts};
+use held::{Open, Said, Words};
+pub use rows::rows_hold;
+pub use texts::text;

@@ -1,0 +1,5 @@
+use Rattle.dev_lm75.specs.laws.GivenLaws.{outs_are}
+use Rattle.dev_lm75.proofs.laws.outputs_are_by_the_definition.Goals as goal
+
+pub returns : goal.returns
+returns c = λ chip packets. outs_are chip packets

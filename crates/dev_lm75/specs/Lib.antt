@@ -1,0 +1,6 @@
+pub mod Thermometer
+pub mod Held
+pub mod Opening
+pub mod Texts
+pub mod Rows
+pub mod laws

@@ -1,0 +1,14 @@
+// The definition and the decoder. Nothing is done.
+ghost use Rattle.std.specs.Prelude.{◌≡◌, List};
+ghost use Rattle.la_base.specs.declared.wires.Packet.{Packet};
+ghost use Rattle.dev_lm75.specs.Thermometer.{lm75_outs};
+ghost use Rattle.dev_lm75.specs.declared.chip.Chip.{Chip};
+
+use crate::Lm75;
+use decoder_core::PacketMachine;
+use i2c_phases::Phased;
+
+/// What a decoder gives of packets is what the definition of its thermometer says. (A law; nothing is done.)
+pub fn outputs_are_by_the_definition()
+    ensures { (chip : Chip) (packets : List Packet) → ⟦<Phased<Lm75> as PacketMachine>⟧.outs chip packets ≡ lm75_outs chip packets }
+{}

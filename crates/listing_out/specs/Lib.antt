@@ -1,0 +1,2 @@
+pub mod NoteLines
+pub mod StopLines

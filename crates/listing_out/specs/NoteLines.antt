@@ -1,0 +1,11 @@
+-- The line of a note.
+use Rattle.std.specs.Prelude.{ℕ, List, ◌++◌, codes}
+use Rattle.std.specs.Fmt.{decimal}
+use Rattle.la_base.specs.declared.wires.Note.{Note}
+use Rattle.decoder_set.specs.Kinds.{kind_row}
+use Rattle.decoder_set.specs.declared.kinds.Kind.{Kind}
+use Rattle.decoder_set.specs.Setups.{note_text}
+
+-- the places of a note, the name of its instance (the kind, and the number of the instance within its kind) and its text
+abbrev pub line_as : Kind → ℕ → Note → List ℕ
+line_as kind number note = decimal note.start ++ codes "-" ++ decimal note.end ++ codes " " ++ ((kind_row kind).name ++ codes "-" ++ decimal number) ++ codes ": " ++ note_text kind note ++ codes "\n"

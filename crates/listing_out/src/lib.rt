@@ -1,0 +1,13 @@
+//! What a listing is made of: a line for a note, a line for a stop, the bytes of binary data. Each is written
+//! through any sink, whole, or a front of it where the sink failed.
+#![tactic(auto)]
+
+mod data;
+mod notes;
+mod stops;
+mod text;
+
+pub use data::{write_data, write_piece};
+pub use notes::{NoteLine, write_note};
+pub use stops::StopLine;
+pub use text::push_text;

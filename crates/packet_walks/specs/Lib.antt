@@ -1,0 +1,4 @@
+pub mod Walks
+pub mod Promises
+pub mod Transactions
+pub mod laws
