@@ -4,3 +4,11 @@ pub mod Standing
 pub mod Answering
 pub mod Longer
 pub mod Held
+pub mod Marks
+pub mod LineMoving
+pub mod LineLaws
+pub mod LineStanding
+pub mod LineAnswering
+pub mod LinePassing
+pub mod LinesLonger
+pub mod LinesCut

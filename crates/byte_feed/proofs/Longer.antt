@@ -14,13 +14,13 @@ use Rattle.byte_feed.proofs.TokenLaws.{split_some, is_short, long_first}
 use Rattle.byte_feed.proofs.Standing.{ending_short, ending_full}
 
 -- parts whose last one goes on with the first of others
-join_parts : List (List ℕ) → List (List ℕ) → List (List ℕ)
+unfoldable pub join_parts : List (List ℕ) → List (List ℕ) → List (List ℕ)
 join_parts [] qs = qs
 join_parts (p ∷ []) [] = p ∷ []
 join_parts (p ∷ []) (q ∷ qs) = (p ++ q) ∷ qs
 join_parts (p ∷ next ∷ ps) qs = p ∷ join_parts (next ∷ ps) qs
 
-onto_join : (x : ℕ) (p q : List ℕ) (ps qs : List (List ℕ)) → onto_first x (join_parts (p ∷ ps) (q ∷ qs)) ≡ join_parts (onto_first x (p ∷ ps)) (q ∷ qs)
+pub onto_join : (x : ℕ) (p q : List ℕ) (ps qs : List (List ℕ)) → onto_first x (join_parts (p ∷ ps) (q ∷ qs)) ≡ join_parts (onto_first x (p ∷ ps)) (q ∷ qs)
 unfolding join_parts
 onto_join x p q [] qs = refl
 onto_join x p q (n ∷ ps) qs = refl
@@ -40,7 +40,7 @@ split_append (x ∷ front) more q qs is =
     by_test false p ps = onto_join x p q ps qs
 
 -- a part before others
-ext_behind : (items : List Placed) (front whole : Fed) → Extends front whole → Extends (behind items front) (behind items whole)
+pub ext_behind : (items : List Placed) (front whole : Fed) → Extends front whole → Extends (behind items front) (behind items whole)
 ext_behind items front whole (inl cut) = inl (cut.0, cut.1, ap (λ (l : List Placed). items ++ l) cut.2 ∙ sym (append_assoc items front.items cut.1))
 ext_behind items front whole (inr same) = inr (same.0, same.1, ap (λ (f : Fed). behind items f) same.2)
 
@@ -51,7 +51,7 @@ ext_part part front whole ext = by_test (is_long part.1) (length part.1 == 0) wh
   by_test false true = ext
   by_test false false = ext_behind (part ∷ []) front whole ext
 
-some_join : (n q : List ℕ) (ps qs : List (List ℕ)) → (a : List ℕ) × (as' : List (List ℕ)) × (join_parts (n ∷ ps) (q ∷ qs) ≡ a ∷ as')
+pub some_join : (n q : List ℕ) (ps qs : List (List ℕ)) → (a : List ℕ) × (as' : List (List ℕ)) × (join_parts (n ∷ ps) (q ∷ qs) ≡ a ∷ as')
 unfolding join_parts
 some_join n q [] qs = (n ++ q, qs, refl)
 some_join n q (m ∷ ps) qs = (n, join_parts (m ∷ ps) (q ∷ qs), refl)

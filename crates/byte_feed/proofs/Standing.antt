@@ -21,10 +21,10 @@ stands_new front is = record {
   goes_on = λ more how. ap (λ (f : Front). behind [] (tokens_from (place f 0) how (drop 0 f.bytes ++ more))) (sym is);
 }
 
-behind_on : (given items : List Placed) (fed : Fed) → behind given (behind items fed) ≡ behind (given ++ items) fed
+pub behind_on : (given items : List Placed) (fed : Fed) → behind given (behind items fed) ≡ behind (given ++ items) fed
 behind_on given items fed = ap (λ (l : List Placed). record { items = l; ending = fed.ending }) (sym (append_assoc given items fed.items))
 
-behind_end : (given : List Placed) (how : Ending) → behind given (ends how) ≡ record { items = given; ending = how }
+pub behind_end : (given : List Placed) (how : Ending) → behind given (ends how) ≡ record { items = given; ending = how }
 behind_end given how = ap (λ (l : List Placed). record { items = l; ending = how }) (append-nil given)
 
 -- what goes on stays so with the end told
@@ -34,11 +34,11 @@ onward_told true false P stays h = absurd cc (stays refl)
 onward_told false true P stays h = h [] Clean
 onward_told false false P stays h = h
 
-onward_end : (is : Bool) (P : List ℕ → Ending → Type 0) → is ≡ true → P [] Clean → Onward is P
+pub onward_end : (is : Bool) (P : List ℕ → Ending → Type 0) → is ≡ true → P [] Clean → Onward is P
 onward_end true P e h = h
 onward_end false P e h = absurd cc
 
-at_end : (is : Bool) (P : List ℕ → Ending → Type 0) → is ≡ true → Onward is P → P [] Clean
+pub at_end : (is : Bool) (P : List ℕ → Ending → Type 0) → is ≡ true → Onward is P → P [] Clean
 at_end true P e h = h
 at_end false P e h = absurd cc
 

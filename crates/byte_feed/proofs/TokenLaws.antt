@@ -61,7 +61,7 @@ pub some_part : (part : Placed) (rest : Fed) → 0 < length part.1 → length pa
 some_part part rest some short =
     cond-false (is_long part.1) _ _ (is_short part.1 short) ∙ cond-false (length part.1 == 0) _ _ (ne_eqb (length part.1) 0 (λ e. omega (arith, e, some)))
 
-long_last : (how : Ending) (part : Placed) → 65536 ≤ length part.1 → last_part how part ≡ ends (Faulty (TooLong part.0))
+pub long_last : (how : Ending) (part : Placed) → 65536 ≤ length part.1 → last_part how part ≡ ends (Faulty (TooLong part.0))
 long_last Clean part long = long_part part (ends Clean) long
 long_last (Faulty fault) part long = cond-true (is_long part.1) _ _ (le-leb 65536 (length part.1) long)
 long_last Open part long = cond-true (is_long part.1) _ _ (le-leb 65536 (length part.1) long)

@@ -3,3 +3,7 @@ pub mod Blanks
 pub mod Moving
 pub mod Reader
 pub mod Laws
+pub mod Lines
+pub mod LineMoves
+pub mod LineReader
+pub mod Worked

@@ -1,12 +1,16 @@
-//! Tokens of a stream of bytes, each with the place of its first byte, however the stream is cut.
+//! Tokens of a stream of bytes, each with the place of its first byte, and lines, each with its number,
+//! however the stream is cut.
 #![tactic(auto)]
 
 mod blanks;
 mod fault;
 mod filling;
 mod laws;
+mod line_ends;
+mod lines;
 mod tokens;
 
 pub use fault::FeedFault;
-pub use laws::tokens_extend;
+pub use laws::{lines_can_be_cut, lines_extend, lines_hold, tokens_extend};
+pub use lines::Lines;
 pub use tokens::Tokens;

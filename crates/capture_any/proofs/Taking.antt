@@ -11,10 +11,13 @@ use Rattle.capture_raw.specs.declared.reader.RawReader.{RawReader}
 use Rattle.capture_vcd.specs.Reader.{GaveHeld as VcdGaveHeld, VcdStands, vcd_given}
 use Rattle.capture_vcd.specs.Running.{RunCounts, run_samples}
 use Rattle.capture_vcd.specs.declared.reader.VcdReader.{VcdReader}
+use Rattle.capture_csv.specs.Reader.{GaveHeld as CsvGaveHeld, CsvStands, csv_given}
+use Rattle.capture_csv.specs.Running.{run_len as csv_len, run_samples as csv_samples}
+use Rattle.capture_csv.specs.declared.reader.CsvReader.{CsvReader}
 use Rattle.capture_any.specs.Reading.{Next, Stands, StandsIn, given_in}
 use Rattle.capture_any.specs.declared.reader.NamedRaw.{NamedRaw}
 use Rattle.capture_any.specs.declared.reader.Reader.{Reader}
-use Rattle.capture_any.specs.declared.reader.Reader.TheVariants.{Raw as OfRaw, Vcd as OfVcd}
+use Rattle.capture_any.specs.declared.reader.Reader.TheVariants.{Raw as OfRaw, Vcd as OfVcd, Csv as OfCsv}
 use Rattle.capture_any.specs.Taking.{GaveHeld, GaveMore, RawGave, held_samples}
 use Rattle.capture_any.specs.declared.capture.Capture.{Capture}
 
@@ -86,6 +89,27 @@ vcd_further old mid new before more first second bytes told given st = subst (λ
 pub held_counts : (run : Option Run) (old new : ℕ) → RunCounts old new run → old + length (held_samples run) ≤ new
 held_counts None old new is = held_none old new (omega (arith, is))
 held_counts (Some run) old new is = held_some run old new (omega (arith, is.0))
+
+-- a CSV reader gave samples of what it held
+pub gave_csv : (old new : Capture) (r s : CsvReader) (more : List ℕ) → CsvGaveHeld r s more → (csv_given r ≤ 2 ^ 60 → csv_given s ≤ 2 ^ 60) → old.reader ≡ OfCsv r → new.reader ≡ OfCsv s → GaveHeld old new more
+gave_csv old new r s more gave few old_is new_is bytes told given st = record {
+  stands = subst (λ (x : Reader). StandsIn x bytes told (given ++ more)) (sym new_is) (gave bytes told given (subst (λ (x : Reader). StandsIn x bytes told given) old_is st.stands));
+  few = subst (λ (x : Reader). given_in x ≤ 2 ^ 60) (sym new_is) (few (subst (λ (x : Reader). given_in x ≤ 2 ^ 60) old_is st.few));
+}
+
+pub csv_is_held : (run : Option Run) → csv_samples run ≡ held_samples run
+csv_is_held None = refl
+csv_is_held (Some run) = refl
+
+pub csv_none : (reader : CsvReader) → CsvGaveHeld reader reader []
+csv_none reader bytes told given st = subst (λ (l : List ℕ). CsvStands reader bytes told l) (sym (append-nil given)) st
+
+pub csv_further : (old mid new : CsvReader) (before more : List ℕ) → CsvGaveHeld old mid before → CsvGaveHeld mid new more → CsvGaveHeld old new (before ++ more)
+csv_further old mid new before more first second bytes told given st = subst (λ (l : List ℕ). CsvStands new bytes told l) (append_assoc given before more) (second bytes told (given ++ before) (first bytes told given st))
+
+pub csv_counts : (run : Option Run) (old new : ℕ) → old + csv_len run ≤ new → old + length (held_samples run) ≤ new
+csv_counts None old new less = held_none old new (omega (arith, less))
+csv_counts (Some run) old new less = held_some run old new less
 
 -- a run that was read, and those behind it that were read already
 pub gave_first : (old mid new : Capture) (l m : Option (List ℕ)) (run : Run) (more runs : List Run) → Next old mid l m (Ok (Some run)) → GaveHeld mid new (samples_of more) → runs ≡ run ∷ more → GaveMore old new l m (samples_of runs)

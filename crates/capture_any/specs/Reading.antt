@@ -11,47 +11,55 @@ use Rattle.la_io.specs.Causes.{Rose}
 use Rattle.capture_raw.specs.Reader.{Stands as RawStands, raw_channels, raw_rate, raw_pins, raw_open, raw_given}
 use Rattle.capture_vcd.specs.Reader.{VcdStands, vcd_down, vcd_given, vcd_names, vcd_open, vcd_rate}
 use Rattle.capture_vcd.specs.Reader as vcd
+use Rattle.capture_csv.specs.Reader.{CsvStands, csv_given, csv_header, csv_mode, csv_names, csv_open, csv_pins, csv_rate}
 use Rattle.capture_any.specs.Captures.{capture_of, Later, ToldAt, WantsMemoryAt}
 use Rattle.capture_any.specs.declared.capture.Capture.{Capture}
 use Rattle.capture_any.specs.declared.form.Form.{Form}
-use Rattle.capture_any.specs.declared.form.Form.TheVariants.{Raw, Vcd}
+use Rattle.capture_any.specs.declared.form.Form.TheVariants.{Raw, Vcd, Csv}
 use Rattle.capture_any.specs.declared.reader.Reader.{Reader}
-use Rattle.capture_any.specs.declared.reader.Reader.TheVariants.{Raw as OfRaw, Vcd as OfVcd}
+use Rattle.capture_any.specs.declared.reader.Reader.TheVariants.{Raw as OfRaw, Vcd as OfVcd, Csv as OfCsv}
 
 -- the form that a reader was opened with
 abbrev pub form_in : Reader → Form
 form_in (OfRaw raw) = Raw (raw_channels raw.reader) (raw_rate raw.reader)
 form_in (OfVcd reader) = Vcd (vcd_down reader)
+form_in (OfCsv reader) = Csv (csv_mode reader) (csv_header reader) (csv_rate reader)
 
 -- the channels that are the bits of its samples; none before `select`
 abbrev pub pins_in : Reader → List ℕ
 pins_in (OfRaw raw) = raw_pins raw.reader
 pins_in (OfVcd reader) = vcd.pins_in reader
+pins_in (OfCsv reader) = csv_pins reader
 
 -- the names of its channels
 abbrev pub names_in : Reader → List (List ℕ)
 names_in (OfRaw raw) = raw.names
 names_in (OfVcd reader) = vcd_names reader
+names_in (OfCsv reader) = csv_names reader
 
 -- the samples a second
 abbrev pub rate_in : Reader → Rate
 rate_in (OfRaw raw) = raw_rate raw.reader
 rate_in (OfVcd reader) = vcd_rate reader
+rate_in (OfCsv reader) = csv_rate reader
 
 -- whether there may be more to come
 abbrev pub open_in : Reader → Bool
 open_in (OfRaw raw) = raw_open raw.reader
 open_in (OfVcd reader) = vcd_open reader
+open_in (OfCsv reader) = csv_open reader
 
 -- a measure that rises by at least the samples of each run
 abbrev pub given_in : Reader → ℕ
 given_in (OfRaw raw) = raw_given raw.reader
 given_in (OfVcd reader) = vcd_given reader
+given_in (OfCsv reader) = csv_given reader
 
 -- it took these bytes, whose end the source told or not, and gave these samples; a raw reader that is told the end gives no more
 abbrev pub StandsIn : Reader → List ℕ → Told → List ℕ → Type 0
 StandsIn (OfRaw raw) bytes told given = (told ≡ Cut) × RawStands raw.reader bytes given
 StandsIn (OfVcd reader) bytes told given = VcdStands reader bytes told given
+StandsIn (OfCsv reader) bytes told given = CsvStands reader bytes told given
 
 -- the form that a capture was opened with
 abbrev pub form_of : Capture → Form

@@ -1,10 +1,11 @@
 // A capture that is read.
 use crate::Form;
 use crate::answer::answer_of;
-use crate::held::{held_of, take_raw, take_vcd};
+use crate::held::{held_csv, held_of, take_csv, take_raw, take_vcd};
 use crate::names::channel_names;
 use crate::reader::{NamedRaw, Reader};
 use crate::runs::Runs;
+use capture_csv::CsvReader;
 use capture_raw::RawReader;
 use capture_vcd::VcdReader;
 use la_base::{Names, NoMemory, Pins, Rate, Run};
@@ -62,6 +63,14 @@ impl Capture {
                 }),
                 Err(error) => Err(error),
             },
+            Form::Csv { mode, header, rate } => {
+                match CsvReader::open(alloc, *mode, *header, *rate, source) {
+                    Ok(reader) => Ok(Capture {
+                        reader: Reader::Csv(reader),
+                    }),
+                    Err(error) => Err(error),
+                }
+            }
         }
     }
 
@@ -72,6 +81,7 @@ impl Capture {
         match &self.reader {
             Reader::Raw(raw) => &raw.names,
             Reader::Vcd(reader) => reader.names(),
+            Reader::Csv(reader) => reader.names(),
         }
     }
 
@@ -82,6 +92,7 @@ impl Capture {
         match &self.reader {
             Reader::Raw(raw) => raw.reader.rate(),
             Reader::Vcd(reader) => reader.rate(),
+            Reader::Csv(reader) => reader.rate(),
         }
     }
 
@@ -99,6 +110,7 @@ impl Capture {
         match &mut self.reader {
             Reader::Raw(raw) => raw.reader.select(pins),
             Reader::Vcd(reader) => reader.select(pins),
+            Reader::Csv(reader) => reader.select(pins),
         }
     }
 
@@ -109,6 +121,7 @@ impl Capture {
         match &self.reader {
             Reader::Raw(raw) => raw.reader.is_open(),
             Reader::Vcd(reader) => reader.is_open(),
+            Reader::Csv(reader) => reader.is_open(),
         }
     }
 
@@ -133,6 +146,7 @@ impl Capture {
         match &mut self.reader {
             Reader::Raw(raw) => answer_of(raw.reader.next(source)),
             Reader::Vcd(reader) => reader.next(source),
+            Reader::Csv(reader) => reader.next(source),
         }
     }
 
@@ -154,6 +168,7 @@ impl Capture {
                 None => None,
             },
             Reader::Vcd(reader) => held_of(reader),
+            Reader::Csv(reader) => held_csv(reader),
         }
     }
 
@@ -170,6 +185,7 @@ impl Capture {
         match &mut self.reader {
             Reader::Raw(raw) => take_raw(&mut raw.reader, into),
             Reader::Vcd(reader) => take_vcd(reader, into),
+            Reader::Csv(reader) => take_csv(reader, into),
         }
     }
 

@@ -3,6 +3,7 @@ ghost use Rattle.std.specs.Prelude.{◌≡◌};
 ghost use Rattle.capture_raw.specs.Raw.{raw_names};
 ghost use Rattle.capture_raw.specs.Reader.{raw_channels};
 
+use capture_csv::CsvReader;
 use capture_raw::RawReader;
 use capture_vcd::VcdReader;
 use la_base::Names;
@@ -20,4 +21,5 @@ pub struct NamedRaw {
 pub enum Reader {
     Raw(NamedRaw),
     Vcd(VcdReader),
+    Csv(CsvReader),
 }

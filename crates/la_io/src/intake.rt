@@ -1,7 +1,7 @@
 // A buffer between a source and its reader.
-ghost use Rattle.std.specs.Prelude.{◌≡◌, ◌<◌, ◌≤◌, ◌+◌, ◌-◌, ◌^◌, [], length, slice_range, drop};
+ghost use Rattle.std.specs.Prelude.{◌≡◌, ◌<◌, ◌≤◌, ◌+◌, ◌-◌, ◌^◌, ◌++◌, [], length, slice_range, take, drop};
 ghost use Rattle.la_io.specs.Causes.{HasCause};
-ghost use Rattle.la_io.specs.Intake.{Front, Reads};
+ghost use Rattle.la_io.specs.Intake.{Front, Reads, ReadsWithout, without};
 
 use crate::{Failed, Source};
 use std::marker::Model;
@@ -91,6 +91,46 @@ impl<const ROOM: usize> Intake<ROOM> {
             Err(_) => Err(Failed),
         }
     }
+
+    /// Reads as `more` does, and keeps no byte of what came that is `dropped`. The answer counts those
+    /// too: 0 is the end.
+    pub fn more_without<S: Source>(&mut self, source: &mut S, dropped: u8) -> Result<usize, Failed>
+        requires room { length self.old.bytes < ROOM }
+        requires few { self.old.taken < 2 ^ 60 }
+        ensures reads { ReadsWithout dropped self.old self.new (S.left source.old) (S.left source.new) result }
+        ensures cause { HasCause (S.faults source.old) (S.faults source.new) result }
+    {
+        let held = self.end - self.start;
+        match self.more(source) {
+            Ok(count) => {
+                let all = &mut self.buf[..];
+                let kept = drop_behind(&mut all[self.start..self.end], held, dropped);
+                self.end = self.start + kept;
+                Ok(count)
+            }
+            Err(_) => Err(Failed),
+        }
+    }
+}
+
+// Takes a byte out of what stands behind the first `from` bytes, and answers how many bytes are left in
+// all. Nothing is moved before the first such byte.
+fn drop_behind(bytes: &mut [u8], from: usize, dropped: u8) -> usize
+    requires { from ≤ length bytes.old }
+    ensures within { result ≤ length bytes.old }
+    ensures kept { take result bytes.new ≡ take from bytes.old ++ without dropped (drop from bytes.old) }
+{
+    let mut to = from;
+    let mut at = from;
+    while at < bytes.len() {
+        let byte = bytes[at];
+        if byte != dropped {
+            bytes[to] = byte;
+            to += 1;
+        }
+        at += 1;
+    }
+    to
 }
 
 // Makes room behind a part of the buffer, and answers where that part begins now. It is moved to the

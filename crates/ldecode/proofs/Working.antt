@@ -16,7 +16,7 @@ use Rattle.capture_any.specs.declared.capture.Capture.{Capture}
 use Rattle.capture_any.specs.declared.end.ListingEnd.{ListingEnd}
 use Rattle.capture_any.specs.declared.end.ListingEnd.TheVariants as ends
 use Rattle.capture_any.specs.declared.form.Form.{Form}
-use Rattle.capture_any.specs.declared.form.Form.TheVariants.{Raw, Vcd}
+use Rattle.capture_any.specs.declared.form.Form.TheVariants.{Raw, Vcd, Csv}
 use Rattle.capture_any.proofs.CaptureLaws.{head_stays}
 use Rattle.find_job.specs.Finding.{WholeListing, ListingFront}
 use Rattle.wait_cond.specs.declared.alt.Alt.{Alt}
@@ -53,6 +53,16 @@ one_form values (Raw channels rate) (Raw others other) is also =
 one_form values (Raw channels rate) (Vcd down) is also = let both = sym is.0 ∙ also.0 in cc
 one_form values (Vcd down) (Raw channels rate) is also = let both = sym is.0 ∙ also.0 in cc
 one_form values (Vcd down) (Vcd other) is also = ap Vcd (is.1 ∙ sym also.1)
+one_form values (Raw channels rate) (Csv mode header other) is also = let both = sym is.0 ∙ also.0 in cc
+one_form values (Vcd down) (Csv mode header other) is also = let both = sym is.0 ∙ also.0 in cc
+one_form values (Csv mode header rate) (Raw channels other) is also = let both = sym is.0 ∙ also.0 in cc
+one_form values (Csv mode header rate) (Vcd down) is also = let both = sym is.0 ∙ also.0 in cc
+one_form values (Csv mode header rate) (Csv others told other) is also =
+    let same : numbers_of rate ≡ numbers_of other = is.3 ∙ sym also.3 in
+    let modes : mode ≡ others = is.1 ∙ sym also.1 in
+    let headers : header ≡ told = is.2 ∙ sym also.2 in
+    let rates : rate ≡ other = one_rate rate other (ap (λ (n : RateNumbers). n.num) same) (ap (λ (n : RateNumbers). n.den) same) in
+    λ i. Csv (modes i) (headers i) (rates i)
 
 -- they have one head with these bytes
 pub one_head : (values : Values) (form other : Form) (bytes : List ℕ) (told : Told) (one : Head) → IsFormOf values form → IsFormOf values other → (capture_of form [] bytes told).head ≡ one → (capture_of other [] bytes told).head ≡ one

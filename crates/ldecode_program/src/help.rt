@@ -28,8 +28,9 @@ ldecode --job find [OPTION..] ALTERNATIVE..
     An alternative is `any`, or terms with commas between them: CHANNEL=LEVEL,
     where the level is r, f, e (an edge), s (none), h or l; or skip=SAMPLES.
 
-A capture is raw samples, with channels D0, D1 and so on, or with --format vcd
-a value change dump, which names its channels and tells its rate.
+A capture is raw samples, with channels D0, D1 and so on; or with --format vcd
+a value change dump, which names its channels and tells its rate; or with
+--format csv a table, whose first record names its columns.
 A channel is named, as D0 or A, or is a number, counted from 0.
 
 Options, as --NAME VALUE or --NAME=VALUE, before, between or behind the other words:

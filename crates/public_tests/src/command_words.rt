@@ -1,7 +1,7 @@
 use crate::rows::parts_of;
 use std::alloc::Global;
 use std::test::Fail;
-use words::{Format, Job, WordsError, read_words};
+use words::{CsvRecords, Format, Job, WordsError, read_words};
 
 // A row has words between brackets, before them how many words `a` stand in front, and behind them what
 // they give. In a word a star stands before the number of bytes `x` that go on; a dot stands for no word.
@@ -46,7 +46,9 @@ pub const FAULTS: &str = "\
 [--job=make] 0 0 Value
 [--job=find=] 0 0 Value
 [i2c --job seek] 2 0 Value
-[--format csv] 1 0 Value
+[--format tsv] 1 0 Value
+[--csv lines] 1 0 Value
+[--header=Yes] 0 0 Value
 [--format=vcd,raw] 0 0 Value
 [--format=RAW] 0 0 Value
 [--threads maybe] 1 0 Value
@@ -136,7 +138,7 @@ pub const FAULTS: &str = "\
 1[--show -*4096] 1 0 NoValue";
 
 // The job, the channels, the rate, whether there are threads, and the ring; for a VCD capture the units of
-// a sample besides.
+// a sample besides, for a CSV capture what its records are, and whether the first one names its columns.
 pub const VALUES: &str = "\
 [i2c] decode 8 1000000/1 yes 256
 [--job decode i2c] decode 8 1000000/1 yes 256
@@ -160,6 +162,9 @@ pub const VALUES: &str = "\
 [--down=1000000000 --format vcd i2c] decode 8 1000000/1 yes 256 vcd 1000000000
 [--format=vcd --job find --down 007 D0=h] find 8 1000000/1 yes 256 vcd 7
 [--down 7 i2c] decode 8 1000000/1 yes 256
+[--format csv i2c] decode 8 1000000/1 yes 256 csv rows yes
+[--csv=times --header no --format=csv i2c] decode 8 1000000/1 yes 256 csv times no
+[--csv times i2c] decode 8 1000000/1 yes 256
 [--ring=4 --threads no D0=h --rate=2/3 --channels 16 --format=raw --show all --job=find] find 16 2/3 no 4";
 
 // The decoders that are shown, the binary data that is wanted, and the other words, each with its number. Decode takes 24 chains,
@@ -223,6 +228,15 @@ pub fn holds(alloc: Global, row: &str) -> Result<bool, Fail> {
     if settings.format == Format::Vcd {
         write!(values, " vcd {}", settings.down)?;
     }
+    if settings.format == Format::Csv {
+        let records = if settings.csv == CsvRecords::Times {
+            "times"
+        } else {
+            "rows"
+        };
+        let header = if settings.header { "yes" } else { "no" };
+        write!(values, " csv {records} {header}")?;
+    }
     let mut texts = String::new(alloc);
     if let Some(show) = &settings.show {
         write!(texts, "{}:{} of ", show.word, show.text)?;
@@ -239,10 +253,12 @@ pub fn holds(alloc: Global, row: &str) -> Result<bool, Fail> {
 /// What the table of options tells of each: its name, the values that it takes and the usual one.
 pub const OPTIONS_TOLD: &str = "\
 job (decode, find) decode
-format (raw, vcd) raw
+format (raw, vcd, csv) raw
 channels (1 to 64) 8
 rate (N or N/D, N 1 to 1000000000000000, D 1 to 1000000000) 1000000
 down (1 to 1000000000) 1
+csv (rows, times) rows
+header (yes, no) yes
 threads (yes, no) yes
 ring (1 to 16384) 256
 show (text) all

@@ -1,4 +1,4 @@
-// VCD captures through whole runs.
+// VCD captures through whole runs, and what a row of a file is.
 use crate::rows::{numbers_of, parts_of};
 use crate::runs::run_over;
 use std::alloc::Global;
@@ -95,29 +95,38 @@ pub const FAULTS: &str = "\
 1[--job find A=h,B=h] @  > 1 > ldecode: entry 0 item 1: Unknown| > 
 0[--job find B=h] @ #0 > 2 > ldecode: read fault| > ";
 
-/// Whether a run gives what its row says, in any cut of the file where no read fails.
-pub fn holds(alloc: Global, row: &str) -> Result<bool, Fail> {
-    let (fails, words, behind) = parts_of(row);
-    let fails = numbers_of(alloc, fails)?;
-    let (text, want) = behind.split_once(" > ").unwrap_or(("", ""));
-    let words = format!(in alloc; "--format vcd {words}")?;
-    let (begin, more) = text.split_once('*').unwrap_or((text, "0"));
-    let (count, rest) = more.split_once(' ').unwrap_or((more, ""));
-    let mut bytes = Vec::new(alloc);
-    for byte in begin.as_bytes() {
+/// Appends a text, in which `@` stands for the header above, a roof for carriage return and line feed, and a slash for a line
+/// feed.
+pub fn add_text(bytes: &mut Vec<u8>, text: &str) -> Result<(), Fail> {
+    for byte in text.as_bytes() {
         match byte {
             b'@' => bytes.extend_from_slice(HEADER.as_bytes())?,
             b'^' => bytes.extend_from_slice(b"\r\n")?,
+            b'/' => bytes.push(b'\n')?,
             _ => bytes.push(*byte)?,
         }
     }
+    Ok(())
+}
+
+/// Whether a run over a file of this form gives what its row says, in any cut of the file where no read fails.
+pub fn holds(alloc: Global, form: &str, row: &str) -> Result<bool, Fail> {
+    let (fails, words, behind) = parts_of(row);
+    let fails = numbers_of(alloc, fails)?;
+    let (text, want) = behind.split_once("> ").unwrap_or(("", ""));
+    let text = text.strip_suffix(' ').unwrap_or(text);
+    let words = format!(in alloc; "--format {form} {words}")?;
+    let (begin, more) = text.split_once('*').unwrap_or((text, "0"));
+    let (count, rest) = more.split_once(' ').unwrap_or((more, ""));
+    let mut bytes = Vec::new(alloc);
+    add_text(&mut bytes, begin)?;
     for _ in 0..count.parse::<u32>().unwrap_or(0) {
         bytes.push(b'x')?;
     }
     if !rest.is_empty() {
         bytes.push(b' ')?;
     }
-    bytes.extend_from_slice(rest.as_bytes())?;
+    add_text(&mut bytes, rest)?;
     for length in [WHOLE, 7, 1] {
         if length == WHOLE || fails.is_empty() {
             let told = run_over(

@@ -3,6 +3,8 @@
 #![tactic(auto)]
 
 #[cfg(test)]
+mod byte_lines;
+#[cfg(test)]
 mod captures;
 #[cfg(test)]
 mod changes;
@@ -10,6 +12,8 @@ mod changes;
 mod channels;
 #[cfg(test)]
 mod command_words;
+#[cfg(test)]
+mod csv_captures;
 #[cfg(test)]
 mod cuts;
 #[cfg(test)]
@@ -32,6 +36,8 @@ mod rows;
 mod runs;
 #[cfg(test)]
 mod searches;
+#[cfg(test)]
+mod sheets;
 #[cfg(test)]
 mod stacks;
 #[cfg(test)]

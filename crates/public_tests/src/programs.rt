@@ -20,7 +20,7 @@ i2c:scl=D0:sda=D1 --version > Run
 const HELP: &str = "  --job
       values: decode, find; usual: decode
   --format
-      values: raw, vcd; usual: raw
+      values: raw, vcd, csv; usual: raw
   --channels
       values: 1 to 64; usual: 8
   --rate

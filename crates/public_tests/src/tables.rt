@@ -1,10 +1,10 @@
 // Each row of each table holds.
-use crate::{command_words, dumps, runs, searches, stacks};
+use crate::{command_words, dumps, runs, searches, sheets, stacks};
 use std::test::Fail;
 use words::{Name, OPTIONS, Takes, clap_reads_the_uses, options_are_whole};
 
 // The tables, each with the number of what its rows are about.
-const TABLES: [(u32, &str); 18] = [
+const TABLES: [(u32, &str); 20] = [
     (0, command_words::FAULTS),
     (0, command_words::VALUES),
     (0, command_words::TEXTS),
@@ -23,6 +23,8 @@ const TABLES: [(u32, &str); 18] = [
     (5, runs::REFUSALS),
     (6, dumps::SAMPLES),
     (6, dumps::FAULTS),
+    (7, sheets::SAMPLES),
+    (7, sheets::FAULTS),
 ];
 
 #[test]
@@ -39,7 +41,8 @@ fn rows_hold(rt: HostRuntime) -> Result<(), Fail> {
                 2 => stacks::binds(alloc, row)?,
                 3 => searches::holds(alloc, row)?,
                 4 => runs::holds(alloc, row, &[])?,
-                6 => dumps::holds(alloc, row)?,
+                6 => dumps::holds(alloc, "vcd", row)?,
+                7 => dumps::holds(alloc, "csv", row)?,
                 // the first read fails, so a run that reads is told apart
                 _ => runs::holds(alloc, row, &[0])?,
             };

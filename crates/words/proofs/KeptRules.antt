@@ -15,7 +15,7 @@ use Rattle.words.specs.Readable.{IsShort}
 use Rattle.words.specs.Settings.{AreGood, unless_all, use_of, value_of, word_text}
 use Rattle.words.specs.Uses.{Part, Used, chains_of, is_of, parts_from, use_at, uses_of, why_value}
 use Rattle.words.specs.declared.options.Name.{Name}
-use Rattle.words.specs.declared.options.Name.TheVariants.{Job, Format, Channels, Rate, Down, Threads, Ring, Show, Binary}
+use Rattle.words.specs.declared.options.Name.TheVariants.{Job, Format, Channels, Rate, Down, Csv, Header, Threads, Ring, Show, Binary}
 use Rattle.words.specs.declared.kinds.WordFault.{WordFault}
 use Rattle.words.proofs.Searches.{find_passes}
 use Rattle.words.proofs.Shapes.{Shape, chain, joined, split, shape_of}
@@ -98,6 +98,8 @@ named Format = refl
 named Channels = refl
 named Rate = refl
 named Down = refl
+named Csv = refl
+named Header = refl
 named Threads = refl
 named Ring = refl
 named Show = refl
@@ -121,6 +123,8 @@ usual_good Format = refl
 usual_good Channels = refl
 usual_good Rate = refl
 usual_good Down = refl
+usual_good Csv = refl
+usual_good Header = refl
 usual_good Threads = refl
 usual_good Ring = refl
 usual_good Show = refl

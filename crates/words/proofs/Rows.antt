@@ -13,7 +13,7 @@ use Rattle.words.specs.Options.{row}
 use Rattle.words.specs.Settings.{use_of}
 use Rattle.words.specs.Uses.{Used, chains_of, is_given, is_of}
 use Rattle.words.specs.declared.options.Name.{Name}
-use Rattle.words.specs.declared.options.Name.TheVariants.{Job, Format, Channels, Rate, Down, Threads, Ring, Show, Binary}
+use Rattle.words.specs.declared.options.Name.TheVariants.{Job, Format, Channels, Rate, Down, Csv, Header, Threads, Ring, Show, Binary}
 
 -- the values of an id, behind those that it has
 abbrev pub joined : Option (List Text) → List Text → Option (List Text)
@@ -92,6 +92,8 @@ other_ids Format = refl
 other_ids Channels = refl
 other_ids Rate = refl
 other_ids Down = refl
+other_ids Csv = refl
+other_ids Header = refl
 other_ids Threads = refl
 other_ids Ring = refl
 other_ids Show = refl
@@ -107,6 +109,8 @@ is_of-id name None = no_option name
     no_option Channels = refl
     no_option Rate = refl
     no_option Down = refl
+    no_option Csv = refl
+    no_option Header = refl
     no_option Threads = refl
     no_option Ring = refl
     no_option Show = refl

@@ -13,7 +13,7 @@ use Rattle.words.specs.App.{chains_id}
 use Rattle.words.specs.Lexer.{Text, begins_option, long_of}
 use Rattle.words.specs.Options.{row}
 use Rattle.words.specs.declared.options.Name.{Name}
-use Rattle.words.specs.declared.options.Name.TheVariants.{Job, Format, Channels, Rate, Down, Threads, Ring, Show, Binary}
+use Rattle.words.specs.declared.options.Name.TheVariants.{Job, Format, Channels, Rate, Down, Csv, Header, Threads, Ring, Show, Binary}
 
 abbrev pub Pending : Type 0
 Pending = Option (Text × List Text)
@@ -90,6 +90,8 @@ by_long Format = refl
 by_long Channels = refl
 by_long Rate = refl
 by_long Down = refl
+by_long Csv = refl
+by_long Header = refl
 by_long Threads = refl
 by_long Ring = refl
 by_long Show = refl
@@ -101,6 +103,8 @@ by_id Format = refl
 by_id Channels = refl
 by_id Rate = refl
 by_id Down = refl
+by_id Csv = refl
+by_id Header = refl
 by_id Threads = refl
 by_id Ring = refl
 by_id Show = refl

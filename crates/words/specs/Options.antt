@@ -4,7 +4,7 @@ use Rattle.std.specs.Str.{bytes_eq}
 use Rattle.la_base.specs.declared.samples.TheConstants.{MOST_PINS}
 use Rattle.words.specs.Lexer.{Text}
 use Rattle.words.specs.declared.options.Name.{Name}
-use Rattle.words.specs.declared.options.Name.TheVariants.{Job, Format, Channels, Rate, Down, Threads, Ring, Show, Binary}
+use Rattle.words.specs.declared.options.Name.TheVariants.{Job, Format, Channels, Rate, Down, Csv, Header, Threads, Ring, Show, Binary}
 
 -- the values that an option takes: one of some texts, a number from the first to the second, a rate, or any text
 pub data Kind : Type 0 where
@@ -32,10 +32,12 @@ pub record Row : Type 0 where
 -- the table of options
 abbrev pub row : Name → Row
 row Job = record { name = codes "job"; takes = OneOf (codes "decode" ∷ codes "find" ∷ []); usual = Some (codes "decode") }
-row Format = record { name = codes "format"; takes = OneOf (codes "raw" ∷ codes "vcd" ∷ []); usual = Some (codes "raw") }
+row Format = record { name = codes "format"; takes = OneOf (codes "raw" ∷ codes "vcd" ∷ codes "csv" ∷ []); usual = Some (codes "raw") }
 row Channels = record { name = codes "channels"; takes = Number 1 MOST_PINS; usual = Some (codes "8") }
 row Rate = record { name = codes "rate"; takes = Ratio; usual = Some (codes "1000000") }
 row Down = record { name = codes "down"; takes = Number 1 1000000000; usual = Some (codes "1") }
+row Csv = record { name = codes "csv"; takes = OneOf (codes "rows" ∷ codes "times" ∷ []); usual = Some (codes "rows") }
+row Header = record { name = codes "header"; takes = OneOf (codes "yes" ∷ codes "no" ∷ []); usual = Some (codes "yes") }
 row Threads = record { name = codes "threads"; takes = OneOf (codes "yes" ∷ codes "no" ∷ []); usual = Some (codes "yes") }
 row Ring = record { name = codes "ring"; takes = Number 1 16384; usual = Some (codes "256") }
 row Show = record { name = codes "show"; takes = Free; usual = Some (codes "all") }
@@ -43,7 +45,7 @@ row Binary = record { name = codes "binary"; takes = Free; usual = None }
 
 -- all options
 abbrev pub names : List Name
-names = Job ∷ Format ∷ Channels ∷ Rate ∷ Down ∷ Threads ∷ Ring ∷ Show ∷ Binary ∷ []
+names = Job ∷ Format ∷ Channels ∷ Rate ∷ Down ∷ Csv ∷ Header ∷ Threads ∷ Ring ∷ Show ∷ Binary ∷ []
 
 -- the option that a text names
 abbrev pub name_of : Text → Option Name

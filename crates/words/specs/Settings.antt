@@ -13,7 +13,9 @@ use Rattle.words.specs.Options.{row}
 use Rattle.words.specs.Rates.{RateNumbers, numbers_of, rate_written}
 use Rattle.words.specs.Uses.{Used, chains_of, is_of, uses_of, why_value}
 use Rattle.words.specs.declared.kinds.Format.{Format}
-use Rattle.words.specs.declared.kinds.Format.TheVariants.{Raw, Vcd}
+use Rattle.words.specs.declared.kinds.Format.TheVariants.{Raw, Vcd, Csv}
+use Rattle.words.specs.declared.kinds.CsvRecords.{CsvRecords}
+use Rattle.words.specs.declared.kinds.CsvRecords.TheVariants.{Rows, Times}
 use Rattle.words.specs.declared.kinds.Job.{Job}
 use Rattle.words.specs.declared.kinds.Job.TheVariants.{Decode, Find}
 use Rattle.words.specs.declared.kinds.WordCount.{WordCount}
@@ -31,6 +33,8 @@ pub record Values : Type 0 where
   pub channels : ℕ
   pub rate : RateNumbers
   pub down : ℕ
+  pub csv : CsvRecords
+  pub header : Bool
   pub threads : Bool
   pub ring : ℕ
   pub show : Option WordText
@@ -63,7 +67,11 @@ job_named text = if bytes_eq text (codes "find") then Find else Decode
 
 -- the form of capture that a good value names
 abbrev pub format_named : Text → Format
-format_named text = if bytes_eq text (codes "vcd") then Vcd else Raw
+format_named text = if bytes_eq text (codes "vcd") then Vcd else if bytes_eq text (codes "csv") then Csv else Raw
+
+-- what the records of a CSV capture are that a good value names
+abbrev pub csv_named : Text → CsvRecords
+csv_named text = if bytes_eq text (codes "times") then Times else Rows
 
 -- a good value is `yes` or `no`
 abbrev pub is_yes : Text → Bool
@@ -81,6 +89,8 @@ values_of uses = record {
   channels = number_after 0 (text_of name.Channels uses);
   rate = rate_written (text_of name.Rate uses);
   down = number_after 0 (text_of name.Down uses);
+  csv = csv_named (text_of name.Csv uses);
+  header = is_yes (text_of name.Header uses);
   threads = is_yes (text_of name.Threads uses);
   ring = number_after 0 (text_of name.Ring uses);
   show = option_and_then unless_all (use_of name.Show uses);
@@ -153,6 +163,8 @@ meaning_of s = record {
   channels = s.channels;
   rate = numbers_of s.rate;
   down = s.down;
+  csv = s.csv;
+  header = s.header;
   threads = s.threads;
   ring = s.ring;
   show = option_map chain_of s.show;

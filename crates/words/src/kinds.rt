@@ -24,6 +24,17 @@ pub enum Format {
     Raw,
     /// A VCD file, by clause 18 of IEEE 1364-2005.
     Vcd,
+    /// A CSV file, in one of two modes.
+    Csv,
+}
+
+/// What the records of a CSV file are.
+#[derive(Clone, Copy, Debug, PartialEq, Eq)]
+pub enum CsvRecords {
+    /// A sample each.
+    Rows,
+    /// Values from a time on, which the first column tells.
+    Times,
 }
 
 /// What is wrong with a word.

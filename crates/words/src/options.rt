@@ -15,6 +15,8 @@ pub enum Name {
     Channels,
     Rate,
     Down,
+    Csv,
+    Header,
     Threads,
     Ring,
     Show,
@@ -76,12 +78,14 @@ pub const MOST_DOWN: u32 = 1_000_000_000;
 pub const MOST_RING: u32 = 16_384;
 
 /// The options, in the order in which they are told.
-pub const OPTIONS: [Name; 9] = [
+pub const OPTIONS: [Name; 11] = [
     Name::Job,
     Name::Format,
     Name::Channels,
     Name::Rate,
     Name::Down,
+    Name::Csv,
+    Name::Header,
     Name::Threads,
     Name::Ring,
     Name::Show,
@@ -102,7 +106,7 @@ impl Name {
             },
             Name::Format => OptionRow {
                 name: "format",
-                takes: Takes::OneOf(&["raw", "vcd"]),
+                takes: Takes::OneOf(&["raw", "vcd", "csv"]),
                 usual: Some("raw"),
                 help: "the form of the capture",
             },
@@ -119,7 +123,7 @@ impl Name {
                 name: "rate",
                 takes: Takes::Rate,
                 usual: Some("1000000"),
-                help: "samples a second of a raw capture",
+                help: "samples a second of a raw or csv capture",
             },
             Name::Down => OptionRow {
                 name: "down",
@@ -129,6 +133,18 @@ impl Name {
                 },
                 usual: Some("1"),
                 help: "units of time for which a sample of a vcd capture stands",
+            },
+            Name::Csv => OptionRow {
+                name: "csv",
+                takes: Takes::OneOf(&["rows", "times"]),
+                usual: Some("rows"),
+                help: "a record of a csv capture is a sample, or has its time in the first column",
+            },
+            Name::Header => OptionRow {
+                name: "header",
+                takes: Takes::OneOf(&["yes", "no"]),
+                usual: Some("yes"),
+                help: "whether the first record of a csv capture names its columns",
             },
             Name::Threads => OptionRow {
                 name: "threads",

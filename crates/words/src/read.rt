@@ -16,7 +16,7 @@ use crate::command::{chain_texts, matches, text};
 use crate::options::Name;
 use crate::reading::read_uses;
 use crate::uses::Given;
-use crate::values::{format_named, is_yes, job_named, number, rate};
+use crate::values::{csv_named, format_named, is_yes, job_named, number, rate};
 use crate::{Settings, WordsError};
 use clap::ArgMatches;
 use std::alloc::{AllocError, Global};
@@ -56,6 +56,8 @@ fn settings(alloc: Global, matches: &ArgMatches, uses: &[Given]) -> Result<Setti
         channels: channels as u32,
         rate: rate(text(matches, Name::Rate)),
         down,
+        csv: csv_named(text(matches, Name::Csv)),
+        header: is_yes(text(matches, Name::Header)),
         threads: is_yes(text(matches, Name::Threads)),
         ring: ring as u32,
         show,

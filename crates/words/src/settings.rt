@@ -4,7 +4,7 @@ ghost use Rattle.words.specs.Options.{IsWithin, row};
 ghost use Rattle.words.specs.declared.options.Name.TheVariants.{Channels, Down, Ring};
 ghost use Rattle.words.specs.declared.values.TheConstants.{MOST_RATE_NUM, MOST_RATE_DEN};
 
-use crate::{Format, Job};
+use crate::{CsvRecords, Format, Job};
 use la_base::Rate;
 use text_parts::ChainWord;
 
@@ -19,6 +19,10 @@ pub struct Settings {
     pub rate: Rate,
     /// The units of time for which a sample of a VCD capture stands.
     pub down: u64,
+    /// What the records of a CSV capture are.
+    pub csv: CsvRecords,
+    /// Whether the first record of a CSV capture names its columns.
+    pub header: bool,
     /// Whether decoders run in threads of their own.
     pub threads: bool,
     /// The slots of each ring between two threads.

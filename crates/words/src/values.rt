@@ -7,12 +7,12 @@ ghost use Rattle.text_parts.specs.Numbers.{number_after};
 ghost use Rattle.words.specs.Options.{IsNumber, IsWithin, Ratio, row};
 ghost use Rattle.words.specs.Rates.{den_in, most_den, most_num, numbers_of, rate_in, rate_written};
 ghost use Rattle.words.specs.Rows.{kind_of};
-ghost use Rattle.words.specs.Settings.{format_named, is_yes, job_named};
+ghost use Rattle.words.specs.Settings.{csv_named, format_named, is_yes, job_named};
 ghost use Rattle.words.specs.Uses.{why_value};
 
 use crate::lexer::cut_at_slash;
 use crate::options::{Name, Takes};
-use crate::{Format, Job, WordWhy};
+use crate::{CsvRecords, Format, Job, WordWhy};
 use la_base::Rate;
 use text_parts::{NumberWhy, number_in};
 
@@ -126,7 +126,18 @@ pub fn format_named(text: &str) -> Format
 {
     match text {
         "vcd" => Format::Vcd,
+        "csv" => Format::Csv,
         _ => Format::Raw,
+    }
+}
+
+/// What the records of a CSV capture are that a good value names.
+pub fn csv_named(text: &str) -> CsvRecords
+    ensures { result ≡ csv_named text.now }
+{
+    match text {
+        "times" => CsvRecords::Times,
+        _ => CsvRecords::Rows,
     }
 }
 

@@ -3,13 +3,14 @@ use Rattle.la_base.specs.Samples.{samples}
 use Rattle.la_base.specs.declared.samples.Run.{Run}
 use Rattle.la_io.specs.Capture.{Told}
 use Rattle.la_io.specs.declared.fault.CaptureError.{CaptureError}
+use Rattle.wait_cond.specs.Conds.{cond_alts}
 use Rattle.wait_cond.specs.Waiting.{alts_of}
 use Rattle.wait_cond.specs.declared.scan.Waiter.{Waiter}
 use Rattle.capture_any.specs.Reading.{Next, given_by, stays_open}
 use Rattle.capture_any.specs.declared.capture.Capture.{Capture}
-use Rattle.capture_any.proofs.ListingLemmas.{gave_held, gave_run, same_still, same_on, lists_done, lists_fault, lists_read, lists_write}
+use Rattle.capture_any.proofs.ListingLemmas.{gave_held, gave_run, same_still, same_on, lists_done, lists_fault, lists_no_memory, lists_read, lists_write}
 use Rattle.find_job.specs.Stopping.{WritesHeld}
-use Rattle.find_job.proofs.Searching.{Searching, searching_starts, searching_on, front_of_more, whole_so_far}
+use Rattle.find_job.proofs.Searching.{Searching, searching_starts, searching_on, front_of_more, whole_is_front, whole_so_far}
 use Rattle.find_job.proofs.search.find.Goals as goal
 
 -- the runs that were read already are searched
@@ -133,3 +134,19 @@ returns-in-Err-Read-clause-finds g c = λ before told at stands.
     let next = subst (λ (e : CaptureError). Next old new left_now left_new (Err e)) c.in-Err-Read.field-0-is c.in-Err-Read.ensures.next in
     lists_read c.args.capture.now new (same_on c.args.capture.now old new i.same c.in-Err-Read.ensures.form c.in-Err-Read.ensures.pins) _ _ before told left_old left_new s.given old left_now s.gave next
     (whole_so_far old c.loop-run.waiter before told left_old left_now (g.K.Sink.written c.args.sink.now) (g.K.Sink.written c.loop-run.sink) s _ i.alts)
+
+pub returns-in-Err-NoMemory-clause-finds : goal.returns-in-Err-NoMemory-clause-finds
+returns-in-Err-NoMemory-clause-finds g c = λ before told at stands.
+    let i = c.loop-run.invariant in
+    let s = i.searching before told at stands in
+    let old = c.loop-run.capture in
+    let new = c.next.new.self in
+    let left_old = g.S.Source.left c.args.source.now in
+    let left_now = g.S.Source.left c.loop-run.source in
+    let left_new = g.S.Source.left c.next.new.source in
+    let written_old = g.K.Sink.written c.args.sink.now in
+    let written_now = g.K.Sink.written c.loop-run.sink in
+    let next = subst (λ (e : CaptureError). Next old new left_now left_new (Err e)) c.in-Err-NoMemory.field-0-is c.in-Err-NoMemory.ensures.next in
+    lists_no_memory c.args.capture.now new (same_on c.args.capture.now old new i.same c.in-Err-NoMemory.ensures.form c.in-Err-NoMemory.ensures.pins) _ _ before told left_old left_new s.given old left_now s.gave next
+    (whole_is_front s.given (cond_alts c.args.cond) written_old written_now
+    (whole_so_far old c.loop-run.waiter before told left_old left_now written_old written_now s _ i.alts))

@@ -3,8 +3,9 @@ use Rattle.la_io.specs.Capture.{Cut}
 use Rattle.std.proofs.KnownBytes.{Consumes-nil}
 use Rattle.capture_raw.specs.Raw.{raw_names}
 use Rattle.capture_raw.specs.Reader.{raw_channels, raw_rate}
+use Rattle.capture_any.proofs.Answering.{opens_csv}
 use Rattle.capture_any.proofs.CaptureLaws.{opened_head}
-use Rattle.capture_any.specs.declared.form.Form.TheVariants.{Raw}
+use Rattle.capture_any.specs.declared.form.Form.TheVariants.{Raw, Csv}
 use Rattle.capture_any.proofs.capture.Capture.open.Goals as goal
 
 pub returns-in-Ok-clause-opens : goal.returns-in-Ok-clause-opens
@@ -24,3 +25,9 @@ returns-in-Ok-clause-opens g c =
         opened_head c.args.form (raw_channels c.open.result) (raw_rate c.open.result) c.in-Ok.names is named,
       );
     }
+
+pub returns-in-Ok-open-2-clause-opens : goal.returns-in-Ok-open-2-clause-opens
+returns-in-Ok-open-2-clause-opens g c =
+    let form = c.in-Csv in
+    let is : Csv form.mode form.header form.rate ≡ c.args.form = search rules in
+    opens_csv c.args.form form.mode form.header form.rate (g.S.Source.left c.args.source.now) _ c.in-Ok-open-2.reader is c.in-Ok-open-2.ensures.opens c.in-Ok-open-2.ensures.new

@@ -2,9 +2,10 @@ use Rattle.std.proofs.Common.{refl, sym, subst, ◌+◌, ◌≤◌, length}
 use Rattle.la_base.specs.Runs.{samples_of}
 use Rattle.capture_raw.specs.Reader.{raw_given}
 use Rattle.capture_vcd.specs.Reader.{vcd_given}
+use Rattle.capture_csv.specs.Reader.{csv_given}
 use Rattle.capture_any.specs.Reading.{given_in}
 use Rattle.capture_any.specs.declared.reader.Reader.{Reader}
-use Rattle.capture_any.proofs.Taking.{gave_raw, gave_vcd}
+use Rattle.capture_any.proofs.Taking.{gave_csv, gave_raw, gave_vcd}
 use Rattle.capture_any.proofs.capture.Capture.take_held.Goals as goal
 
 pub returns-in-Raw-clause-gave : goal.returns-in-Raw-clause-gave
@@ -25,4 +26,14 @@ returns-in-Vcd-clause-gave c =
       taken.gave.1,
       gave_vcd c.args.self.now _ c.in-Vcd.reader _ more taken.gave.2 taken.few c.in-Vcd.is refl,
       subst (λ (x : Reader). given_in x + length more ≤ vcd_given c.take_vcd.new.reader) (sym c.in-Vcd.is) taken.gave.3,
+    )
+
+pub returns-in-Csv-clause-gave : goal.returns-in-Csv-clause-gave
+returns-in-Csv-clause-gave c =
+    let taken = c.take_csv.ensures in
+    let more = samples_of taken.gave.0 in (
+      taken.gave.0,
+      taken.gave.1,
+      gave_csv c.args.self.now _ c.in-Csv.reader _ more taken.gave.2 taken.few c.in-Csv.is refl,
+      subst (λ (x : Reader). given_in x + length more ≤ csv_given c.take_csv.new.reader) (sym c.in-Csv.is) taken.gave.3,
     )

@@ -1,0 +1,14 @@
+pub mod Fields
+pub mod Plain
+pub mod Records
+pub mod Times
+pub mod Csv
+pub mod Values
+pub mod Stretches
+pub mod Modes
+pub mod Running
+pub mod Errors
+pub mod Reader
+pub mod Opening
+pub mod Worked
+pub mod Laws

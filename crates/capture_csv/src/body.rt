@@ -1,0 +1,381 @@
+// The body of a CSV capture, record by record.
+ghost use Rattle.std.specs.Prelude.{◌≡◌, ◌-◌, ◌*◌, ◌^◌, ◌≤◌, ◌<◌, length, true};
+ghost use Rattle.capture_csv.specs.Modes.{at_of, sample_of, skips};
+
+use crate::CsvMode;
+use crate::fields::fields_of_line;
+use crate::spaces::trimmed;
+use crate::span::{Found, Span};
+use crate::steps::{answer_of, columns, from_zero, quoted_time, run_of, skipped, span_from};
+use crate::times::{sample_at, time_of};
+use crate::values::{
+    are_digits, comma_at, commas_in, is_plain, plain_levels, put_digits, quoted_levels, word_of,
+};
+use csv::ByteRecord;
+use la_base::{NoMemory, Pins, Rate, Run, Word};
+use la_io::{CaptureError, CaptureFault};
+use std::alloc::Global;
+
+/// The most samples.
+const LARGE: u128 = 1 << 60;
+
+/// What was read of the body of a CSV capture.
+#[derive(Drop)]
+pub struct Body {
+    alloc: Global,
+    mode: CsvMode,
+    rate: Rate,
+    // how many fields a record has
+    want: usize,
+    // the levels of the last record, and their word
+    levels: Vec<bool>,
+    pins: Pins,
+    word: Word,
+    // the times
+    span: Option<Span>,
+    // whether a record is a sample that wasn't given yet
+    held: bool,
+    ghost few: { rate.num ≤ 10 ^ 15 },
+    ghost fits: { length levels.items ≡ want - skips mode },
+    ghost narrow: { want ≤ 65537 },
+    ghost timed: { at_of span ≡ sample_of rate span },
+    ghost rows: { held ≡ true → skips mode ≡ 0 },
+}
+
+impl Body {
+    ghost use Rattle.std.specs.Prelude.{◌≢◌, ℕ, Bool, List, [], Ok, false, None, Some, Err, IfOk, IfSome, true, map};
+    ghost use Rattle.std.specs.List.{slice_split};
+    ghost use Rattle.csv.specs.Reading.{strip_bom};
+    ghost use Rattle.csv.specs.Records.{fields_of};
+    ghost use Rattle.capture_csv.specs.Records.{Record, trimmed};
+    ghost use Rattle.capture_csv.specs.Values.{is_comma};
+    ghost use Rattle.capture_csv.specs.Plain.{IsPlain, digits_of};
+    ghost use Rattle.capture_csv.specs.Running.{BodyStands, Counts, EndSays, Flushes, FoundIs, LineSays, NewBody, RecordSays, SameBody, SameButLevels, TakenCounts, TakenSays, at_in, held_in, mode_in, pins_in, rate_in, want_in};
+    ghost use Rattle.capture_csv.specs.declared.mode.CsvMode.TheVariants.{Rows, Times};
+    ghost use Rattle.capture_csv.specs.declared.span.Found.{Found};
+
+    /// Nothing was read, and no channel is selected. A record has `want` fields.
+    pub fn new(alloc: Global, mode: CsvMode, rate: Rate, want: usize) -> Result<Body, NoMemory>
+        requires few { rate.num ≤ 10 ^ 15 }
+        requires narrow { want ≤ 65537 }
+        ensures { IfOk result (λ body. NewBody mode rate want body) }
+    {
+        let mut levels = Vec::new(alloc);
+        levels.resize(want.saturating_sub(skipped(mode)), false)?;
+        Ok(Body {
+            alloc,
+            mode,
+            rate,
+            want,
+            levels,
+            pins: Pins::new(),
+            word: 0,
+            span: None,
+            held: false,
+        })
+    }
+
+    // What the fields of a line without quotes say.
+    #[inline(always)]
+    fn find_plain(&mut self, text: &[u8]) -> Found
+        requires { length (slice_split is_comma text.now) ≡ want_in self.old }
+        ensures found { FoundIs (mode_in self.old) (map trimmed (slice_split is_comma text.now)) self.new.levels.items result }
+        ensures early { IfSome result.time (λ time. time < 2 * 10 ^ 22) }
+        ensures form { SameButLevels self.old self.new }
+    {
+        match self.mode {
+            CsvMode::Rows => Found {
+                time: None,
+                bad: plain_levels(text, 1, &mut self.levels),
+            },
+            CsvMode::Times => {
+                let at = comma_at(text);
+                let time = time_of(trimmed(&text[..at]));
+                if at == text.len() {
+                    return Found { time, bad: None };
+                }
+                Found {
+                    time,
+                    bad: plain_levels(&text[at + 1..], 2, &mut self.levels),
+                }
+            }
+        }
+    }
+
+    // What the fields of a record say.
+    fn find_quoted(&mut self, row: &ByteRecord) -> Found
+        requires { length (fields_of row.now) ≡ want_in self.old }
+        ensures found { FoundIs (mode_in self.old) (map trimmed (fields_of row.now)) self.new.levels.items result }
+        ensures early { IfSome result.time (λ time. time < 2 * 10 ^ 22) }
+        ensures form { SameButLevels self.old self.new }
+    {
+        match self.mode {
+            CsvMode::Rows => Found {
+                time: None,
+                bad: quoted_levels(row, 0, 1, &mut self.levels),
+            },
+            CsvMode::Times => Found {
+                time: quoted_time(row),
+                bad: quoted_levels(row, 1, 2, &mut self.levels),
+            },
+        }
+    }
+
+    // A record with a time.
+    fn take_timed(&mut self, line: u64, found: Found) -> Result<Option<Run>, CaptureFault>
+        requires mode { mode_in self.old ≡ Times }
+        requires early { IfSome found.time (λ time. time < 2 * 10 ^ 22) }
+        ensures says { TakenSays self.old self.new line found result }
+        ensures form { SameBody self.old self.new }
+        ensures held { held_in self.new ≡ held_in self.old }
+        ensures counts { TakenCounts self.old self.new result }
+    {
+        let time = match found.time {
+            Some(time) => time,
+            None => return Err(CaptureFault::Time { line }),
+        };
+        let span = span_from(self.span, time);
+        if time < span.last {
+            return Err(CaptureFault::TimeBack {
+                at: line,
+                was: from_zero(span.last),
+                now: from_zero(time),
+            });
+        }
+        let at = sample_at(self.rate, span.start, time);
+        if at >= LARGE {
+            return Err(CaptureFault::TimeLarge { at: line });
+        }
+        match found.bad {
+            Some(column) => return Err(CaptureFault::Field { line, column }),
+            None => {}
+        }
+        let run = run_of(self.word, at as u64 - span.at);
+        self.word = word_of(&self.pins, &self.levels);
+        self.span = Some(Span {
+            start: span.start,
+            last: time,
+            at: at as u64,
+        });
+        Ok(run)
+    }
+
+    // The levels that were read are those of a record that is a sample: it is held.
+    #[inline(always)]
+    fn put_row(&mut self)
+        requires { mode_in self.old ≡ Rows }
+        ensures says { (line : ℕ) (found : Found) → found.bad ≡ None → TakenSays self.old self.new line found (Ok None) }
+        ensures held { held_in self.new ≡ true }
+        ensures at { at_in self.new ≡ at_in self.old }
+        ensures form { SameBody self.old self.new }
+    {
+        self.word = word_of(&self.pins, &self.levels);
+        self.held = true;
+    }
+
+    // A record that is a sample.
+    #[inline(always)]
+    fn take_row(&mut self, line: u64, found: Found) -> Result<Option<Run>, CaptureFault>
+        requires { mode_in self.old ≡ Rows }
+        ensures says { TakenSays self.old self.new line found result }
+        ensures form { SameBody self.old self.new }
+        ensures counts { TakenCounts self.old self.new result }
+        ensures rows { IfOk result (λ run. run ≡ None) }
+    {
+        match found.bad {
+            Some(column) => Err(CaptureFault::Field { line, column }),
+            None => {
+                self.put_row();
+                Ok(None)
+            }
+        }
+    }
+
+    // What was found in the fields of a record.
+    #[inline(always)]
+    fn take(&mut self, line: u64, found: Found) -> Result<Option<Run>, CaptureFault>
+        requires early { IfSome found.time (λ time. time < 2 * 10 ^ 22) }
+        ensures says { TakenSays self.old self.new line found result }
+        ensures form { SameBody self.old self.new }
+        ensures counts { TakenCounts self.old self.new result }
+        ensures rows { IfOk result (λ run. IfSome run (λ _. mode_in self.old ≡ Times)) }
+    {
+        match self.mode {
+            CsvMode::Rows => self.take_row(line, found),
+            CsvMode::Times => self.take_timed(line, found),
+        }
+    }
+
+    // A record of a line without quotes.
+    #[inline(always)]
+    fn plain_record(&mut self, line: u64, text: &[u8]) -> Result<Option<Run>, CaptureFault>
+        requires some { 0 < length text.now }
+        requires few { length text.now ≤ 65536 }
+        requires plain { IsPlain text.now }
+        ensures says { LineSays self.old self.new line text.now result }
+        ensures form { SameBody self.old self.new }
+        ensures counts { TakenCounts self.old self.new result }
+        ensures rows { IfOk result (λ run. IfSome run (λ _. mode_in self.old ≡ Times)) }
+    {
+        let have = commas_in(text) + 1;
+        if have != self.want {
+            return Err(columns(line, self.want, have));
+        }
+        let found = self.find_plain(text);
+        self.take(line, found)
+    }
+
+    // A record of any line.
+    #[inline(never)]
+    fn quoted_record(&mut self, line: u64, text: &[u8]) -> Result<Option<Run>, CaptureError>
+        requires few { length text.now ≤ 65536 }
+        requires bare { strip_bom text.now ≡ text.now }
+        ensures says { RecordSays self.old self.new line text.now result }
+        ensures form { SameBody self.old self.new }
+        ensures counts { Counts self.old self.new result }
+        ensures rows { IfOk result (λ run. IfSome run (λ _. mode_in self.old ≡ Times)) }
+        ensures same { result ≡ Err CaptureError.NoMemory → self.new ≡ self.old }
+        ensures read { result ≢ Err CaptureError.Read }
+    {
+        let row = match fields_of_line(self.alloc, text) {
+            Ok(row) => row,
+            Err(NoMemory) => return Err(CaptureError::NoMemory),
+        };
+        if row.len() != self.want {
+            return Err(CaptureError::Fault(columns(line, self.want, row.len())));
+        }
+        let found = self.find_quoted(&row);
+        answer_of(self.take(line, found))
+    }
+
+    /// Reads the record of a line: `text` is what stands in it behind byte order marks. A record with a
+    /// time gives the samples before it; one that is a sample is held. A fault gives none.
+    #[inline(always)]
+    pub fn record(&mut self, line: u64, text: &[u8]) -> Result<Option<Run>, CaptureError>
+        requires some { 0 < length text.now }
+        requires few { length text.now ≤ 65536 }
+        requires bare { strip_bom text.now ≡ text.now }
+        ensures says { RecordSays self.old self.new line text.now result }
+        ensures form { SameBody self.old self.new }
+        ensures counts { Counts self.old self.new result }
+        ensures rows { IfOk result (λ run. IfSome run (λ _. mode_in self.old ≡ Times)) }
+        ensures same { result ≡ Err CaptureError.NoMemory → self.new ≡ self.old }
+        ensures read { result ≢ Err CaptureError.Read }
+        ensures plain { IsPlain text.now → result ≢ Err CaptureError.NoMemory }
+    {
+        if !is_plain(text) {
+            return self.quoted_record(line, text);
+        }
+        answer_of(self.plain_record(line, text))
+    }
+
+    /// How many bytes a line has that is a digit for each channel, with a comma between two.
+    #[inline(always)]
+    pub fn row_len(&self) -> usize {
+        (2 * self.levels.len()).saturating_sub(1)
+    }
+
+    /// Reads the record of such a line where a record is a sample: it is held. `false` comes for any other
+    /// line and where records have times, and nothing changes then.
+    #[inline(always)]
+    pub fn row(&mut self, text: &[u8]) -> bool
+        ensures says { result ≡ true → (line : ℕ) → LineSays self.old self.new line text.now (Ok None) }
+        ensures digits { result ≡ true → (levels : List Bool) × (0 < length levels) × (text.now ≡ digits_of levels) }
+        ensures rows { result ≡ true → mode_in self.old ≡ Rows }
+        ensures held { result ≡ true → held_in self.new ≡ true }
+        ensures kept { result ≡ false → self.new ≡ self.old }
+        ensures at { at_in self.new ≡ at_in self.old }
+        ensures form { SameBody self.old self.new }
+    {
+        match self.mode {
+            CsvMode::Times => return false,
+            CsvMode::Rows => {}
+        }
+        if !are_digits(text, self.levels.len()) {
+            return false;
+        }
+        put_digits(text, &mut self.levels);
+        self.put_row();
+        true
+    }
+
+    /// Whether a record is a sample that wasn't given yet.
+    #[inline(always)]
+    pub fn is_held(&self) -> bool
+        ensures { result ≡ held_in self.now }
+    {
+        self.held
+    }
+
+    /// The value of the last record.
+    #[inline(always)]
+    pub fn word(&self) -> Word
+        ensures { result ≡ self.now.word }
+    {
+        self.word
+    }
+
+    /// Gives the sample that is held.
+    #[inline(always)]
+    pub fn flush(&mut self) -> Run
+        requires { held_in self.old ≡ true }
+        ensures flushes { Flushes self.old self.new (Some result) }
+        ensures held { held_in self.new ≡ false }
+        ensures len { result.len ≡ 1 }
+        ensures value { result.value ≡ self.old.word }
+        ensures at { at_in self.new ≡ at_in self.old }
+        ensures form { SameBody self.old self.new }
+    {
+        self.held = false;
+        Run {
+            value: self.word,
+            len: 1,
+        }
+    }
+
+    /// The last sample, at a clean end.
+    pub fn end(&self) -> Option<Run>
+        ensures says { EndSays self.now result }
+        ensures some { IfSome result (λ run. (mode_in self.now ≡ Times) × (run.len ≡ 1)) }
+    {
+        match self.span {
+            Some(_) => match self.mode {
+                CsvMode::Rows => None,
+                CsvMode::Times => Some(Run {
+                    value: self.word,
+                    len: 1,
+                }),
+            },
+            None => None,
+        }
+    }
+
+    /// Bit j of each sample is channel `pins[j]` from now on. No sample was given yet.
+    pub fn select(&mut self, pins: Pins)
+        ensures stands { (records : List Record) → BodyStands self.old records [] → BodyStands self.new records [] }
+        ensures pins { pins_in self.new ≡ pins.items }
+        ensures mode { mode_in self.new ≡ mode_in self.old }
+        ensures rate { rate_in self.new ≡ rate_in self.old }
+        ensures want { want_in self.new ≡ want_in self.old }
+        ensures held { held_in self.new ≡ held_in self.old }
+        ensures at { at_in self.new ≡ at_in self.old }
+    {
+        let word = word_of(&pins, &self.levels);
+        self.pins = pins;
+        self.word = word;
+    }
+
+    /// What a record is.
+    pub fn mode(&self) -> CsvMode
+        ensures { result ≡ mode_in self.now }
+    {
+        self.mode
+    }
+
+    /// The rate of its samples.
+    pub fn rate(&self) -> Rate
+        ensures { result ≡ rate_in self.now }
+    {
+        self.rate
+    }
+}

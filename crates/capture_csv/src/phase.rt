@@ -1,0 +1,27 @@
+// How far a reader is.
+use la_base::Run;
+use la_io::CaptureFault;
+
+/// What one line gave.
+#[derive(Clone, Copy, Debug, PartialEq, Eq)]
+pub enum Step {
+    /// No samples.
+    Went,
+    /// A run.
+    Gave(Run),
+    /// The end.
+    Over,
+}
+
+/// How far the samples of a capture were given.
+#[derive(Clone, Copy, Debug, PartialEq, Eq)]
+pub enum Phase {
+    /// There may be more.
+    Running,
+    /// All were.
+    Ended,
+    /// There is no record.
+    Empty,
+    /// The first record has a fault, and so there are none.
+    Refused(CaptureFault),
+}
