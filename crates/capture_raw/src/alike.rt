@@ -8,13 +8,11 @@ use la_base::Word;
 // How many bytes are compared at once.
 const BLOCK: usize = 64;
 
-// How many bytes are compared at once under a mask, and how many behind the last of these.
-const WIDE_BLOCK: usize = 32;
-
-const SHORT_BLOCK: usize = 8;
+// How many bytes are compared at once under a mask.
+const SHORT_BLOCK: usize = 32;
 
 // How many bytes are looked at one by one before that.
-const NEAR: usize = 8;
+const NEAR: usize = 16;
 
 /// How many units at the front give the same sample, for pins whose bits `mask` has.
 #[inline]
@@ -139,16 +137,12 @@ fn agreeing_far(bytes: &[u8], first: u8, mask: u8, known: usize) -> usize
     ensures within { result ≤ length bytes.now }
     ensures agree { AllAgree mask first bytes.now result }
 {
-    let wide = agreeing_blocks(bytes, first, mask, known, WIDE_BLOCK);
-    let short = agreeing_blocks(bytes, first, mask, wide, SHORT_BLOCK);
-    agreeing_bytes(bytes, first, mask, short, bytes.len())
+    let blocks = agreeing_blocks(bytes, first, mask, known);
+    agreeing_bytes(bytes, first, mask, blocks, bytes.len())
 }
 
-// Goes on behind `known` bytes that agree with `first`, by whole blocks. It is inlined, since the size of a
-// block is then known.
-#[inline(always)]
-fn agreeing_blocks(bytes: &[u8], first: u8, mask: u8, known: usize, block: usize) -> usize
-    requires some { 1 ≤ block }
+// Goes on behind `known` bytes that agree with `first`, by whole blocks.
+fn agreeing_blocks(bytes: &[u8], first: u8, mask: u8, known: usize) -> usize
     requires within { known ≤ length bytes.now }
     requires agree { AllAgree mask first bytes.now known }
     ensures more { known ≤ result }
@@ -156,17 +150,16 @@ fn agreeing_blocks(bytes: &[u8], first: u8, mask: u8, known: usize, block: usize
     ensures agree { AllAgree mask first bytes.now result }
 {
     let mut done = known;
-    while bytes.len() - done >= block {
-        if !block_agrees(&bytes[done..done + block], first, mask) {
+    while bytes.len() - done >= SHORT_BLOCK {
+        if !block_agrees(&bytes[done..done + SHORT_BLOCK], first, mask) {
             return done;
         }
-        done += block;
+        done += SHORT_BLOCK;
     }
     done
 }
 
 // Whether all bytes agree with `first`. It stops nowhere, so that many are compared at once.
-#[inline(always)]
 fn block_agrees(bytes: &[u8], first: u8, mask: u8) -> bool
     ensures { result ≡ true → AllAgree mask first bytes.now (length bytes.now) }
 {

@@ -30,11 +30,11 @@ module _ (values : Values) where
   one_stack_fault one other a b = let both = sym a.stack ∙ b.stack in cc
 
   module _ (names : List (List ℕ)) (rate : Rate) where
-    bound_judged : SearchBound values names ⊎ StackBound values names rate → IsJudged values
+    pub bound_judged : SearchBound values names ⊎ StackBound values names rate → IsJudged values
     bound_judged (inl s) = inl s.searches.job
     bound_judged (inr s) = inr (s.accepted, s.stacks)
 
-    refused_judged : (fault : BindFault) → SearchRefused values names fault ⊎ StackRefused values names rate fault → IsJudged values
+    pub refused_judged : (fault : BindFault) → SearchRefused values names fault ⊎ StackRefused values names rate fault → IsJudged values
     refused_judged fault (inl s) = inl s.searches.job
     refused_judged fault (inr s) = inr (s.accepted, s.stacks)
 

@@ -14,18 +14,67 @@ use Rattle.words.specs.Settings.{Values, settings_of}
 use Rattle.words.specs.declared.kinds.WordFault.{WordFault}
 use Rattle.stack_spec.specs.declared.faults.BindFault.{BindFault}
 use Rattle.stack_spec.specs.declared.faults.StackFault.{StackFault}
-use Rattle.ldecode.specs.Asking.{CanBind, CannotBind, EndsAs, HasFault, HasStackFault, HeadIs, IsFormOf, NamesNoHead}
-use Rattle.ldecode.specs.Headline.{DidFail, Good, Headline, Notified, OrNoMemory, Runs, SinkCause, SourceCause, Stream, Tells, WhereUnread, Worked, Works}
+use Rattle.ldecode.specs.Asking.{CanBind, CannotBind, EndsAs, HasFault, HasStackFault, HeadIs, IsFormOf, IsJudged, NamesNoHead}
+use Rattle.ldecode.specs.Headline.{DidFail, Does, Good, Headline, IsMade, Makes, Notified, OrNoMemory, Runs, SinkCause, SourceCause, Stream, Tells, WhereUnread, Worked, Works}
 use Rattle.ldecode.specs.declared.status.Status.{Status}
 use Rattle.ldecode.specs.declared.status.Status.TheVariants.{Bind, Capture, Done, NoMemory, ReadFault, Stack, Words, WriteFault}
-use Rattle.ldecode.proofs.Exact.{bad_or_can, bad_or_cannot, can_or_cannot, can_or_stack, cannot_or_stack, head_or_stack, one_bad, one_ending, one_refusal, one_stack_fault, unread_or_cannot}
+use Rattle.ldecode.proofs.Exact.{bound_judged, refused_judged, bad_or_can, bad_or_cannot, can_or_cannot, can_or_stack, cannot_or_stack, head_or_stack, one_bad, one_ending, one_refusal, one_stack_fault, unread_or_cannot}
 use Rattle.ldecode.proofs.Running.{of_these}
+
+-- what speaks of a stack or of alternatives doesn't speak of a made capture
+module _ (values : Values) where
+  judged_not_made : IsJudged values → IsMade values → ⊥
+  judged_not_made (inl find) made = let both = sym find ∙ made in cc
+  judged_not_made (inr ready) made = let both = sym ready.1.job ∙ made in cc
+
+  stack_not_made : (fault : StackFault) → HasStackFault values fault → IsMade values → ⊥
+  stack_not_made fault s made = let both = sym s.job ∙ made in cc
+
+  cannot_not_made : (bytes : List ℕ) (told : Told) (fault : BindFault) → CannotBind values bytes told fault → IsMade values → ⊥
+  cannot_not_made bytes told fault c made = judged_not_made (refused_judged values c.names c.rate fault c.refused) made
+
+  ends_not_made : (bytes : List ℕ) (told : Told) (ending : Ending) → EndsAs values bytes told ending → IsMade values → ⊥
+  ends_not_made bytes told ending e made = judged_not_made (bound_judged values e.can.names e.can.rate e.can.bound) made
+
+  fault_not_made : (bytes : List ℕ) (told : Told) (fault : CaptureFault) → HasFault values bytes told fault → IsMade values → ⊥
+  fault_not_made bytes told fault (inl h) made = judged_not_made h.judged made
+  fault_not_made bytes told fault (inr e) made = ends_not_made bytes told (Faulty fault) e made
 
 module _ (values : Values) (bytes : List ℕ) (told : Told) (old new : Option (List ℕ)) where
   -- what work is done for is bound to a good head
   worked_can : (e : ListingEnd) → Worked values bytes told old new e → CanBind values bytes told
   worked_can e (inl s) = record { form = s.form; names = s.names; rate = s.rate; form_is = s.form_is; head = s.head; bound = inl s.asks.search }
   worked_can e (inr d) = record { form = d.form; names = d.names; rate = d.rate; form_is = d.form_is; head = d.head; bound = inr d.asks.stack }
+
+  -- and so isn't a made capture
+  worked_not_made : (e : ListingEnd) → Worked values bytes told old new e → IsMade values → ⊥
+  worked_not_made e w made = let c = worked_can e w in judged_not_made values (bound_judged values c.names c.rate c.bound) made
+
+  works_not_made : (status : Status) → Works values bytes told old new status → IsMade values → status ≡ NoMemory
+  works_not_made Done w made = absurd (worked_not_made end.Done w made)
+  works_not_made (Words other) w made = absurd w
+  works_not_made (Stack other) w made = absurd (stack_not_made values other w.0 made)
+  works_not_made (Bind other) w made = absurd (cannot_not_made values bytes told other w.0 made)
+  works_not_made ReadFault w made = absurd (by w.1)
+    where
+      by : Worked values bytes told old new end.Read ⊎ (HeadIs values bytes told Unread × Appends old new []) → ⊥
+      by (inl k) = worked_not_made end.Read k made
+      by (inr h) = judged_not_made values h.0.judged made
+  works_not_made (Capture other) (inl k) made = absurd (worked_not_made (end.Fault other) k made)
+  works_not_made (Capture other) (inr h) made = absurd (judged_not_made values h.0.judged made)
+  works_not_made WriteFault w made = absurd (worked_not_made end.Write w made)
+  works_not_made NoMemory w made = refl
+
+  -- a made capture is done where the sink didn't fail
+  makes_done : (status : Status) → Makes values bytes old new status → (sink : Stream) → SinkCause sink.failed_old sink.failed_new status → ¬ DidFail sink → OrNoMemory Done status
+  makes_done Done m sink k no_write = inl refl
+  makes_done (Words other) m sink k no_write = absurd m.wrote
+  makes_done (Stack other) m sink k no_write = absurd m.wrote
+  makes_done (Bind other) m sink k no_write = absurd m.wrote
+  makes_done ReadFault m sink k no_write = absurd m.wrote
+  makes_done (Capture other) m sink k no_write = absurd m.wrote
+  makes_done WriteFault m sink k no_write = absurd (no_write k.1)
+  makes_done NoMemory m sink k no_write = inr refl
 
   -- how the bytes end of work that is done, and of work that met a fault
   ends_clean : (e : Ending) → Worked values bytes told old new end.Done → EndsAs values bytes told e → e ≡ Clean
@@ -136,7 +185,7 @@ module _ (values : Values) where
 
 -- a status is want of memory, or a fault of the words, or speaks of good words
 outcome : (words : List Text) (bytes : List ℕ) (told : Told) (old new : Option (List ℕ)) (status : Status) → Tells words bytes told old new status
-    → (status ≡ NoMemory) ⊎ (((fault : WordFault) × (settings_of words ≡ Err fault) × (status ≡ Words fault)) ⊎ Good words (λ values. Works values bytes told old new status))
+    → (status ≡ NoMemory) ⊎ (((fault : WordFault) × (settings_of words ≡ Err fault) × (status ≡ Words fault)) ⊎ Good words (λ values. Does values bytes told old new status))
 outcome words bytes told old new Done t = inr (inr t)
 outcome words bytes told old new (Words fault) t = inr (inl (fault, t.0, refl))
 outcome words bytes told old new (Stack fault) t = inr (inr t)
@@ -154,18 +203,34 @@ left_over left bytes told (Some rest) taken at_end = (rest, taken, at_end)
 module _ (words : List Text) (source sink notices : Stream) (same : Type 0) (status : Status) (runs : Runs words source.old source.new sink.old sink.new status)
     (read : SourceCause source.failed_old source.failed_new status) (write : SinkCause sink.failed_old sink.failed_new status) where
   -- what of good words makes a status makes it
-  exactly : (P : Values → Type 0) (expected : Status) → ((values : Values) → Works values runs.bytes runs.told sink.old sink.new status → P values → OrNoMemory expected status) → Good words P → OrNoMemory expected status
-  exactly P expected on g = by (outcome words runs.bytes runs.told sink.old sink.new status runs.tells)
+  exactly : (P : Values → Type 0) (expected : Status) → ((values : Values) → Works values runs.bytes runs.told sink.old sink.new status → P values → OrNoMemory expected status) → ((values : Values) → P values → IsMade values → ⊥) → Good words P → OrNoMemory expected status
+  exactly P expected on not_made g = by (outcome words runs.bytes runs.told sink.old sink.new status runs.tells)
     where
-      by : (status ≡ NoMemory) ⊎ (((fault : WordFault) × (settings_of words ≡ Err fault) × (status ≡ Words fault)) ⊎ Good words (λ values. Works values runs.bytes runs.told sink.old sink.new status)) → OrNoMemory expected status
+      by : (status ≡ NoMemory) ⊎ (((fault : WordFault) × (settings_of words ≡ Err fault) × (status ≡ Words fault)) ⊎ Good words (λ values. Does values runs.bytes runs.told sink.old sink.new status)) → OrNoMemory expected status
       by (inl none) = inr none
       by (inr (inl w)) = let both = sym w.1 ∙ g.1 in cc
-      by (inr (inr k)) = on k.0 k.2 (of_these words k.0 k.1 P g)
+      by (inr (inr k)) = by_job k.2
+        where
+          by_job : Does k.0 runs.bytes runs.told sink.old sink.new status → OrNoMemory expected status
+          by_job (inl w) = on k.0 w (of_these words k.0 k.1 P g)
+          by_job (inr m) = absurd (not_made k.0 (of_these words k.0 k.1 P g) m.job)
+
+  made_here : Good words IsMade → ¬ DidFail sink → OrNoMemory Done status
+  made_here g no_write = by (outcome words runs.bytes runs.told sink.old sink.new status runs.tells)
+    where
+      by : (status ≡ NoMemory) ⊎ (((fault : WordFault) × (settings_of words ≡ Err fault) × (status ≡ Words fault)) ⊎ Good words (λ values. Does values runs.bytes runs.told sink.old sink.new status)) → OrNoMemory Done status
+      by (inl none) = inr none
+      by (inr (inl w)) = let both = sym w.1 ∙ g.1 in cc
+      by (inr (inr k)) = by_job k.2
+        where
+          by_job : Does k.0 runs.bytes runs.told sink.old sink.new status → OrNoMemory Done status
+          by_job (inl w) = inr (works_not_made k.0 runs.bytes runs.told sink.old sink.new status w (of_these words k.0 k.1 IsMade g))
+          by_job (inr m) = makes_done k.0 runs.bytes runs.told sink.old sink.new status m sink write no_write
 
   words_exact : (fault : WordFault) → settings_of words ≡ Err fault → OrNoMemory (Words fault) status
   words_exact fault is = by (outcome words runs.bytes runs.told sink.old sink.new status runs.tells)
     where
-      by : (status ≡ NoMemory) ⊎ (((other : WordFault) × (settings_of words ≡ Err other) × (status ≡ Words other)) ⊎ Good words (λ values. Works values runs.bytes runs.told sink.old sink.new status)) → OrNoMemory (Words fault) status
+      by : (status ≡ NoMemory) ⊎ (((other : WordFault) × (settings_of words ≡ Err other) × (status ≡ Words other)) ⊎ Good words (λ values. Does values runs.bytes runs.told sink.old sink.new status)) → OrNoMemory (Words fault) status
       by (inl none) = inr none
       by (inr (inl w)) = let both = sym w.1 ∙ is in let one : w.0 ≡ fault = cc in inl (w.2 ∙ ap Words one)
       by (inr (inr k)) = let both = sym k.1 ∙ is in cc
@@ -174,20 +239,22 @@ module _ (words : List Text) (source sink notices : Stream) (same : Type 0) (sta
   complete_here left is g no_read no_write =
       let over = left_over left runs.bytes runs.told source.new (subst (λ (o : Option (List ℕ)). Consumes o source.new runs.bytes) is runs.taken) runs.at_end in
       exactly (λ values. EndsAs values left AtEnd Clean) Done
-      (λ values w e. works_complete values runs.bytes over.0 runs.told over.2 sink.old sink.new source sink no_read no_write status w read write (subst (λ (l : List ℕ). EndsAs values l AtEnd Clean) over.1 e)) g
+      (λ values w e. works_complete values runs.bytes over.0 runs.told over.2 sink.old sink.new source sink no_read no_write status w read write (subst (λ (l : List ℕ). EndsAs values l AtEnd Clean) over.1 e)) (λ values e made. ends_not_made values left AtEnd Clean e made) g
 
-  pub headline : WhereUnread (Good words NamesNoHead) status same → Notified notices status → Headline words source sink notices same status
-  headline unread notified = record {
+  pub headline : WhereUnread (Good words NamesNoHead) status same → (Good words IsMade → same) → Notified notices status → Headline words source sink notices same status
+  headline unread made_same notified = record {
     bytes = runs.bytes;
     told = runs.told;
     taken = runs.taken;
     at_end = runs.at_end;
     tells = runs.tells;
     words_fault = words_exact;
-    stack_fault = λ fault g. exactly (λ values. HasStackFault values fault) (Stack fault) (λ values w s. works_stack values runs.bytes runs.told sink.old sink.new status w fault s) g;
-    bind_fault = λ fault g. exactly (λ values. CannotBind values runs.bytes runs.told fault) (Bind fault) (λ values w c. works_bind values runs.bytes runs.told sink.old sink.new status w fault c) g;
-    capture_fault = λ fault g no_read no_write. exactly (λ values. HasFault values runs.bytes runs.told fault) (Capture fault) (λ values w h. works_fault values runs.bytes runs.told sink.old sink.new source sink no_read no_write status w read write fault h) g;
+    stack_fault = λ fault g. exactly (λ values. HasStackFault values fault) (Stack fault) (λ values w s. works_stack values runs.bytes runs.told sink.old sink.new status w fault s) (λ values s made. stack_not_made values fault s made) g;
+    bind_fault = λ fault g. exactly (λ values. CannotBind values runs.bytes runs.told fault) (Bind fault) (λ values w c. works_bind values runs.bytes runs.told sink.old sink.new status w fault c) (λ values c made. cannot_not_made values runs.bytes runs.told fault c made) g;
+    capture_fault = λ fault g no_read no_write. exactly (λ values. HasFault values runs.bytes runs.told fault) (Capture fault) (λ values w h. works_fault values runs.bytes runs.told sink.old sink.new source sink no_read no_write status w read write fault h) (λ values h made. fault_not_made values runs.bytes runs.told fault h made) g;
     complete = complete_here;
+    made = made_here;
+    made_unread = made_same;
     read = read;
     write = write;
     unread = unread;

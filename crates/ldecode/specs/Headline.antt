@@ -14,6 +14,7 @@ use Rattle.find_job.specs.Finding.{WholeListing, ListingFront}
 use Rattle.wait_cond.specs.declared.alt.Alt.{Alt}
 use Rattle.words.specs.Lexer.{Text}
 use Rattle.words.specs.Settings.{Values, settings_of}
+use Rattle.words.specs.declared.kinds.Job.TheVariants.{Make}
 use Rattle.words.specs.declared.kinds.WordFault.{WordFault}
 use Rattle.stack_spec.specs.Accepting.{Accepted}
 use Rattle.stack_spec.specs.declared.faults.BindFault.{BindFault}
@@ -22,6 +23,7 @@ use Rattle.decoder_core.specs.Trees.{Node}
 use Rattle.decoder_set.specs.declared.setup.Setup.{Setup}
 use Rattle.ldecode.specs.Asking.{AsksFor, AsksStack, CannotBind, EndsAs, HasFault, HasHead, HasStackFault, HeadIs, IsFormOf, NamesNoHead}
 use Rattle.ldecode.specs.Decoding.{decode_listing}
+use Rattle.ldecode.specs.Making.{MadeBy}
 use Rattle.ldecode.specs.Notices.{notice_of}
 use Rattle.ldecode.specs.declared.status.Status.{Status}
 use Rattle.ldecode.specs.declared.status.Status.TheVariants.{Done, Words, Stack, Bind, ReadFault, Capture, WriteFault, NoMemory}
@@ -94,16 +96,30 @@ pub record WorksOn (values : Values) (left_old left_new old new : Option (List �
 abbrev pub Good : List Text → (Values → Type 0) → Type 0
 Good words Holds = (values : Values) × (settings_of words ≡ Ok values) × Holds values
 
+-- the values ask for a made capture
+abbrev pub IsMade : Values → Type 0
+IsMade values = values.job ≡ Make
+
+-- what a status says of a made capture: nothing was read
+pub record Makes (values : Values) (bytes : List ℕ) (old new : Option (List ℕ)) (status : Status) : Type 0 where
+  pub job : IsMade values
+  pub none : bytes ≡ []
+  pub wrote : MadeBy values.seed values.count old new status
+
+-- what a status says of good words, by their job
+abbrev pub Does : Values → List ℕ → Told → Option (List ℕ) → Option (List ℕ) → Status → Type 0
+Does values bytes told old new status = Works values bytes told old new status ⊎ Makes values bytes old new status
+
 -- what a status says of the words, the bytes that were taken and what was written
 abbrev pub Tells : List Text → List ℕ → Told → Option (List ℕ) → Option (List ℕ) → Status → Type 0
-Tells words bytes told old new Done = Good words (λ values. Works values bytes told old new Done)
+Tells words bytes told old new Done = Good words (λ values. Does values bytes told old new Done)
 Tells words bytes told old new (Words fault) = (settings_of words ≡ Err fault) × (bytes ≡ []) × Appends old new []
-Tells words bytes told old new (Stack fault) = Good words (λ values. Works values bytes told old new (Stack fault))
-Tells words bytes told old new (Bind fault) = Good words (λ values. Works values bytes told old new (Bind fault))
-Tells words bytes told old new ReadFault = Good words (λ values. Works values bytes told old new ReadFault)
-Tells words bytes told old new (Capture fault) = Good words (λ values. Works values bytes told old new (Capture fault))
-Tells words bytes told old new WriteFault = Good words (λ values. Works values bytes told old new WriteFault)
-Tells words bytes told old new NoMemory = Good words (λ values. Works values bytes told old new NoMemory) ⊎ Appends old new []
+Tells words bytes told old new (Stack fault) = Good words (λ values. Does values bytes told old new (Stack fault))
+Tells words bytes told old new (Bind fault) = Good words (λ values. Does values bytes told old new (Bind fault))
+Tells words bytes told old new ReadFault = Good words (λ values. Does values bytes told old new ReadFault)
+Tells words bytes told old new (Capture fault) = Good words (λ values. Does values bytes told old new (Capture fault))
+Tells words bytes told old new WriteFault = Good words (λ values. Does values bytes told old new WriteFault)
+Tells words bytes told old new NoMemory = Good words (λ values. Does values bytes told old new NoMemory) ⊎ Appends old new []
 
 -- a run took these bytes of its source, whose end it was told or not, and its status says what it says of them
 pub record Runs (words : List Text) (left_old left_new old new : Option (List ℕ)) (status : Status) : Type 0 where
@@ -172,6 +188,9 @@ pub record Headline (words : List Text) (source sink notices : Stream) (same : T
   pub capture_fault : (fault : CaptureFault) → Good words (λ values. HasFault values bytes told fault) → ¬ DidFail source → ¬ DidFail sink → OrNoMemory (Capture fault) status
   -- where nothing is refused, what the source had left ends as it may, and nothing fails, the run is done, but for want of memory
   pub complete : (left : List ℕ) → source.old ≡ Some left → Good words (λ values. EndsAs values left AtEnd Clean) → ¬ DidFail source → ¬ DidFail sink → OrNoMemory Done status
+  -- where a capture is made, nothing can fail but writing and memory, and nothing is read
+  pub made : Good words IsMade → ¬ DidFail sink → OrNoMemory Done status
+  pub made_unread : Good words IsMade → same
   -- ReadFault comes only where the source failed, and WriteFault exactly where the sink failed
   pub read : SourceCause source.failed_old source.failed_new status
   pub write : SinkCause sink.failed_old sink.failed_new status

@@ -4,3 +4,6 @@ pub mod Asking
 pub mod Chosen
 pub mod Notices
 pub mod Headline
+pub mod Making
+pub mod Tallies
+pub mod Sums

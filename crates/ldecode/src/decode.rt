@@ -83,8 +83,8 @@ fn goes_back<T>(lent: &mut T)
     ensures { lent.new ≡ lent.old }
 {}
 
-// Reads the capture to its end, and gathers the notes that the tree of machines gives.
-fn collect<S: Source, M: Machine>(
+/// Reads the capture to its end, and gathers the notes that the tree of machines gives.
+pub fn collect<S: Source, M: Machine>(
     capture: &mut Capture,
     machines: &mut [M],
     parents: &[Option<u32>],

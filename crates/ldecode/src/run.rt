@@ -2,9 +2,10 @@
 ghost use Rattle.std.specs.Prelude.{◌≡◌, map};
 ghost use Rattle.std.specs.String.{string_bytes};
 ghost use Rattle.ldecode.specs.Asking.{NamesNoHead};
-ghost use Rattle.ldecode.specs.Headline.{Good, Headline, Notified, Runs, SinkCause, SourceCause, WhereUnread, stream};
+ghost use Rattle.ldecode.specs.Headline.{Good, Headline, IsMade, Notified, Runs, SinkCause, SourceCause, WhereUnread, stream};
 
 use crate::decode_stack::decode_stack;
+use crate::make::make;
 use crate::notices::notice;
 use crate::search::search;
 use crate::status::Status;
@@ -21,6 +22,7 @@ fn run_words<S: Source, K: Sink>(
 ) -> Status
     ensures runs { Runs (map string_bytes words.now) (S.left source.old) (S.left source.new) (K.written sink.old) (K.written sink.new) result }
     ensures unread { WhereUnread (Good (map string_bytes words.now) NamesNoHead) result (source.new ≡ source.old) }
+    ensures made { Good (map string_bytes words.now) IsMade → source.new ≡ source.old }
     ensures read { SourceCause (S.faults source.old) (S.faults source.new) result }
     ensures write { SinkCause (K.faults sink.old) (K.faults sink.new) result }
 {
@@ -32,6 +34,7 @@ fn run_words<S: Source, K: Sink>(
     match settings.job {
         Job::Find => search(alloc, &settings, source, sink),
         Job::Decode => decode_stack(alloc, &settings, source, sink),
+        Job::Make => make(alloc, settings.seed, settings.count, sink),
     }
 }
 
@@ -49,8 +52,9 @@ fn tell<E: Sink>(status: &Status, notices: &mut E)
 /// thread, and then the line that tells of the status to the notices.
 ///
 /// What is written is the listing of the words' stack, or the binary data that they want of it, or the
-/// listing of their condition, on the settled samples of the bytes that were taken; the status is what words and capture give. `ReadFault` comes only where
-/// the source failed, `WriteFault` exactly where the sink failed: a front of the listing is then
+/// listing of their condition, on the settled samples of the bytes that were taken; or how much a made
+/// capture gives, for which nothing is read. The status is what words and capture give. `ReadFault` comes
+/// only where the source failed, `WriteFault` exactly where the sink failed: a front of the listing is then
 /// written. `NoMemory`, for want of memory, may come in place of any status but `WriteFault`; a front
 /// of the listing, or nothing, is written then.
 pub fn run_here<S: Source, K: Sink, E: Sink>(

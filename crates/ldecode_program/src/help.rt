@@ -27,6 +27,10 @@ ldecode --job find [OPTION..] ALTERNATIVE..
     prints a line for each sample at which an alternative holds: SAMPLE: NUMBERS.
     An alternative is `any`, or terms with commas between them: CHANNEL=LEVEL,
     where the level is r, f, e (an edge), s (none), h or l; or skip=SAMPLES.
+ldecode --job make [OPTION..]
+    decodes a capture that is made, of transactions that a seed draws, and prints
+    how many samples it has, and what its decoders give, in numbers. This checks
+    the program: what is printed is known from what was drawn.
 
 A capture is raw samples, with channels D0, D1 and so on; or with --format vcd
 a value change dump, which names its channels and tells its rate; or with
@@ -52,6 +56,8 @@ What a serial line says, as it was said:
     ldecode --binary uart-1:data uart:rx=D0 < capture.raw
 Where D0 rises while D3 is low:
     ldecode --job find D0=r,D3=l < capture.raw
+What the decoders give of a made capture:
+    ldecode --job make --seed 1 --count 1000
 ";
 
 /// What `--help` tells: the jobs, the options, the decoders, and an example of each job.

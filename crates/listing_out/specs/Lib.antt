@@ -1,2 +1,3 @@
 pub mod NoteLines
 pub mod StopLines
+pub mod Summaries

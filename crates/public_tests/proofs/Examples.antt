@@ -20,7 +20,7 @@ use Rattle.stack_spec.specs.declared.faults.StackFault.{StackFault}
 use Rattle.stack_spec.specs.declared.faults.StackWhy.{StackWhy}
 use Rattle.stack_spec.specs.declared.faults.StackWhy.TheVariants as stack_why
 
--- Jobs that no word names yet: one that takes no words that are no options, and one that takes two or three. There
+-- A job that takes no words that are no options, as `make` does, and one that takes two or three, as no job does. There
 -- are 9 words in all, and the first of those that are no options is word 3.
 
 abbrev a : ℕ → WordText

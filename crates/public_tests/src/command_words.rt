@@ -22,7 +22,8 @@ pub const FAULTS: &str = "\
 [--version] 0 0 Unknown
 [--rat 5] 0 0 Unknown
 [--Job find] 0 0 Unknown
-[--seed 1] 0 0 Unknown
+[--seeds 1] 0 0 Unknown
+[--Seed 1] 0 0 Unknown
 [--chains x] 0 0 Unknown
 [i2c -x] 1 0 Unknown
 # an option is given once, with a value that it takes
@@ -43,7 +44,7 @@ pub const FAULTS: &str = "\
 [--job ] 1 0 Empty
 [--show  i2c] 1 0 Empty
 [--job Find] 1 0 Value
-[--job=make] 0 0 Value
+[--job=made] 0 0 Value
 [--job=find=] 0 0 Value
 [i2c --job seek] 2 0 Value
 [--format tsv] 1 0 Value
@@ -86,6 +87,11 @@ pub const FAULTS: &str = "\
 [--down 0] 1 0 Range
 [--down=1000000001] 0 0 Range
 [--down 1/2] 1 0 Value
+[--job make --seed 2147483648] 3 0 Range
+[--job make --seed x] 3 0 Value
+[--job make --seed -1] 2 0 NoValue
+[--job make --count 0] 3 0 Range
+[--job make --count 1000001] 3 0 Range
 # rates: N is judged whole, and then D
 [--rate 0] 1 0 Range
 [--rate=1000000000000001] 0 0 Range
@@ -121,6 +127,9 @@ pub const FAULTS: &str = "\
 [D0=q --job=find --ring=0] 2 0 Range
 [--job=find D0=q --x] 2 0 Unknown
 [--job=find a a a a a a a a a --job] 10 0 Repeat
+# a job that takes no other words
+[--job make i2c] 2 0 Extra
+[i2c --job make uart] 0 0 Extra
 # how many words there are is told before their bytes, and a value is judged as a word is
 [.] 0 0 Few
 255[a] 24 0 Many
@@ -138,7 +147,8 @@ pub const FAULTS: &str = "\
 1[--show -*4096] 1 0 NoValue";
 
 // The job, the channels, the rate, whether there are threads, and the ring; for a VCD capture the units of
-// a sample besides, for a CSV capture what its records are, and whether the first one names its columns.
+// a sample besides, for a CSV capture what its records are, and whether the first one names its columns; for
+// a capture that is made the seed and the count.
 pub const VALUES: &str = "\
 [i2c] decode 8 1000000/1 yes 256
 [--job decode i2c] decode 8 1000000/1 yes 256
@@ -165,6 +175,12 @@ pub const VALUES: &str = "\
 [--format csv i2c] decode 8 1000000/1 yes 256 csv rows yes
 [--csv=times --header no --format=csv i2c] decode 8 1000000/1 yes 256 csv times no
 [--csv times i2c] decode 8 1000000/1 yes 256
+[--job make] make 8 1000000/1 yes 256 seed 1 count 1000
+[--job=make --seed 0] make 8 1000000/1 yes 256 seed 0 count 1000
+[--seed=2147483647 --job make] make 8 1000000/1 yes 256 seed 2147483647 count 1000
+[--count 1 --job=make] make 8 1000000/1 yes 256 seed 1 count 1
+[--job make --seed 7 --count=1000000] make 8 1000000/1 yes 256 seed 7 count 1000000
+[--seed 5 i2c] decode 8 1000000/1 yes 256
 [--ring=4 --threads no D0=h --rate=2/3 --channels 16 --format=raw --show all --job=find] find 16 2/3 no 4";
 
 // The decoders that are shown, the binary data that is wanted, and the other words, each with its number. Decode takes 24 chains,
@@ -215,10 +231,13 @@ pub fn holds(alloc: Global, row: &str) -> Result<bool, Fail> {
         }
         Err(WordsError::NoMemory) => return Ok(false),
     };
-    let find = settings.job == Job::Find;
+    let job = match settings.job {
+        Job::Decode => "decode",
+        Job::Find => "find",
+        Job::Make => "make",
+    };
     let mut values = format!(in alloc;
-        "{} {} {}/{} {} {}",
-        if find { "find" } else { "decode" },
+        "{job} {} {}/{} {} {}",
         settings.channels,
         settings.rate.num,
         settings.rate.den,
@@ -237,6 +256,9 @@ pub fn holds(alloc: Global, row: &str) -> Result<bool, Fail> {
         let header = if settings.header { "yes" } else { "no" };
         write!(values, " csv {records} {header}")?;
     }
+    if settings.job == Job::Make {
+        write!(values, " seed {} count {}", settings.seed, settings.count)?;
+    }
     let mut texts = String::new(alloc);
     if let Some(show) = &settings.show {
         write!(texts, "{}:{} of ", show.word, show.text)?;
@@ -252,7 +274,7 @@ pub fn holds(alloc: Global, row: &str) -> Result<bool, Fail> {
 
 /// What the table of options tells of each: its name, the values that it takes and the usual one.
 pub const OPTIONS_TOLD: &str = "\
-job (decode, find) decode
+job (decode, find, make) decode
 format (raw, vcd, csv) raw
 channels (1 to 64) 8
 rate (N or N/D, N 1 to 1000000000000000, D 1 to 1000000000) 1000000
@@ -263,4 +285,6 @@ threads (yes, no) yes
 ring (1 to 16384) 256
 show (text) all
 binary (text) none
+seed (0 to 2147483647) 1
+count (1 to 1000000) 1000
 ";

@@ -3,6 +3,7 @@ ghost use Rattle.std.specs.Prelude.{◌≤◌, ◌<◌, ℕ, length, slice_index
 
 use crate::dumps::add_text;
 use crate::rows::{is_send, numbers_of, parts_of, source_of};
+use crate::runs::run_over;
 use capture_any::{Capture, CsvMode, Form, Runs};
 use capture_csv::CsvReader;
 use la_base::{Pins, Rate};
@@ -36,6 +37,26 @@ const ROWS: &str = "\
 1[times yes] t,A/0,0/0.002,1/ > [(0, 2)] > Some(Read)
 1[rows yes] A,B/0,1/1,1 > [(2, 1)] > Some(Read)
 1[rows yes] A,B > [] > Some(Read)";
+
+// How many columns a file has, the words of a run over it, and what that gives. The line of names is the second.
+const WIDE: [(u32, &str, &str); 4] = [
+    (4_096, "--format csv --job find any", "0 >  > 0: 0|"),
+    (
+        4_097,
+        "--format csv --job find any",
+        "3 > ldecode: capture at 2: TooMany| > ",
+    ),
+    (
+        4_097,
+        "--format csv --csv times --job find any",
+        "0 >  > 0: 0|",
+    ),
+    (
+        4_098,
+        "--format csv --csv times --job find any",
+        "3 > ldecode: capture at 2: TooMany| > ",
+    ),
+];
 
 // The first so many channels.
 fn first_pins(channels: u32) -> Pins
@@ -124,6 +145,17 @@ fn rows_of_csv_captures(rt: HostRuntime) -> Result<(), Fail> {
                 assert!(rt; told.as_str() == want, "{row}: {told}");
             }
         }
+    }
+    for (columns, words, want) in WIDE {
+        let mut bytes = b"; wide\n".to_vec(alloc)?;
+        for _ in 0..2 {
+            for _ in 1..columns {
+                bytes.extend_from_slice(b"0,")?;
+            }
+            bytes.extend_from_slice(b"0\n")?;
+        }
+        let told = run_over(alloc, words, &bytes, 1_000, &[], 256, &[], 256)?;
+        assert!(rt; told.as_str() == want, "{columns}");
     }
     capture_csv::given_is_front();
     capture_csv::longer_goes_on();

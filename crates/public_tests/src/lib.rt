@@ -1,5 +1,5 @@
-//! Tests of the crates below through their public calls: what no contract says, and values from
-//! outside.
+//! Tests of captures, words, stacks and whole runs through their public calls: what no contract says,
+//! and values from outside.
 #![tactic(auto)]
 
 #[cfg(test)]
@@ -9,27 +9,15 @@ mod captures;
 #[cfg(test)]
 mod changes;
 #[cfg(test)]
-mod channels;
-#[cfg(test)]
 mod command_words;
 #[cfg(test)]
 mod csv_captures;
 #[cfg(test)]
-mod cuts;
-#[cfg(test)]
-mod decoders;
-#[cfg(test)]
 mod dumps;
 #[cfg(test)]
-mod kinds;
-#[cfg(test)]
-mod lines;
-#[cfg(test)]
-mod outputs;
+mod made;
 #[cfg(test)]
 mod programs;
-#[cfg(test)]
-mod rates;
 #[cfg(test)]
 mod rows;
 #[cfg(test)]
@@ -46,7 +34,3 @@ mod streams;
 mod tables;
 #[cfg(test)]
 mod tokens;
-#[cfg(test)]
-mod waits;
-#[cfg(test)]
-mod walks;

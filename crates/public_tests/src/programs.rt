@@ -18,7 +18,7 @@ i2c:scl=D0:sda=D1 --version > Run
 
 // Lines of the help.
 const HELP: &str = "  --job
-      values: decode, find; usual: decode
+      values: decode, find, make; usual: decode
   --format
       values: raw, vcd, csv; usual: raw
   --channels
@@ -37,6 +37,8 @@ const HELP: &str = "  --job
       binary data: write, read
   --binary
       values: text; usual: none
+  --count
+      values: 1 to 1000000; usual: 1000
   flash25
       binary data: read, program";
 
@@ -74,7 +76,7 @@ fn run(alloc: Global, text: &str, bytes: &str, fails: &[u64]) -> Result<(String,
     let mut pieces = Vec::new(alloc);
     pieces.push(bytes.as_bytes().to_vec(alloc)?)?;
     let mut source = MemSource::new(pieces, Vec::new(alloc));
-    let mut sink = MemSink::new(alloc, 4_096, fails.to_vec(alloc)?, 4_096)?;
+    let mut sink = MemSink::new(alloc, 8_192, fails.to_vec(alloc)?, 8_192)?;
     let mut notices = MemSink::new(alloc, 256, Vec::new(alloc), 256)?;
     let code = program(alloc, &words, &mut source, &mut sink, &mut notices);
     let noticed = String::from_utf8_lossy(alloc, notices.written())?;
@@ -116,7 +118,7 @@ fn the_program_tells_its_help_and_its_status(rt: HostRuntime) -> Result<(), Fail
         if let Some(example) = line.strip_prefix(EXAMPLE) {
             any = true;
             let (_, told) = run(alloc, example, "", &[])?;
-            assert!(rt; told.as_str() == "0 >  > ", "{example}");
+            assert!(rt; told.as_str().starts_with("0 >  > "), "{example}");
         }
     }
     assert!(rt; any);

@@ -52,6 +52,15 @@ const CASES: [(&str, &str, usize, &str, &[(usize, usize)]); 2] = [
 // Runs over whole captures. A row has the words between brackets, the samples in hexadecimal, the exit status, the notices
 // and what is written, where a bar stands for the end of a line.
 
+/// A capture that is made: nothing is read, and what is written is known from what was drawn.
+pub const MADE: &str = "\
+[--job make --seed 7 --count 1]  > 0 >  > samples: 120|i2c-1: 8 notes, sum 310|uart-1: 1 notes, sum 146|
+[--job make --count=1 --threads no]  > 0 >  > samples: 120|i2c-1: 8 notes, sum 349|uart-1: 1 notes, sum 107|
+[--job make --seed 0 --count 1]  > 0 >  > samples: 120|i2c-1: 8 notes, sum 232|uart-1: 1 notes, sum 101|
+[--count 3 --seed 2147483647 --job make]  > 0 >  > samples: 360|i2c-1: 24 notes, sum 766|uart-1: 3 notes, sum 278|
+[--job make]  > 0 >  > samples: 120000|i2c-1: 8000 notes, sum 314941|uart-1: 1000 notes, sum 123965|
+[--job make i2c:scl=D0:sda=D1]  > 1 > ldecode: word 2 at 0: Extra| > ";
+
 pub const SEARCHES: &str = "\
 [--job find D0=r] 0001 > 0 >  > 1: 0|
 [--job find D1=s] 00 > 0 >  > 0: 0|
@@ -313,5 +322,15 @@ fn any_cut_gives_the_same_and_a_failure_a_front(rt: HostRuntime) -> Result<(), F
     }
     let fault = Status::Capture(CaptureFault::Bytes);
     assert!(rt; exit_code(&fault) == 3 && exit_code(&Status::NoMemory) == 5);
+    Ok(())
+}
+
+// Twelve million samples.
+const MANY_MADE: &str =
+    "[--job make --seed 7 --count 100000]  > 0 >  > samples: 12000000|i2c-1: 800000 notes, sum 31395824|uart-1: 100000 notes, sum 12756895|";
+
+#[test]
+fn a_made_capture_of_many_transactions(rt: HostRuntime) -> Result<(), Fail> {
+    assert!(rt; holds(rt.alloc(), MANY_MADE, &[0])?);
     Ok(())
 }

@@ -4,7 +4,7 @@ use std::test::Fail;
 use words::{Name, OPTIONS, Takes, clap_reads_the_uses, options_are_whole};
 
 // The tables, each with the number of what its rows are about.
-const TABLES: [(u32, &str); 20] = [
+const TABLES: [(u32, &str); 21] = [
     (0, command_words::FAULTS),
     (0, command_words::VALUES),
     (0, command_words::TEXTS),
@@ -25,6 +25,7 @@ const TABLES: [(u32, &str); 20] = [
     (6, dumps::FAULTS),
     (7, sheets::SAMPLES),
     (7, sheets::FAULTS),
+    (5, runs::MADE),
 ];
 
 #[test]

@@ -15,7 +15,7 @@ use Rattle.words.specs.Readable.{IsShort}
 use Rattle.words.specs.Settings.{AreGood, unless_all, use_of, value_of, word_text}
 use Rattle.words.specs.Uses.{Part, Used, chains_of, is_of, parts_from, use_at, uses_of, why_value}
 use Rattle.words.specs.declared.options.Name.{Name}
-use Rattle.words.specs.declared.options.Name.TheVariants.{Job, Format, Channels, Rate, Down, Csv, Header, Threads, Ring, Show, Binary}
+use Rattle.words.specs.declared.options.Name.TheVariants.{Job, Format, Channels, Rate, Down, Csv, Header, Threads, Ring, Show, Binary, Seed, Count}
 use Rattle.words.specs.declared.kinds.WordFault.{WordFault}
 use Rattle.words.proofs.Searches.{find_passes}
 use Rattle.words.proofs.Shapes.{Shape, chain, joined, split, shape_of}
@@ -104,6 +104,8 @@ named Threads = refl
 named Ring = refl
 named Show = refl
 named Binary = refl
+named Seed = refl
+named Count = refl
 
 -- so two options have two names
 same_name : (a b : Name) → bytes_eq (row a).name (row b).name ≡ true → a ≡ b
@@ -129,6 +131,8 @@ usual_good Threads = refl
 usual_good Ring = refl
 usual_good Show = refl
 usual_good Binary = tt
+usual_good Seed = refl
+usual_good Count = refl
 
 good_value : (name : Name) (uses : List Used) → AllKept uses → IfSome (value_of name uses) (λ text. why_value (row name).takes text ≡ None)
 good_value name uses kept = by (use_of name uses) refl

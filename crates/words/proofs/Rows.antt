@@ -13,7 +13,7 @@ use Rattle.words.specs.Options.{row}
 use Rattle.words.specs.Settings.{use_of}
 use Rattle.words.specs.Uses.{Used, chains_of, is_given, is_of}
 use Rattle.words.specs.declared.options.Name.{Name}
-use Rattle.words.specs.declared.options.Name.TheVariants.{Job, Format, Channels, Rate, Down, Csv, Header, Threads, Ring, Show, Binary}
+use Rattle.words.specs.declared.options.Name.TheVariants.{Job, Format, Channels, Rate, Down, Csv, Header, Threads, Ring, Show, Binary, Seed, Count}
 
 -- the values of an id, behind those that it has
 abbrev pub joined : Option (List Text) → List Text → Option (List Text)
@@ -98,6 +98,8 @@ other_ids Threads = refl
 other_ids Ring = refl
 other_ids Show = refl
 other_ids Binary = refl
+other_ids Seed = refl
+other_ids Count = refl
 
 -- a use is of an option where its id is that option's name
 is_of-id : (name : Name) (o : Option Name) → bytes_eq (id_of o) (row name).name ≡ is_of name o
@@ -115,6 +117,8 @@ is_of-id name None = no_option name
     no_option Ring = refl
     no_option Show = refl
     no_option Binary = refl
+    no_option Seed = refl
+    no_option Count = refl
 is_of-id name (Some other) = refl
 
 texts_at-none : (name : Name) (uses : List Used) → is_given name uses ≡ false → texts_at (row name).name uses ≡ []

@@ -4,7 +4,7 @@ use Rattle.std.specs.Str.{bytes_eq}
 use Rattle.la_base.specs.declared.samples.TheConstants.{MOST_PINS}
 use Rattle.words.specs.Lexer.{Text}
 use Rattle.words.specs.declared.options.Name.{Name}
-use Rattle.words.specs.declared.options.Name.TheVariants.{Job, Format, Channels, Rate, Down, Csv, Header, Threads, Ring, Show, Binary}
+use Rattle.words.specs.declared.options.Name.TheVariants.{Job, Format, Channels, Rate, Down, Csv, Header, Threads, Ring, Show, Binary, Seed, Count}
 
 -- the values that an option takes: one of some texts, a number from the first to the second, a rate, or any text
 pub data Kind : Type 0 where
@@ -31,7 +31,7 @@ pub record Row : Type 0 where
 
 -- the table of options
 abbrev pub row : Name → Row
-row Job = record { name = codes "job"; takes = OneOf (codes "decode" ∷ codes "find" ∷ []); usual = Some (codes "decode") }
+row Job = record { name = codes "job"; takes = OneOf (codes "decode" ∷ codes "find" ∷ codes "make" ∷ []); usual = Some (codes "decode") }
 row Format = record { name = codes "format"; takes = OneOf (codes "raw" ∷ codes "vcd" ∷ codes "csv" ∷ []); usual = Some (codes "raw") }
 row Channels = record { name = codes "channels"; takes = Number 1 MOST_PINS; usual = Some (codes "8") }
 row Rate = record { name = codes "rate"; takes = Ratio; usual = Some (codes "1000000") }
@@ -42,10 +42,12 @@ row Threads = record { name = codes "threads"; takes = OneOf (codes "yes" ∷ co
 row Ring = record { name = codes "ring"; takes = Number 1 16384; usual = Some (codes "256") }
 row Show = record { name = codes "show"; takes = Free; usual = Some (codes "all") }
 row Binary = record { name = codes "binary"; takes = Free; usual = None }
+row Seed = record { name = codes "seed"; takes = Number 0 2147483647; usual = Some (codes "1") }
+row Count = record { name = codes "count"; takes = Number 1 1000000; usual = Some (codes "1000") }
 
 -- all options
 abbrev pub names : List Name
-names = Job ∷ Format ∷ Channels ∷ Rate ∷ Down ∷ Csv ∷ Header ∷ Threads ∷ Ring ∷ Show ∷ Binary ∷ []
+names = Job ∷ Format ∷ Channels ∷ Rate ∷ Down ∷ Csv ∷ Header ∷ Threads ∷ Ring ∷ Show ∷ Binary ∷ Seed ∷ Count ∷ []
 
 -- the option that a text names
 abbrev pub name_of : Text → Option Name

@@ -17,7 +17,7 @@ use Rattle.words.specs.declared.kinds.Format.TheVariants.{Raw, Vcd, Csv}
 use Rattle.words.specs.declared.kinds.CsvRecords.{CsvRecords}
 use Rattle.words.specs.declared.kinds.CsvRecords.TheVariants.{Rows, Times}
 use Rattle.words.specs.declared.kinds.Job.{Job}
-use Rattle.words.specs.declared.kinds.Job.TheVariants.{Decode, Find}
+use Rattle.words.specs.declared.kinds.Job.TheVariants.{Decode, Find, Make}
 use Rattle.words.specs.declared.kinds.WordCount.{WordCount}
 use Rattle.words.specs.declared.kinds.WordWhy.{WordWhy}
 use Rattle.words.specs.declared.kinds.WordWhy.TheVariants as why
@@ -39,6 +39,8 @@ pub record Values : Type 0 where
   pub ring : ℕ
   pub show : Option WordText
   pub binary : Option WordText
+  pub seed : ℕ
+  pub count : ℕ
   pub chains : List WordText
 
 -- the number and the text of a use
@@ -63,7 +65,7 @@ AreGood uses = (name : Name) → IfSome (value_of name uses) (λ text. why_value
 
 -- the job that a good value names
 abbrev pub job_named : Text → Job
-job_named text = if bytes_eq text (codes "find") then Find else Decode
+job_named text = if bytes_eq text (codes "find") then Find else if bytes_eq text (codes "make") then Make else Decode
 
 -- the form of capture that a good value names
 abbrev pub format_named : Text → Format
@@ -95,6 +97,8 @@ values_of uses = record {
   ring = number_after 0 (text_of name.Ring uses);
   show = option_and_then unless_all (use_of name.Show uses);
   binary = option_map word_text (use_of name.Binary uses);
+  seed = number_after 0 (text_of name.Seed uses);
+  count = number_after 0 (text_of name.Count uses);
   chains = map word_text (chains_of uses);
 }
 
@@ -102,6 +106,7 @@ values_of uses = record {
 abbrev pub words_taken : Job → WordCount
 words_taken Decode = record { fewest = 1; most = 24 }
 words_taken Find = record { fewest = 1; most = 8 }
+words_taken Make = record { fewest = 0; most = 0 }
 
 -- what a word is that is one too many: Extra where there may be none, else Many
 abbrev pub too_many : ℕ → WordWhy
@@ -133,10 +138,11 @@ abbrev pub cond_fault : List WordText → Option WordFault
 cond_fault [] = None
 cond_fault (chain ∷ chains) = or_else (fault_of chain.word (terms_of chain.text)) (cond_fault chains)
 
--- decode reads no alternatives
+-- decode and make read no alternatives
 abbrev pub job_fault : Job → List WordText → Option WordFault
 job_fault Decode chains = None
 job_fault Find chains = cond_fault chains
+job_fault Make chains = None
 
 -- the rules behind all the words, of which there are `count`
 abbrev pub fault_behind : ℕ → Job → List WordText → Option WordFault
@@ -169,5 +175,7 @@ meaning_of s = record {
   ring = s.ring;
   show = option_map chain_of s.show;
   binary = option_map chain_of s.binary;
+  seed = s.seed;
+  count = s.count;
   chains = map chain_of s.chains.items;
 }

@@ -20,6 +20,7 @@ fn words_taken(job: Job) -> WordCount
             most: 24,
         },
         Job::Find => WordCount { fewest: 1, most: 8 },
+        Job::Make => WordCount { fewest: 0, most: 0 },
     }
 }
 
@@ -80,7 +81,7 @@ fn job_fault(alloc: Global, job: Job, chains: &[ChainWord]) -> Result<Option<Wor
     ensures { IfOk result (λ fault. fault ≡ job_fault job (map chain_of chains.now)) }
 {
     match job {
-        Job::Decode => Ok(None),
+        Job::Decode | Job::Make => Ok(None),
         Job::Find => cond_fault(alloc, chains),
     }
 }

@@ -8,6 +8,8 @@ pub enum Job {
     Decode,
     /// Write a line for each sample at which a condition is met.
     Find,
+    /// Decode a capture that is made from a seed, and write how much it gives.
+    Make,
 }
 
 /// How many chains of decoders, or alternatives of a condition, a job takes.

@@ -21,6 +21,8 @@ pub enum Name {
     Ring,
     Show,
     Binary,
+    Seed,
+    Count,
 }
 
 /// The values that an option takes.
@@ -77,8 +79,14 @@ pub const MOST_DOWN: u32 = 1_000_000_000;
 /// The most slots of a ring.
 pub const MOST_RING: u32 = 16_384;
 
+/// The most that the seed of a made capture is.
+pub const MOST_SEED: u32 = 2_147_483_647;
+
+/// The most transactions that a made capture has.
+pub const MOST_COUNT: u32 = 1_000_000;
+
 /// The options, in the order in which they are told.
-pub const OPTIONS: [Name; 11] = [
+pub const OPTIONS: [Name; 13] = [
     Name::Job,
     Name::Format,
     Name::Channels,
@@ -90,6 +98,8 @@ pub const OPTIONS: [Name; 11] = [
     Name::Ring,
     Name::Show,
     Name::Binary,
+    Name::Seed,
+    Name::Count,
 ];
 
 impl Name {
@@ -100,9 +110,9 @@ impl Name {
         match self {
             Name::Job => OptionRow {
                 name: "job",
-                takes: Takes::OneOf(&["decode", "find"]),
+                takes: Takes::OneOf(&["decode", "find", "make"]),
                 usual: Some("decode"),
-                help: "decode the capture, or find where a condition holds",
+                help: "decode the capture, find where a condition holds, or decode a capture that is made",
             },
             Name::Format => OptionRow {
                 name: "format",
@@ -172,6 +182,24 @@ impl Name {
                 takes: Takes::Text,
                 usual: None,
                 help: "NAME:CLASS, a decoder and a class of its binary data, whose bytes are written in place of lines",
+            },
+            Name::Seed => OptionRow {
+                name: "seed",
+                takes: Takes::Number {
+                    least: 0,
+                    most: MOST_SEED as u64,
+                },
+                usual: Some("1"),
+                help: "the seed of a made capture",
+            },
+            Name::Count => OptionRow {
+                name: "count",
+                takes: Takes::Number {
+                    least: 1,
+                    most: MOST_COUNT as u64,
+                },
+                usual: Some("1000"),
+                help: "how many transactions a made capture has",
             },
         }
     }

@@ -50,6 +50,8 @@ fn settings(alloc: Global, matches: &ArgMatches, uses: &[Given]) -> Result<Setti
     let channels = number(Name::Channels, text(matches, Name::Channels));
     let down = number(Name::Down, text(matches, Name::Down));
     let ring = number(Name::Ring, text(matches, Name::Ring));
+    let seed = number(Name::Seed, text(matches, Name::Seed));
+    let count = number(Name::Count, text(matches, Name::Count));
     Ok(Settings {
         job: job_named(text(matches, Name::Job)),
         format: format_named(text(matches, Name::Format)),
@@ -62,6 +64,8 @@ fn settings(alloc: Global, matches: &ArgMatches, uses: &[Given]) -> Result<Setti
         ring: ring as u32,
         show,
         binary,
+        seed,
+        count,
         chains,
     })
 }

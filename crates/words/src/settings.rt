@@ -1,7 +1,7 @@
 // What the words set.
 ghost use Rattle.std.specs.Prelude.{◌≤◌};
 ghost use Rattle.words.specs.Options.{IsWithin, row};
-ghost use Rattle.words.specs.declared.options.Name.TheVariants.{Channels, Down, Ring};
+ghost use Rattle.words.specs.declared.options.Name.TheVariants.{Channels, Count, Down, Ring, Seed};
 ghost use Rattle.words.specs.declared.values.TheConstants.{MOST_RATE_NUM, MOST_RATE_DEN};
 
 use crate::{CsvRecords, Format, Job};
@@ -33,10 +33,16 @@ pub struct Settings {
     /// The decoder and the class whose binary data is written in place of lines, where the words name one:
     /// the number of the word that holds the value, and the value.
     pub binary: Option<ChainWord>,
-    /// The chains of decoders, or the alternatives of a condition.
+    /// The seed of a made capture.
+    pub seed: u64,
+    /// How many transactions a made capture has.
+    pub count: u64,
+    /// The chains of decoders, or the alternatives of a condition; none where a capture is made.
     pub chains: Vec<ChainWord>,
     ghost channels_fit: { IsWithin (row Channels).takes channels },
     ghost rate_fits: { (rate.num ≤ MOST_RATE_NUM) × (rate.den ≤ MOST_RATE_DEN) },
     ghost down_fits: { IsWithin (row Down).takes down },
     ghost ring_fits: { IsWithin (row Ring).takes ring },
+    ghost seed_fits: { IsWithin (row Seed).takes seed },
+    ghost count_fits: { IsWithin (row Count).takes count },
 }

@@ -116,6 +116,7 @@ pub fn job_named(text: &str) -> Job
 {
     match text {
         "find" => Job::Find,
+        "make" => Job::Make,
         _ => Job::Decode,
     }
 }

@@ -1,0 +1,92 @@
+// Names, samples, runs and wires, by hand.
+use crate::moving::is_send;
+use la_base::*;
+
+const NAMES: [&str; 8] = ["SCL", "7", "SCL", "", "1", "0007", "sda", "D1"];
+
+// The channels that references find among these names.
+const REFERENCES: [(&str, Option<u32>); 16] = [
+    ("SCL", Some(0)),
+    ("D1", Some(7)),
+    // a name goes before a number
+    ("7", Some(1)),
+    ("1", Some(4)),
+    ("0007", Some(5)),
+    ("", Some(3)),
+    // numbers
+    ("0", Some(0)),
+    ("07", Some(7)),
+    ("0006", Some(6)),
+    // no number: five digits, the count, a sign, a letter
+    ("00006", None),
+    ("8", None),
+    ("9999", None),
+    ("+1", None),
+    ("1a", None),
+    ("scl", None),
+    ("SC", None),
+];
+
+const WIRES: [(PacketKind, Wire); 9] = [
+    (PacketKind::I2cStart, Wire::I2c),
+    (PacketKind::I2cAck, Wire::I2c),
+    (PacketKind::SpiDeselect, Wire::Spi),
+    (PacketKind::UartBreak, Wire::Uart),
+    (PacketKind::OwReset, Wire::OwLink),
+    (PacketKind::OwPresence, Wire::OwLink),
+    (PacketKind::OwBit, Wire::OwLink),
+    (PacketKind::NetReset, Wire::OwNet),
+    (PacketKind::NetByte, Wire::OwNet),
+];
+
+#[test]
+fn references_of_channels(rt: HostRuntime) {
+    let mut names = Names::new(rt.alloc());
+    is_send(&names);
+    assert!(rt; names.count() == 0);
+    for name in NAMES {
+        assert!(rt; names.count() < 4096);
+        names.push(name.as_bytes()).expect(&rt, "memory");
+    }
+    assert!(rt; names.count() == 8);
+    for (reference, want) in REFERENCES {
+        assert!(rt; names.find(reference.as_bytes()) == want, "{reference}");
+    }
+}
+
+#[test]
+fn samples_runs_and_wires(rt: HostRuntime) {
+    for (sample, channel, high) in [
+        (0b0101, 0, true),
+        (0b0101, 1, false),
+        (0b0101, 2, true),
+        (1 << 63, 63, true),
+        (u64::MAX >> 1, 63, false),
+    ] {
+        assert!(rt; channel < MOST_PINS && pin(sample, channel) == high);
+    }
+    let run = Run { value: 6, len: 5 };
+    let two = (Run { value: 6, len: 2 }, Run { value: 6, len: 3 });
+    let four = (Run { value: 6, len: 4 }, Run { value: 6, len: 1 });
+    assert!(rt; cut(run, 2) == two && cut(run, 4) == four);
+    for (kind, want) in WIRES {
+        assert!(rt; wire_of(kind) == want);
+    }
+    let blank = Note {
+        class: 0,
+        start: 0,
+        end: 0,
+        a: 0,
+        b: 0,
+    };
+    is_send(&blank);
+    assert!(rt; Out::default() == Out::Note(blank));
+    assert!(rt; Feed::default() == Feed::End);
+    assert!(rt; Mark::default() == Mark::End);
+    assert!(rt; Mark::Floor(1) != Mark::Floor(2));
+    assert!(rt; Rate { num: 1, den: 2 } != Rate { num: 2, den: 4 });
+    is_send(&Feed::End);
+    is_send(&Mark::End);
+    is_send(&Out::default());
+    is_send(&Pins::new());
+}
