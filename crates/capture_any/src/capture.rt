@@ -162,11 +162,30 @@ impl Capture {
         ensures progress { given_by self.old + length (held_samples result) ≤ given_by self.new }
         ensures few { given_by self.old ≤ 2 ^ 60 → given_by self.new ≤ 2 ^ 60 }
     {
-        match &mut self.reader {
-            Reader::Raw(raw) => match raw.reader.held_run() {
+        // A test of one form alone, since a choice of several is made anew for each run.
+        if let Reader::Raw(raw) = &mut self.reader {
+            return match raw.reader.held_run() {
                 Some(run) => Some(run),
                 None => None,
-            },
+            };
+        }
+        self.held_other()
+    }
+
+    // The same of any form. It isn't inlined.
+    #[inline(never)]
+    fn held_other(&mut self) -> Option<Run>
+        ensures gave { GaveHeld self.old self.new (held_samples result) }
+        ensures is_open { is_open_of self.new ≡ is_open_of self.old }
+        ensures form { form_of self.new ≡ form_of self.old }
+        ensures pins { pins_of self.new ≡ pins_of self.old }
+        ensures names { names_of self.new ≡ names_of self.old }
+        ensures rate { rate_of self.new ≡ rate_of self.old }
+        ensures progress { given_by self.old + length (held_samples result) ≤ given_by self.new }
+        ensures few { given_by self.old ≤ 2 ^ 60 → given_by self.new ≤ 2 ^ 60 }
+    {
+        match &mut self.reader {
+            Reader::Raw(_) => None,
             Reader::Vcd(reader) => held_of(reader),
             Reader::Csv(reader) => held_csv(reader),
         }
