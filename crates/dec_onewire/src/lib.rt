@@ -5,8 +5,6 @@
 mod laws;
 pub mod link;
 pub mod net;
-#[cfg(test)]
-mod tests;
 
 pub use laws::{groups_are_the_bits, own_crc_leaves_nothing, pulses_are_the_low_stretches};
 pub use link::{OwLink, OwLinkOpts};

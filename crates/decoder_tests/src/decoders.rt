@@ -1,11 +1,14 @@
 // What is wanted is worked by hand, in tables that are texts. On all of these lists, on all short ones and on some long
 // ones a decoder is compared with its plain program.
-mod bus_traffic;
-mod clocks;
+mod devices;
 mod eeprom24;
 mod feeding;
 mod i2c;
+mod made_devices;
+mod onewire;
+mod scripts;
 mod spi;
+mod traffic;
 mod trees;
 mod uart;
 

@@ -180,6 +180,8 @@ eeprom24 8 > range
 eeprom24 0 7 > range
 eeprom24 0 0 5 > range
 eeprom24 0 0 0 2 > range
+eeprom24 18446744073709551615 > range
+eeprom24 0 18446744073709551615 > range
 onewire_link 0 > ok
 onewire_link 63 3000 1000000000 2000 > ok
 onewire_link - > range
@@ -192,9 +194,12 @@ onewire_link 0 2000 100000 2000 > rate
 onewire_net > ok
 ds1307 1 > ok
 ds1307 2 > range
+ds1307 18446744073709551615 > range
 lm75 7 1 > ok
 lm75 8 > range
 lm75 0 2 > range
+lm75 18446744073709551615 > range
+lm75 0 18446744073709551615 > range
 ds18b20 > ok
 flash25 > ok";
 

@@ -7,8 +7,6 @@ mod held;
 mod laws;
 mod opening;
 mod rows;
-#[cfg(test)]
-mod tests;
 mod texts;
 
 pub use chip::{Chip, ClockOpts};

@@ -7,8 +7,6 @@ mod machine;
 mod opening;
 mod rows;
 mod scratchpad;
-#[cfg(test)]
-mod tests;
 mod texts;
 mod transaction;
 

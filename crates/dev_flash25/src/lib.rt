@@ -6,8 +6,6 @@ mod held;
 mod machine;
 mod opening;
 mod rows;
-#[cfg(test)]
-mod tests;
 mod texts;
 mod words;
 

@@ -7,8 +7,6 @@ mod eeprom24;
 mod flash25;
 mod lm75;
 mod phases;
-#[cfg(test)]
-mod tests;
 mod transactions;
 
 pub use ds18b20::outputs_of as probe_outputs_of;
