@@ -5,3 +5,4 @@ pub mod Standing
 pub mod Captures
 pub mod Levels
 pub mod Agreeing
+pub mod Words

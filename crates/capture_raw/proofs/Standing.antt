@@ -1,13 +1,11 @@
 -- What a raw reader stands for, as it goes on.
 use Rattle.std.proofs.Common.{◌≡◌, ℕ, ◌+◌, ◌-◌, ◌*◌, ◌/◌, ◌%◌, ◌^◌, ◌≤◌, ◌<◌, List, [], ◌++◌, take, drop, length, refl, sym, ◌∙◌, ap, arith, length-append, length-take-le, length-drop, take-append-drop, Option, Bool, true, false, if◌then◌else◌, ◌==◌, Ok, subst}
-use Rattle.std.proofs.lemmas.List.{take-take, drop-append-le, take-append-le, drop-drop, take_all, length-replicate}
+use Rattle.std.proofs.lemmas.List.{take-take, drop-append-le, take-append-le, drop-drop, take_all}
 use Rattle.std.proofs.Math.Seq.{take-add}
 use Rattle.std.proofs.Math.Nat.{mod-add-div'}
 use Rattle.std.proofs.lemmas.Nat.{mod-mul-add}
 use Rattle.std.specs.Io.KnownBytes.{IsAtEnd}
-use Rattle.la_base.specs.Samples.{samples}
 use Rattle.la_base.specs.declared.samples.Rate.{Rate}
-use Rattle.la_base.specs.declared.samples.Run.{Run}
 use Rattle.la_io.specs.declared.fault.CaptureFault.TheVariants.{ShortUnit as ShortUnitFault, Bytes as BytesFault}
 use Rattle.la_io.specs.Capture.{Told, AtEnd, Cut, Ending, Clean, Faulty, Open, Ends}
 use Rattle.capture_raw.specs.declared.step.RawStep.{RawStep}

@@ -1,6 +1,8 @@
 // Neighbouring units that give the same sample: they agree on the bits of a mask.
-ghost use Rattle.std.specs.Prelude.{◌≡◌, ◌<◌, ◌≤◌, ◌*◌, length, take, slice_index, true};
+ghost use Rattle.std.specs.Prelude.{◌≡◌, ◌<◌, ◌≤◌, ◌+◌, ◌*◌, drop, length, replicate, take, slice_index, true};
+ghost use Rattle.std.specs.Int.Bits.{bit_and, bit_xor};
 ghost use Rattle.capture_raw.specs.Masks.{Agree, AllAgree, SameSamples};
+ghost use Rattle.capture_raw.specs.Raw.{number};
 
 use crate::units::{MOST_UNIT, number};
 use la_base::Word;
@@ -11,8 +13,11 @@ const BLOCK: usize = 64;
 // How many bytes are compared at once under a mask.
 const SHORT_BLOCK: usize = 32;
 
-// How many bytes are looked at one by one before that.
-const NEAR: usize = 16;
+// How many bytes a word has.
+const WORD: usize = 8;
+
+// How many bytes are looked at by words before that: the first one, and nine words.
+const NEAR: usize = 73;
 
 /// How many units at the front give the same sample, for pins whose bits `mask` has.
 #[inline]
@@ -110,7 +115,7 @@ fn alike_bytes(bytes: &[u8], mask: u8) -> usize
     alike_near(bytes, mask)
 }
 
-// The same, byte by byte at first. It isn't inlined, so that its loop has the registers that it needs.
+// The same, by words at first. It isn't inlined, so that its loop has the registers that it needs.
 #[inline(never)]
 fn alike_near(bytes: &[u8], mask: u8) -> usize
     requires { 1 ≤ length bytes.now }
@@ -120,7 +125,8 @@ fn alike_near(bytes: &[u8], mask: u8) -> usize
 {
     let first = bytes[0];
     let near = bytes.len().min(NEAR);
-    let count = agreeing_bytes(bytes, first, mask, 1, near);
+    let count = agreeing_words(bytes, first, mask, 1, near);
+    let count = agreeing_bytes(bytes, first, mask, count, near);
     if count < near {
         return count;
     }
@@ -138,7 +144,8 @@ fn agreeing_far(bytes: &[u8], first: u8, mask: u8, known: usize) -> usize
     ensures agree { AllAgree mask first bytes.now result }
 {
     let blocks = agreeing_blocks(bytes, first, mask, known);
-    agreeing_bytes(bytes, first, mask, blocks, bytes.len())
+    let words = agreeing_words(bytes, first, mask, blocks, bytes.len());
+    agreeing_bytes(bytes, first, mask, words, bytes.len())
 }
 
 // Goes on behind `known` bytes that agree with `first`, by whole blocks.
@@ -170,6 +177,70 @@ fn block_agrees(bytes: &[u8], first: u8, mask: u8) -> bool
         place += 1;
     }
     different & mask == 0
+}
+
+// The number of eight bytes behind the first `at`, the lowest first.
+#[inline(always)]
+fn word_at(bytes: &[u8], at: usize) -> u64
+    requires { at + 8 ≤ length bytes.now }
+    ensures { result ≡ number (take 8 (drop at bytes.now)) }
+{
+    let eight = &bytes[at..at + 8];
+    u64::from_le_bytes([
+        eight[0], eight[1], eight[2], eight[3], eight[4], eight[5], eight[6], eight[7],
+    ])
+}
+
+// The number of eight equal bytes.
+#[inline(always)]
+fn eight_of(byte: u8) -> u64
+    ensures { result ≡ number (replicate 8 byte) }
+{
+    u64::from_le_bytes([byte; 8])
+}
+
+// The bits in which eight bytes behind the first `done` differ from eight equal ones, of those of the masks.
+#[inline(always)]
+fn differing_at(bytes: &[u8], done: usize, firsts: u64, masks: u64) -> u64
+    requires { done + 8 ≤ length bytes.now }
+    ensures { result ≡ bit_and (bit_xor (number (take 8 (drop done bytes.now))) firsts) masks }
+{
+    (word_at(bytes, done) ^ firsts) & masks
+}
+
+// Goes on behind `known` bytes that agree with `first`, by words of eight, two at a time, and not past `end`. It stops at
+// the first byte that doesn't agree, or where less than a word is left.
+#[inline(always)]
+fn agreeing_words(bytes: &[u8], first: u8, mask: u8, known: usize, end: usize) -> usize
+    requires order { known ≤ end }
+    requires within { end ≤ length bytes.now }
+    requires agree { AllAgree mask first bytes.now known }
+    ensures more { known ≤ result }
+    ensures within { result ≤ end }
+    ensures agree { AllAgree mask first bytes.now result }
+{
+    let firsts = eight_of(first);
+    let masks = eight_of(mask);
+    let mut done = known;
+    while end - done >= 2 * WORD {
+        let different = differing_at(bytes, done, firsts, masks);
+        if different != 0 {
+            return done + (different.trailing_zeros() / 8) as usize;
+        }
+        let behind = differing_at(bytes, done + WORD, firsts, masks);
+        if behind != 0 {
+            return done + WORD + (behind.trailing_zeros() / 8) as usize;
+        }
+        done += 2 * WORD;
+    }
+    if end - done < WORD {
+        return done;
+    }
+    let last = differing_at(bytes, done, firsts, masks);
+    if last != 0 {
+        return done + (last.trailing_zeros() / 8) as usize;
+    }
+    done + WORD
 }
 
 // Goes on behind `known` bytes that agree with `first`, byte by byte, and not past `end`.

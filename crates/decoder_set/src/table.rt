@@ -315,7 +315,7 @@ const FLASH25: KindRow = KindRow {
 /// The row of a kind.
 pub fn row(kind: Kind) -> KindRow
     ensures row { row_of result ≡ kind_row kind }
-    ensures short { length result.name.now ≤ 32 }
+    ensures short { length result.name.now ≤ 16 }
     ensures few { length result.options.now ≤ 8 }
     ensures few_classes { length result.classes.now ≤ 16 }
 {
@@ -346,7 +346,7 @@ pub fn kind_of(name: &[u8]) -> Option<Kind>
 /// The name of a kind.
 pub fn kind_name(kind: Kind) -> &'static str
     ensures name { result.now ≡ (kind_row kind).name }
-    ensures short { length result.now ≤ 32 }
+    ensures short { length result.now ≤ 16 }
 {
     row(kind).name
 }

@@ -7,13 +7,16 @@ use itoa::Buffer;
 use std::marker::Model;
 
 /// A number and its text in decimal, with no leading zero. Contracts see the number. The text is kept, so
-/// that of a number which differs from the one before in its last two digits alone, these two are made anew.
+/// that of a number which differs from the one before in its last two digits alone, or its last four, these
+/// are made anew.
 #[derive(Drop)]
 pub struct Decimal {
     digits: ShortText,
     number: u64,
     // the number with its last two digits 0
     hundreds: u64,
+    // and with its last four digits 0
+    myriads: u64,
 }
 
 impl Model for Decimal {
@@ -21,7 +24,7 @@ impl Model for Decimal {
 
     ghost view = { λ s. s.number };
 
-    ghost invariant = { λ s. record { digits : s.digits ≡ decimal s.number; hundreds : s.hundreds ≡ s.number / 100 * 100 } };
+    ghost invariant = { λ s. record { digits : s.digits ≡ decimal s.number; hundreds : s.hundreds ≡ s.number / 100 * 100; myriads : s.myriads ≡ s.number / 10000 * 10000 } };
 }
 
 impl Decimal {
@@ -35,6 +38,7 @@ impl Decimal {
             digits,
             number: 0,
             hundreds: 0,
+            myriads: 0,
         }
     }
 
@@ -45,6 +49,8 @@ impl Decimal {
     {
         if self.hundreds > 0 && number >= self.hundreds && number - self.hundreds < 100 {
             self.write_last_two(number, (number - self.hundreds) as u8);
+        } else if self.myriads > 0 && number >= self.myriads && number - self.myriads < 10_000 {
+            self.write_last_four(number, (number - self.myriads) as u32);
         } else {
             self.write(number);
         }
@@ -59,6 +65,26 @@ impl Decimal {
         self.digits.set(buffer.format(number).as_bytes());
         self.number = number;
         self.hundreds = number / 100 * 100;
+        self.myriads = number / 10_000 * 10_000;
+    }
+
+    // Writes the last four digits; those before them stay.
+    fn write_last_four(&mut self, number: u64, last: u32)
+        requires some { 10000 ≤ number }
+        requires same { number / 10000 ≡ self.old / 10000 }
+        requires last { last ≡ number % 10000 }
+        ensures { self.new ≡ number }
+    {
+        let high = (last / 100) as u8;
+        let low = (last % 100) as u8;
+        self.digits.set_last_four([
+            b'0' + high / 10,
+            b'0' + high % 10,
+            b'0' + low / 10,
+            b'0' + low % 10,
+        ]);
+        self.number = number;
+        self.hundreds = number - u64::from(low);
     }
 
     // Writes the last two digits; those before them stay.

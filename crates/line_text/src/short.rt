@@ -52,7 +52,7 @@ impl ShortText {
     }
 
     /// Makes it another text.
-    pub(crate) fn set(&mut self, text: &[u8])
+    pub fn set(&mut self, text: &[u8])
         requires { length text.now ≤ 20 }
         ensures { self.new ≡ text.now }
     {
@@ -67,6 +67,15 @@ impl ShortText {
     {
         self.room[self.len - 2] = first;
         self.room[self.len - 1] = second;
+    }
+
+    /// Makes its last four bytes anew.
+    pub(crate) fn set_last_four(&mut self, last: [u8; 4])
+        requires { 4 ≤ length self.old }
+        ensures { self.new ≡ take (length self.old - 4) self.old ++ last }
+    {
+        let start = self.len - 4;
+        self.room[start..self.len].copy_from_slice(&last);
     }
 
     /// The text, and behind it bytes that don't count.

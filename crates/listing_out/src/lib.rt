@@ -4,6 +4,7 @@
 #![tactic(auto)]
 
 mod data;
+mod name;
 mod notes;
 mod stops;
 mod summaries;

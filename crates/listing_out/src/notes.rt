@@ -4,8 +4,9 @@ ghost use Rattle.std.specs.Io.KnownBytes.{Appends};
 ghost use Rattle.la_io.specs.Causes.{AppendsFront, HasCause};
 ghost use Rattle.listing_out.specs.NoteLines.{line_as};
 
+use crate::name::TwoNames;
 use crate::text::push_text;
-use decoder_set::{Kind, kind_name, note_text};
+use decoder_set::{Kind, note_text};
 use la_base::Note;
 use la_io::{Failed, Sink, write_whole};
 use line_text::{Decimal, LineBuf};
@@ -13,22 +14,19 @@ use std::marker::Model;
 
 /// The line of a note, `START-END NAME: TEXT`: its places, the name of its instance and its text. Contracts see
 /// its bytes. One serves for all notes: to make it fills it with zeros, and it keeps the digits of the places
-/// and of the number of the note before.
+/// and the names of instances.
 #[derive(Drop)]
 pub struct NoteLine {
     line: LineBuf,
     start: Decimal,
     end: Decimal,
-    number: Decimal,
-    kind_number: u32,
+    names: TwoNames,
 }
 
 impl Model for NoteLine {
     ghost Value = { List ℕ };
 
     ghost view = { λ s. s.line };
-
-    ghost invariant = { λ s. s.number ≡ s.kind_number };
 }
 
 impl NoteLine {
@@ -40,8 +38,7 @@ impl NoteLine {
             line: LineBuf::new(),
             start: Decimal::new(),
             end: Decimal::new(),
-            number: Decimal::new(),
-            kind_number: 0,
+            names: TwoNames::new(),
         }
     }
 
@@ -51,20 +48,12 @@ impl NoteLine {
     {
         self.start.set(note.start);
         self.end.set(note.end);
-        if number != self.kind_number {
-            self.number.set(u64::from(number));
-            self.kind_number = number;
-        }
         let line = &mut self.line;
         line.clear();
         line.push_short(self.start.text());
         push_text(line, "-");
         line.push_short(self.end.text());
-        push_text(line, " ");
-        push_text(line, kind_name(kind));
-        push_text(line, "-");
-        line.push_short(self.number.text());
-        push_text(line, ": ");
+        self.names.push(kind, number, line);
         note_text(kind, note, line);
         push_text(line, "\n");
     }

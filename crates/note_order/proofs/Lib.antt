@@ -1,3 +1,4 @@
 pub mod SortLemmas
 pub mod Entries
 mod Groups
+pub mod Swaps

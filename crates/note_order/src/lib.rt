@@ -5,6 +5,7 @@
 mod entry;
 mod group;
 mod laws;
+mod settle;
 mod sort;
 
 pub use entry::Entry;

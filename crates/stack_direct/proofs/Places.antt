@@ -1,6 +1,6 @@
 -- One machine among those of a tree.
 use Rattle.std.proofs.Common.{◌≡◌, ◌≢◌, ◌<◌, ℕ, zero, suc, List, [], ◌∷◌, ◌++◌, length, map, get_or, set, slice_get, Option, Some, option_map, refl, sym, ◌∙◌, ap, subst, arith}
-use Rattle.std.proofs.lemmas.List.{get_or-set_same, get_or-set_other, length-set}
+use Rattle.std.proofs.lemmas.List.{append-nil, get_or-set_same, get_or-set_other, length-set}
 use Rattle.std.proofs.lemmas.Option.{slice_get-get_or, slice_get-map}
 use Rattle.la_base.specs.declared.wires.Feed.{Feed}
 use Rattle.la_base.specs.declared.wires.Out.{Out}
@@ -54,3 +54,10 @@ module _ {M S : Type 0} (setup : M → S) (consumed : M → List Item → Type 0
           (stands after (input ++ map Sample more) p.0, subst (λ (f : List Item → List Out). f (input ++ map Sample more) ≡ f input) (sym whole_is) p.1);
       others = stays after;
     }
+
+-- no samples at all were passed over
+pub passed_nothing : (whole : ℕ → List Item → List Out) (now : ℕ → List Item → Type 0) (i : ℕ) → PassedAt i whole now now []
+passed_nothing whole now i = record {
+  here = λ input stands. (subst (λ (l : List Item). now i l) (sym (append-nil input)) stands, ap (λ (l : List Item). whole i l) (append-nil input));
+  others = λ j other input stands. stands;
+}

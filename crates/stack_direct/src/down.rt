@@ -12,14 +12,16 @@ use la_base::{Mark, Out, Packet};
 use la_io::{MarkTake, Stopped};
 
 /// Hands a packet to each machine that stands on `above`, and what these put out to those that stand
-/// on them.
+/// on them. `rooms` is room for the outputs of steps, one for each depth as far as it reaches: to make room
+/// anew for each packet fills it with default values.
 #[cycle(tree)]
 #[inline(always)]
 pub fn hand<M: Machine, G: MarkTake>(
     machines: &mut [M],
     parents: &[Option<u32>],
     above: Option<u32>,
-    packet: Packet,
+    packet: &Packet,
+    rooms: &mut [Outs],
     take: &mut G,
 ) -> Result<(), Stopped>
     requires forest { IsForest parents.now }
@@ -27,7 +29,7 @@ pub fn hand<M: Machine, G: MarkTake>(
     requires each { length machines.old ≡ length parents.now }
     requires takes { G.instances take.old ≡ length parents.now }
     ensures setups { map M.setup machines.new ≡ map M.setup machines.old }
-    ensures hands { Hands (is_ok result) (whole_of M.outputs (map M.setup machines.old)) (Stand M.consumed machines.old) (Stand M.consumed machines.new) parents.now (G.took take.old) (G.took take.new) above (λ _. Pack packet ∷ []) }
+    ensures hands { Hands (is_ok result) (whole_of M.outputs (map M.setup machines.old)) (Stand M.consumed machines.old) (Stand M.consumed machines.new) parents.now (G.took take.old) (G.took take.new) above (λ _. Pack packet.now ∷ []) }
     ensures instances { G.instances take.new ≡ G.instances take.old }
     ensures origin { G.origin take.new ≡ G.origin take.old }
     ensures cause { HasCause (G.stops take.old) (G.stops take.new) result }
@@ -40,6 +42,7 @@ pub fn hand<M: Machine, G: MarkTake>(
             above,
             place as u32,
             packet,
+            rooms,
             take,
         ) {
             Ok(()) => {}
@@ -58,7 +61,8 @@ pub fn hand_to<M: Machine, G: MarkTake>(
     parent: Option<u32>,
     above: Option<u32>,
     instance: u32,
-    packet: Packet,
+    packet: &Packet,
+    rooms: &mut [Outs],
     take: &mut G,
 ) -> Result<(), Stopped>
     requires forest { IsForest parents.now }
@@ -68,13 +72,13 @@ pub fn hand_to<M: Machine, G: MarkTake>(
     requires each { length machines.old ≡ length parents.now }
     requires takes { G.instances take.old ≡ length parents.now }
     ensures setups { map M.setup machines.new ≡ map M.setup machines.old }
-    ensures hands { Hands (is_ok result) (whole_of M.outputs (map M.setup machines.old)) (Stand M.consumed machines.old) (Stand M.consumed machines.new) parents.now (G.took take.old) (G.took take.new) above (only instance (Pack packet ∷ [])) }
+    ensures hands { Hands (is_ok result) (whole_of M.outputs (map M.setup machines.old)) (Stand M.consumed machines.old) (Stand M.consumed machines.new) parents.now (G.took take.old) (G.took take.new) above (only instance (Pack packet.now ∷ [])) }
     ensures instances { G.instances take.new ≡ G.instances take.old }
     ensures origin { G.origin take.new ≡ G.origin take.old }
     ensures cause { HasCause (G.stops take.old) (G.stops take.new) result }
 {
     if same_place(parent, above) {
-        pass(machines, parents, instance, packet, take)
+        pass(machines, parents, instance, packet, rooms, take)
     } else {
         Ok(())
     }
@@ -88,7 +92,8 @@ pub fn pass<M: Machine, G: MarkTake>(
     machines: &mut [M],
     parents: &[Option<u32>],
     instance: u32,
-    packet: Packet,
+    packet: &Packet,
+    rooms: &mut [Outs],
     take: &mut G,
 ) -> Result<(), Stopped>
     requires forest { IsForest parents.now }
@@ -97,14 +102,71 @@ pub fn pass<M: Machine, G: MarkTake>(
     requires each { length machines.old ≡ length parents.now }
     requires takes { G.instances take.old ≡ length parents.now }
     ensures setups { map M.setup machines.new ≡ map M.setup machines.old }
-    ensures feeds { Feeds (is_ok result) (whole_of M.outputs (map M.setup machines.old)) (Stand M.consumed machines.old) (Stand M.consumed machines.new) parents.now (G.took take.old) (G.took take.new) instance (Pack packet ∷ []) }
+    ensures feeds { Feeds (is_ok result) (whole_of M.outputs (map M.setup machines.old)) (Stand M.consumed machines.old) (Stand M.consumed machines.new) parents.now (G.took take.old) (G.took take.new) instance (Pack packet.now ∷ []) }
     ensures instances { G.instances take.new ≡ G.instances take.old }
     ensures origin { G.origin take.new ≡ G.origin take.old }
     ensures cause { HasCause (G.stops take.old) (G.stops take.new) result }
 {
-    let mut outs = Outs::new();
-    step_packet_at(machines, instance, packet, &mut outs);
-    match give(machines, parents, instance, outs.list(), take) {
+    match rooms.split_first_mut() {
+        Some((outs, deeper)) => {
+            outs.clear();
+            pass_in(machines, parents, instance, packet, outs, deeper, take)
+        }
+        None => pass_anew(machines, parents, instance, packet, take),
+    }
+}
+
+/// The same, with room that is made anew.
+#[cycle(tree)]
+#[inline(never)]
+pub fn pass_anew<M: Machine, G: MarkTake>(
+    machines: &mut [M],
+    parents: &[Option<u32>],
+    instance: u32,
+    packet: &Packet,
+    take: &mut G,
+) -> Result<(), Stopped>
+    requires forest { IsForest parents.now }
+    requires few { length parents.now ≤ 24 }
+    requires within { instance < length parents.now }
+    requires each { length machines.old ≡ length parents.now }
+    requires takes { G.instances take.old ≡ length parents.now }
+    ensures setups { map M.setup machines.new ≡ map M.setup machines.old }
+    ensures feeds { Feeds (is_ok result) (whole_of M.outputs (map M.setup machines.old)) (Stand M.consumed machines.old) (Stand M.consumed machines.new) parents.now (G.took take.old) (G.took take.new) instance (Pack packet.now ∷ []) }
+    ensures instances { G.instances take.new ≡ G.instances take.old }
+    ensures origin { G.origin take.new ≡ G.origin take.old }
+    ensures cause { HasCause (G.stops take.old) (G.stops take.new) result }
+{
+    let mut rooms = [Outs::new(), Outs::new(), Outs::new()];
+    pass(machines, parents, instance, packet, &mut rooms, take)
+}
+
+/// The same, with room for its outputs.
+#[cycle(tree)]
+#[inline(always)]
+pub fn pass_in<M: Machine, G: MarkTake>(
+    machines: &mut [M],
+    parents: &[Option<u32>],
+    instance: u32,
+    packet: &Packet,
+    outs: &mut Outs,
+    rooms: &mut [Outs],
+    take: &mut G,
+) -> Result<(), Stopped>
+    requires forest { IsForest parents.now }
+    requires few { length parents.now ≤ 24 }
+    requires within { instance < length parents.now }
+    requires each { length machines.old ≡ length parents.now }
+    requires takes { G.instances take.old ≡ length parents.now }
+    requires empty { outs.old ≡ [] }
+    ensures setups { map M.setup machines.new ≡ map M.setup machines.old }
+    ensures feeds { Feeds (is_ok result) (whole_of M.outputs (map M.setup machines.old)) (Stand M.consumed machines.old) (Stand M.consumed machines.new) parents.now (G.took take.old) (G.took take.new) instance (Pack packet.now ∷ []) }
+    ensures instances { G.instances take.new ≡ G.instances take.old }
+    ensures origin { G.origin take.new ≡ G.origin take.old }
+    ensures cause { HasCause (G.stops take.old) (G.stops take.new) result }
+{
+    step_packet_at(machines, instance, *packet, outs);
+    match give(machines, parents, instance, outs.list(), rooms, take) {
         Ok(()) => {}
         Err(Stopped) => return Err(Stopped),
     }
@@ -120,6 +182,7 @@ pub fn give<M: Machine, G: MarkTake>(
     parents: &[Option<u32>],
     instance: u32,
     outs: &[Out],
+    rooms: &mut [Outs],
     take: &mut G,
 ) -> Result<(), Stopped>
     requires forest { IsForest parents.now }
@@ -134,7 +197,7 @@ pub fn give<M: Machine, G: MarkTake>(
     ensures cause { HasCause (G.stops take.old) (G.stops take.new) result }
 {
     for out in outs {
-        match give_one(machines, parents, instance, out, take) {
+        match give_one(machines, parents, instance, out, rooms, take) {
             Ok(()) => {}
             Err(Stopped) => return Err(Stopped),
         }
@@ -150,6 +213,7 @@ pub fn give_one<M: Machine, G: MarkTake>(
     parents: &[Option<u32>],
     instance: u32,
     out: &Out,
+    rooms: &mut [Outs],
     take: &mut G,
 ) -> Result<(), Stopped>
     requires forest { IsForest parents.now }
@@ -166,6 +230,6 @@ pub fn give_one<M: Machine, G: MarkTake>(
     match out {
         Out::Note(note) => mark(take, instance, Mark::Note(*note)),
         Out::Piece(piece) => mark(take, instance, Mark::Piece(*piece)),
-        Out::Packet(packet) => hand(machines, parents, Some(instance), *packet, take),
+        Out::Packet(packet) => hand(machines, parents, Some(instance), packet, rooms, take),
     }
 }

@@ -41,6 +41,7 @@ pub fn step_run_at<M: Machine>(
 }
 
 /// A step of one machine over a packet.
+#[inline(always)]
 pub fn step_packet_at<M: Machine>(
     machines: &mut [M],
     instance: u32,

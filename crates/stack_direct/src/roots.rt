@@ -22,6 +22,7 @@ fn give_all<M: Machine, G: MarkTake>(
     parents: &[Option<u32>],
     instance: u32,
     outs: &mut Outs,
+    rooms: &mut [Outs],
     take: &mut G,
 ) -> Result<(), Stopped>
     requires forest { IsForest parents.now }
@@ -39,7 +40,7 @@ fn give_all<M: Machine, G: MarkTake>(
     if outs.list().is_empty() {
         return Ok(());
     }
-    match give(machines, parents, instance, outs.list(), take) {
+    match give(machines, parents, instance, outs.list(), rooms, take) {
         Ok(()) => {
             outs.clear();
             Ok(())
@@ -56,6 +57,7 @@ fn pass_rest<M: Machine, G: MarkTake>(
     instance: u32,
     run: Run,
     outs: &mut Outs,
+    rooms: &mut [Outs],
     take: &mut G,
 ) -> Result<(), Stopped>
     requires forest { IsForest parents.now }
@@ -74,7 +76,7 @@ fn pass_rest<M: Machine, G: MarkTake>(
     let mut rest = Some(run);
     while let Some(run) = rest {
         rest = step_run_at(machines, instance, run, outs);
-        match give_all(machines, parents, instance, outs, take) {
+        match give_all(machines, parents, instance, outs, rooms, take) {
             Ok(()) => {}
             Err(Stopped) => return Err(Stopped),
         }
@@ -90,6 +92,7 @@ fn pass_run<M: Machine, G: MarkTake>(
     instance: u32,
     run: Run,
     outs: &mut Outs,
+    rooms: &mut [Outs],
     take: &mut G,
 ) -> Result<(), Stopped>
     requires forest { IsForest parents.now }
@@ -106,18 +109,55 @@ fn pass_run<M: Machine, G: MarkTake>(
     ensures cause { HasCause (G.stops take.old) (G.stops take.new) result }
 {
     let rest = step_run_at(machines, instance, run, outs);
-    match give_all(machines, parents, instance, outs, take) {
+    match give_all(machines, parents, instance, outs, rooms, take) {
         Ok(()) => {}
         Err(Stopped) => return Err(Stopped),
     }
     match rest {
-        Some(rest) => pass_rest(machines, parents, instance, rest, outs, take),
+        Some(rest) => pass_rest(machines, parents, instance, rest, outs, rooms, take),
         None => Ok(()),
     }
 }
 
-// Hands runs to one machine, and what it puts out to those that stand on it. Those without a stop are passed
-// over together. It isn't inlined, so that its loop has the registers that it needs.
+// Where so many tries to pass over runs passed none, the others are handed on one by one.
+const MOST_MISSED: u32 = 6;
+
+// Hands runs to one machine, and what it puts out to those that stand on it, one by one. It isn't inlined, as the loop
+// that passes over runs isn't.
+#[inline(never)]
+fn pass_each<M: Machine, G: MarkTake>(
+    machines: &mut [M],
+    parents: &[Option<u32>],
+    instance: u32,
+    runs: &[Run],
+    outs: &mut Outs,
+    rooms: &mut [Outs],
+    take: &mut G,
+) -> Result<(), Stopped>
+    requires forest { IsForest parents.now }
+    requires few { length parents.now ≤ 24 }
+    requires within { instance < length parents.now }
+    requires each { length machines.old ≡ length parents.now }
+    requires takes { G.instances take.old ≡ length parents.now }
+    requires empty { outs.old ≡ [] }
+    ensures setups { map M.setup machines.new ≡ map M.setup machines.old }
+    ensures feeds { Feeds (is_ok result) (whole_of M.outputs (map M.setup machines.old)) (Stand M.consumed machines.old) (Stand M.consumed machines.new) parents.now (G.took take.old) (G.took take.new) instance (map Sample (samples_of runs.now)) }
+    ensures empty { OnOk result (outs.new ≡ []) }
+    ensures instances { G.instances take.new ≡ G.instances take.old }
+    ensures origin { G.origin take.new ≡ G.origin take.old }
+    ensures cause { HasCause (G.stops take.old) (G.stops take.new) result }
+{
+    for run in runs {
+        match pass_run(machines, parents, instance, *run, outs, rooms, take) {
+            Ok(()) => {}
+            Err(Stopped) => return Err(Stopped),
+        }
+    }
+    Ok(())
+}
+
+// The same. Runs without a stop are passed over together, but for a line of which each run ends in a stop: there a
+// try each time takes a tenth of a decode. It isn't inlined, so that its loop has the registers that it needs.
 #[inline(never)]
 fn pass_all<M: Machine, G: MarkTake>(
     machines: &mut [M],
@@ -125,6 +165,7 @@ fn pass_all<M: Machine, G: MarkTake>(
     instance: u32,
     runs: &[Run],
     outs: &mut Outs,
+    rooms: &mut [Outs],
     take: &mut G,
 ) -> Result<(), Stopped>
     requires forest { IsForest parents.now }
@@ -141,12 +182,20 @@ fn pass_all<M: Machine, G: MarkTake>(
     ensures cause { HasCause (G.stops take.old) (G.stops take.new) result }
 {
     let mut at = 0;
+    let mut missed: u32 = 0;
     loop {
-        at += pass_runs_at(machines, instance, &runs[at..]);
+        let passed = pass_runs_at(machines, instance, &runs[at..]);
+        at += passed;
         if at >= runs.len() {
             return Ok(());
         }
-        match pass_run(machines, parents, instance, runs[at], outs, take) {
+        if passed == 0 {
+            missed = missed.saturating_add(1);
+            if missed > MOST_MISSED {
+                return pass_each(machines, parents, instance, &runs[at..], outs, rooms, take);
+            }
+        }
+        match pass_run(machines, parents, instance, runs[at], outs, rooms, take) {
             Ok(()) => at += 1,
             Err(Stopped) => return Err(Stopped),
         }
@@ -160,6 +209,7 @@ fn pass_runs<M: Machine, G: MarkTake>(
     instance: u32,
     runs: &[Run],
     outs: &mut Outs,
+    rooms: &mut [Outs],
     take: &mut G,
 ) -> Result<(), Stopped>
     requires forest { IsForest parents.now }
@@ -175,7 +225,7 @@ fn pass_runs<M: Machine, G: MarkTake>(
     ensures origin { G.origin take.new ≡ G.origin take.old }
     ensures cause { HasCause (G.stops take.old) (G.stops take.new) result }
 {
-    match pass_all(machines, parents, instance, runs, outs, take) {
+    match pass_all(machines, parents, instance, runs, outs, rooms, take) {
         Ok(()) => {
             let floor = floor_at(machines, instance);
             mark(take, instance, Mark::Floor(floor))
@@ -192,6 +242,7 @@ fn runs_to<M: Machine, G: MarkTake>(
     instance: u32,
     runs: &[Run],
     outs: &mut Outs,
+    rooms: &mut [Outs],
     take: &mut G,
 ) -> Result<(), Stopped>
     requires forest { IsForest parents.now }
@@ -209,18 +260,20 @@ fn runs_to<M: Machine, G: MarkTake>(
     ensures cause { HasCause (G.stops take.old) (G.stops take.new) result }
 {
     match parent {
-        None => pass_runs(machines, parents, instance, runs, outs, take),
+        None => pass_runs(machines, parents, instance, runs, outs, rooms, take),
         Some(_) => Ok(()),
     }
 }
 
 /// Hands runs to each machine that stands on nothing, one machine after another, and what these put out
-/// to those that stand on them. `outs` is room for the outputs of a step, and has none before and behind.
+/// to those that stand on them. `outs` is room for the outputs of a step, and has none before and behind;
+/// `rooms` is such room for the machines below.
 pub fn hand_runs<M: Machine, G: MarkTake>(
     machines: &mut [M],
     parents: &[Option<u32>],
     runs: &[Run],
     outs: &mut Outs,
+    rooms: &mut [Outs],
     take: &mut G,
 ) -> Result<(), Stopped>
     requires forest { IsForest parents.now }
@@ -236,7 +289,16 @@ pub fn hand_runs<M: Machine, G: MarkTake>(
     ensures cause { HasCause (G.stops take.old) (G.stops take.new) result }
 {
     for (place, parent) in parents.iter().enumerate() {
-        match runs_to(machines, parents, *parent, place as u32, runs, outs, take) {
+        match runs_to(
+            machines,
+            parents,
+            *parent,
+            place as u32,
+            runs,
+            outs,
+            rooms,
+            take,
+        ) {
             Ok(()) => {}
             Err(Stopped) => return Err(Stopped),
         }

@@ -32,13 +32,14 @@ fn feed_all<M: Machine, F: RunFeed, G: MarkTake>(
     ensures origin { G.origin take.new ≡ G.origin take.old }
     ensures cause { HasCause (G.stops take.old) (G.stops take.new) result }
 {
-    // One for all steps, since to make it fills it with default values.
+    // One for all steps of a depth, since to make it fills it with default values.
     let mut outs = Outs::new();
+    let mut rooms = [Outs::new(), Outs::new(), Outs::new()];
     loop {
         if !feed.next_runs() {
             return Ok(());
         }
-        match hand_runs(machines, parents, feed.runs(), &mut outs, take) {
+        match hand_runs(machines, parents, feed.runs(), &mut outs, &mut rooms, take) {
             Ok(()) => {}
             Err(Stopped) => return Err(Stopped),
         }

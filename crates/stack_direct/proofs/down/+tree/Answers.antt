@@ -86,17 +86,17 @@ give-returns-in-Err-clause-gives g t c =
     let one = subst (λ (s : List g.row.M-Setup.Denot). Gives false (whole_of m.outputs s) (Stand m.consumed c.loop-out.machines) (Stand m.consumed c.give_one.new.machines) c.args.parents.now (k.took c.loop-out.take) (k.took c.give_one.new.take) c.args.instance (c.out-item.result ∷ [])) i.setups e.gives in
     gives_reach c.args.outs.now front (gives_then i.gives one)
 
-pub pass-returns-in-Err-clause-feeds : goal.pass-returns-in-Err-clause-feeds
-pass-returns-in-Err-clause-feeds g t c =
+pub pass_in-returns-in-Err-clause-feeds : goal.pass_in-returns-in-Err-clause-feeds
+pass_in-returns-in-Err-clause-feeds g t c =
     let m = g.M.Machine in
     let k = g.G.MarkTake in
     let s = c.step_packet_at.ensures.step in
     let gave = subst (λ (l : List g.row.M-Setup.Denot). Gives false (whole_of m.outputs l) (Stand m.consumed c.step_packet_at.new.machines) (Stand m.consumed c.give.new.machines) c.args.parents.now (k.took c.args.take.now) (k.took c.give.new.take) c.args.instance c.step_packet_at.new.outs) c.step_packet_at.ensures.setups
     (subst (λ (l : List Out). Gives false (whole_of m.outputs (map m.setup c.step_packet_at.new.machines)) (Stand m.consumed c.step_packet_at.new.machines) (Stand m.consumed c.give.new.machines) c.args.parents.now (k.took c.args.take.now) (k.took c.give.new.take) c.args.instance l) c.list.ensures.list c.in-Err.ensures.gives) in
-    feeds_reach (Pack c.args.packet ∷ []) (reaches_weaker false s.here.front (Pack c.args.packet ∷ []) (whole_packet c.args.packet s.here)) (stepped c.requires.forest s gave)
+    feeds_reach (Pack c.args.packet.now ∷ []) (reaches_weaker false s.here.front (Pack c.args.packet.now ∷ []) (whole_packet c.args.packet.now s.here)) (stepped c.requires.forest s gave)
 
-pub pass-returns-clause-feeds : goal.pass-returns-clause-feeds
-pass-returns-clause-feeds g t c =
+pub pass_in-returns-clause-feeds : goal.pass_in-returns-clause-feeds
+pass_in-returns-clause-feeds g t c =
     let m = g.M.Machine in
     let k = g.G.MarkTake in
     let s = c.step_packet_at.ensures.step in
@@ -108,10 +108,10 @@ pass-returns-clause-feeds g t c =
     (subst (λ (l : List Out). Gives true (whole_of m.outputs (map m.setup c.step_packet_at.new.machines)) (Stand m.consumed c.step_packet_at.new.machines) now c.args.parents.now (k.took c.args.take.now) (k.took c.give.new.take) c.args.instance l) c.list.ensures.list c.in-Ok.ensures.gives) in
     let told = feeds_floor whole now c.args.parents.now (k.took c.give.new.take) (k.took c.mark.new.take) c.args.instance c.floor_at-floor.result c.mark.ensures.took
     (λ input b. subst (λ (l : List g.row.M-Setup.Denot). IsFloor (whole_of m.outputs l c.args.instance) input c.floor_at-floor.result) setups (c.floor_at-floor.ensures input b)) in
-    feeds_reach (Pack c.args.packet ∷ []) (reaches_weaker done (s.here.front ++ []) (Pack c.args.packet ∷ []) (append-nil s.here.front ∙ whole_packet c.args.packet s.here)) (feeds_then (stepped c.requires.forest s gave) (feeds_weaker done told))
+    feeds_reach (Pack c.args.packet.now ∷ []) (reaches_weaker done (s.here.front ++ []) (Pack c.args.packet.now ∷ []) (append-nil s.here.front ∙ whole_packet c.args.packet.now s.here)) (feeds_then (stepped c.requires.forest s gave) (feeds_weaker done told))
 
 pub hand_to-returns-else-same_place-clause-hands : goal.hand_to-returns-else-same_place-clause-hands
-hand_to-returns-else-same_place-clause-hands g t c = hands_not c.args.above c.args.parent c.args.instance (Pack c.args.packet ∷ []) c.requires.parent (sym c.if-same_place.ensures)
+hand_to-returns-else-same_place-clause-hands g t c = hands_not c.args.above c.args.parent c.args.instance (Pack c.args.packet.now ∷ []) c.requires.parent (sym c.if-same_place.ensures)
 
 pub hand_to-returns-then-same_place-clause-hands : goal.hand_to-returns-then-same_place-clause-hands
 hand_to-returns-then-same_place-clause-hands g t c = feeds_are_hands c.args.above c.args.parent c.requires.forest c.requires.parent (sym c.if-same_place.ensures) c.pass.ensures.feeds
@@ -120,7 +120,7 @@ pub hand-loop-place-init : goal.hand-loop-place-init
 hand-loop-place-init g t c =
     let m = g.M.Machine in
     let k = g.G.MarkTake in
-    let xs = Pack c.args.packet ∷ [] in
+    let xs = Pack c.args.packet.now ∷ [] in
     record {
       setups = refl;
       hands = hands_reach (up_to 0 xs) (λ j parent at on. sym (up_to_none xs j)) (hands_nothing (whole_of m.outputs (map m.setup c.args.machines.now)) (Stand m.consumed c.args.machines.now) c.args.parents.now (k.took c.args.take.now) c.args.above);
@@ -135,7 +135,7 @@ hand-loop-place-preserved g t c =
     let k = g.G.MarkTake in
     let i = c.loop-place.invariant in
     let e = c.in-Ok.ensures in
-    let xs = Pack c.args.packet ∷ [] in
+    let xs = Pack c.args.packet.now ∷ [] in
     let one = subst (λ (s : List g.row.M-Setup.Denot). Hands true (whole_of m.outputs s) (Stand m.consumed c.loop-place.machines) (Stand m.consumed c.hand_to.new.machines) c.args.parents.now (k.took c.loop-place.take) (k.took c.hand_to.new.take) c.args.above (only c.loop-place.place xs)) i.setups e.hands in
     record {
       setups = e.setups ∙ i.setups;
@@ -151,11 +151,11 @@ hand-returns-in-Err-clause-hands g t c =
     let k = g.G.MarkTake in
     let i = c.loop-place.invariant in
     let e = c.in-Err.ensures in
-    let xs = Pack c.args.packet ∷ [] in
+    let xs = Pack c.args.packet.now ∷ [] in
     let one = subst (λ (s : List g.row.M-Setup.Denot). Hands false (whole_of m.outputs s) (Stand m.consumed c.loop-place.machines) (Stand m.consumed c.hand_to.new.machines) c.args.parents.now (k.took c.loop-place.take) (k.took c.hand_to.new.take) c.args.above (only c.loop-place.place xs)) i.setups e.hands in
     hands_reach (λ _. xs) (λ j parent at on. up_to_front (c.loop-place.place + 1) xs j) (hands_next c.loop-place.place xs i.hands one)
 
 pub hand-returns-clause-hands : goal.hand-returns-clause-hands
 hand-returns-clause-hands g t c =
-    let xs = Pack c.args.packet ∷ [] in
+    let xs = Pack c.args.packet.now ∷ [] in
     hands_reach (λ _. xs) (λ j parent at on. let within = slice_get_within c.args.parents.now j parent at in up_to_all c.loop-place.place xs j (omega (arith, within))) c.loop-place.invariant.hands

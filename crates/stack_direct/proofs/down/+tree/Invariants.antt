@@ -5,19 +5,26 @@ use Rattle.stack_direct.specs.Machines.{Stand, whole_of}
 use Rattle.stack_direct.proofs.down.+tree.Given as goal
 
 abbrev pub decreases-hand : goal.decreases-hand
-decreases-hand g l = 6 * (length l.parents.now + 1 - first_on l.above) + 1
+decreases-hand g l = 10 * (length l.parents.now + 1 - first_on l.above) + 1
 
 abbrev pub decreases-hand_to : goal.decreases-hand_to
-decreases-hand_to g l = 6 * (length l.parents.now + 1 - first_on l.above)
+decreases-hand_to g l = 10 * (length l.parents.now + 1 - first_on l.above)
 
+-- more where room is made first
 abbrev pub decreases-pass : goal.decreases-pass
-decreases-pass g l = 6 * (length l.parents.now - l.instance) + 4
+decreases-pass g l = 10 * (length l.parents.now - l.instance) + 5 + 2 * (1 - length l.rooms.now)
+
+abbrev pub decreases-pass_anew : goal.decreases-pass_anew
+decreases-pass_anew g l = 10 * (length l.parents.now - l.instance) + 6
+
+abbrev pub decreases-pass_in : goal.decreases-pass_in
+decreases-pass_in g l = 10 * (length l.parents.now - l.instance) + 4
 
 abbrev pub decreases-give : goal.decreases-give
-decreases-give g l = 6 * (length l.parents.now - l.instance) + 3
+decreases-give g l = 10 * (length l.parents.now - l.instance) + 3
 
 abbrev pub decreases-give_one : goal.decreases-give_one
-decreases-give_one g l = 6 * (length l.parents.now - l.instance) + 2
+decreases-give_one g l = 10 * (length l.parents.now - l.instance) + 2
 
 abbrev pub invariant-give-loop-out : goal.invariant-give-loop-out
 invariant-give-loop-out g l =

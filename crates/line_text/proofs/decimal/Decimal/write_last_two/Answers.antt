@@ -13,4 +13,5 @@ invariant_of-self c =
       digits = c.set_last_two.ensures
           ∙ (last_two_anew c.self.inside.digits c.self.inside.number c.args.number c.args.last c.self.invariant.digits (omega arith) (omega arith) c.requires.some same c.requires.last).1;
       hundreds = c.self.invariant.hundreds ∙ ap (λ (n : ℕ). n * 100) (sym same);
+      myriads = omega (arith, c.self.invariant.myriads, same);
     }

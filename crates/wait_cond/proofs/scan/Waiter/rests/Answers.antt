@@ -1,4 +1,4 @@
-use Rattle.std.proofs.Common.{refl, sym, ◌≡◌, ◌==◌, if◌then◌else◌, subst, ℕ, Bool, false, Option, Some, None, arith}
+use Rattle.std.proofs.Common.{sym, ◌≡◌, ◌==◌, if◌then◌else◌, subst, ℕ, Bool, false, Some, None, arith}
 use Rattle.std.proofs.lemmas.Bool.Decides.{nat_tests}
 use Rattle.wait_cond.specs.Watching.{NeverMet}
 use Rattle.wait_cond.proofs.Passing.{all_passed}

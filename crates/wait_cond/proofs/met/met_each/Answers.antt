@@ -3,8 +3,8 @@ use Rattle.std.proofs.lemmas.List.{take_more}
 use Rattle.wait_cond.specs.Stops.{MetSet}
 use Rattle.wait_cond.specs.declared.alt.Alt.{Alt}
 use Rattle.wait_cond.proofs.Sets.{met_pass, met_more}
-use Rattle.wait_cond.proofs.met.met_set.Goals as goal
-use Rattle.wait_cond.proofs.met.met_set.Goals.{then-meets, else-meets}
+use Rattle.wait_cond.proofs.met.met_each.Goals as goal
+use Rattle.wait_cond.proofs.met.met_each.Goals.{then-meets, else-meets}
 
 abbrev none : Alt
 none = record { low = 0; high = 0; rise = 0; fall = 0; edge = 0; steady = 0; skip = 0 }
