@@ -1,15 +1,40 @@
 // One sample, and a run in two parts.
-ghost use Rattle.std.specs.Prelude.{◌≡◌, ◌+◌, ◌<◌, ◌++◌};
+ghost use Rattle.std.specs.Prelude.{◌≡◌, ◌+◌, ◌<◌, ◌++◌, ◌%◌, ◌/◌, ◌^◌};
 ghost use Rattle.la_base.specs.Samples.{samples, is_high};
 
 use crate::{MOST_PINS, Run, Word};
 
+// How many bits half a word has.
+const HALF: u32 = 64;
+
+/// The bits of a word that pins 0 to 63 have.
+#[inline(always)]
+pub fn low_half(word: Word) -> u64
+    ensures { result ≡ word % 2 ^ 64 }
+{
+    (word & 0xffff_ffff_ffff_ffff) as u64
+}
+
+/// The bits of a word that pins 64 to 127 have.
+#[inline(always)]
+pub fn high_half(word: Word) -> u64
+    ensures { result ≡ word / 2 ^ 64 }
+{
+    (word >> HALF) as u64
+}
+
 /// Whether the channel that is bound as pin `channel` is high in a sample: bit `channel` of it.
+#[inline(always)]
 pub fn pin(value: Word, channel: u32) -> bool
     requires { channel < MOST_PINS }
     ensures { result ≡ is_high value channel }
 {
-    (value >> channel) & 1 == 1
+    // A shift of one half takes less than one of the whole.
+    if channel < HALF {
+        (low_half(value) >> channel) & 1 == 1
+    } else {
+        (high_half(value) >> (channel - HALF)) & 1 == 1
+    }
 }
 
 /// The first `n` samples of a run, and the others, of which there is at least one.

@@ -4,10 +4,10 @@ ghost use Rattle.std.specs.Prelude.{◌≤◌};
 use arrayvec::ArrayVec;
 
 /// One sample: bit j is the level of the channel that is bound as pin j, 1 for high.
-pub type Word = u64;
+pub type Word = u128;
 
 /// How many channels can be bound: the bits of a `Word`.
-pub const MOST_PINS: u32 = 64;
+pub const MOST_PINS: u32 = 128;
 
 const PLACES: usize = MOST_PINS as usize;
 
