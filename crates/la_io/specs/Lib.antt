@@ -8,3 +8,4 @@ pub mod Kept
 pub mod Memory
 pub mod Onward
 pub mod Plans
+pub mod Reading

@@ -1,8 +1,8 @@
 // What is wrong with a capture, and where.
 use thiserror::Error;
 
-/// A fault of a capture. `at` is a place in its bytes, counted from 0. `line` and `column` count
-/// from 1.
+/// A fault of a capture. `at` is a place in its bytes, counted from 0; of a table (CSV) it is the number of
+/// a line, from 1. `line` and `column` count from 1.
 #[derive(Clone, Copy, Debug, PartialEq, Eq, Error)]
 pub enum CaptureFault {
     /// The bytes end inside the unit that begins at `at`.
@@ -12,7 +12,7 @@ pub enum CaptureFault {
     #[error("the token at byte {at} doesn't belong there")]
     Token { at: u64 },
     /// A token or line of 65,536 bytes or more.
-    #[error("the token or line at byte {at} is too long")]
+    #[error("the token or line at {at} is too long")]
     TooLong { at: u64 },
     /// No time scale came before the header's end.
     #[error("the header has no time scale")]
@@ -21,13 +21,13 @@ pub enum CaptureFault {
     #[error("the file ends inside its header")]
     NoDefinitions,
     /// More channels than can be declared.
-    #[error("too many channels at byte {at}")]
+    #[error("too many channels at {at}")]
     TooMany { at: u64 },
     /// A time `now` that is less than `was`, the one before it.
-    #[error("the time {now} at byte {at} comes before {was}")]
+    #[error("the time {now} at {at} comes before {was}")]
     TimeBack { at: u64, was: i128, now: i128 },
     /// A time that is too large.
-    #[error("the time at byte {at} is too large")]
+    #[error("the time at {at} is too large")]
     TimeLarge { at: u64 },
     /// A value that is neither 0 nor 1.
     #[error("field {column} of line {line} is neither 0 nor 1")]

@@ -1,11 +1,11 @@
 // Any reader and any writer, with a count of their errors.
-ghost use Rattle.std.specs.Prelude.{◌≡◌, None};
+ghost use Rattle.std.specs.Prelude.{◌≡◌};
 
 use crate::{Failed, Sink, Source};
 use std::io::{Read, Write};
 
 /// Any reader as a source. Each error that it answers counts as one more fault. Of its content it
-/// tells nothing.
+/// tells what the reader tells: of a file or a terminal that is nothing, of bytes in memory all.
 #[derive(Debug, Drop)]
 pub struct StdSource<R: Read> {
     reader: R,
@@ -22,7 +22,7 @@ impl<R: Read> StdSource<R> {
 }
 
 impl<R: Read> Source for StdSource<R> {
-    ghost left = { λ _. None };
+    ghost left = { λ s. R.remaining s.reader };
 
     ghost faults = { λ s. s.faults };
 
@@ -38,7 +38,7 @@ impl<R: Read> Source for StdSource<R> {
 }
 
 /// Any writer as a sink. Each error that it answers counts as one more fault, and so does a write that
-/// takes nothing. Of its content it tells nothing.
+/// takes nothing. Of what was written it tells what the writer tells.
 #[derive(Debug, Drop)]
 pub struct StdSink<W: Write> {
     writer: W,
@@ -55,7 +55,7 @@ impl<W: Write> StdSink<W> {
 }
 
 impl<W: Write> Sink for StdSink<W> {
-    ghost written = { λ _. None };
+    ghost written = { λ s. W.contents s.writer };
 
     ghost faults = { λ s. s.faults };
 

@@ -1,5 +1,5 @@
 -- Reading a list of parts: each part is judged with the values of those before it, and the first fault ends it.
-use Rattle.std.specs.Prelude.{List, [], ◌∷◌, ◌++◌, Result, Ok, Err, Option, ◌≡◌, IfSome}
+use Rattle.std.specs.Prelude.{List, [], ◌∷◌, ◌++◌, Result, Ok, Err, Option, Some, None, ◌≡◌, IfSome}
 
 -- a value that was read goes on to what is read with it, and a fault ends the reading
 abbrev pub then_read : {X Y F : Type 0} → Result X F → (X → Result Y F) → Result Y F
@@ -10,6 +10,15 @@ then_read (Err fault) next = Err fault
 abbrev pub read_parts : {P V F : Type 0} → (List V → P → Result V F) → List V → List P → Result (List V) F
 read_parts judge before [] = Ok before
 read_parts judge before (part ∷ parts) = then_read (judge before part) (λ value. read_parts judge (before ++ value ∷ []) parts)
+
+-- the values of parts up to the first fault, and that fault
+abbrev pub after_one : {P V F : Type 0} → (List V → List P → List V × Option F) → List V → List P → Result V F → List V × Option F
+after_one more before parts (Ok value) = more (before ++ value ∷ []) parts
+after_one more before parts (Err fault) = (before, Some fault)
+
+abbrev pub read_front : {P V F : Type 0} → (List V → P → Result V F) → List V → List P → List V × Option F
+read_front judge before [] = (before, None)
+read_front judge before (part ∷ parts) = after_one (λ values rest. read_front judge values parts) before parts (judge before part)
 
 -- the fault of the first part that has one: all before it are read, and it is judged behind their values
 pub record IsFirstFault {P V F : Type 0} (judge : List V → P → Result V F) (before : List V) (parts : List P) (fault : F) : Type 0 where
