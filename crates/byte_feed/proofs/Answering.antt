@@ -1,7 +1,7 @@
 -- What the answers of a reader of tokens mean, from what it took and what it found.
 use Rattle.std.proofs.Common.{◌≡◌, ℕ, zero, suc, ◌+◌, ◌-◌, ◌^◌, ◌<◌, ◌≤◌, ◌≢◌, length-append, length-drop, slice_index, List, [], ◌∷◌, ◌++◌, take, drop, length, refl, sym, ◌∙◌, ap, subst, arith, append_assoc, Option, Some, None, Bool, true, false, Result, Ok, Err}
 use Rattle.std.proofs.lemmas.Bool.{false≢true}
-use Rattle.byte_feed.specs.Tokens.{is_blank}
+use Rattle.byte_feed.specs.Tokens.{by_blanks, is_blank, tokens_from}
 use Rattle.std.specs.Io.KnownBytes.{IsAtEnd}
 use Rattle.text_parts.specs.Places.{Placed}
 use Rattle.la_io.specs.Capture.{Told, AtEnd}
@@ -9,9 +9,11 @@ use Rattle.la_io.specs.Intake.{Front}
 use Rattle.byte_feed.specs.declared.fault.FeedFault.{FeedFault}
 use Rattle.byte_feed.specs.declared.fault.FeedFault.TheVariants.{Read, TooLong, Bytes, Spent}
 use Rattle.byte_feed.specs.Moving.{Skips, Skipped, Reaches, Reached}
-use Rattle.byte_feed.specs.Reader.{StandsAt, Stands, Answers, told_of, place, front_of, text_of}
+use Rattle.byte_feed.specs.Feeding.{told_of}
+use Rattle.byte_feed.specs.Reader.{StandsAt, Stands, Answers, place, front_of, text_of}
 use Rattle.byte_feed.specs.declared.tokens.Tokens.{Tokens}
-use Rattle.byte_feed.proofs.Standing.{stands_skip, stands_token, gives_none, gives_read, gives_full, gives_long, first_stays, told_left, told_less}
+use Rattle.byte_feed.proofs.Giving.{gives_full, gives_long, gives_none, gives_read, told_left, told_less}
+use Rattle.byte_feed.proofs.Standing.{first_stays, stands_skip, stands_token, taken_are}
 
 pub found_is : (new : Front) (is one other : Bool) → one ≡ other → Skipped new is (Ok one) → Skipped new is (Ok other)
 found_is new is one other e h = subst (λ (b : Bool). Skipped new is (Ok b)) e h
@@ -38,7 +40,7 @@ module _ (old : Tokens) (mid new : Front) (is : Bool) (l m : Option (List ℕ)) 
       stands = subst (λ (f : Front). StandsAt f last.len last.ended (before ++ skips.bytes) given) (sym front_is)
           (subst (λ (n : ℕ). StandsAt new n last.ended (before ++ skips.bytes) given) (sym len_is) (subst (λ (b : Bool). StandsAt new 0 b (before ++ skips.bytes) given) (sym ended_is) skipped));
     },
-    gives_none new is (before ++ skips.bytes) given (let few = skipped.few found.0 in omega (arith, few)) skipped found.0 found.1,
+    gives_none by_blanks (tokens_from 0) (place new 0) new.bytes is (before ++ skips.bytes) given (taken_are new 0 is (before ++ skips.bytes) given (let few = skipped.few found.0 in omega (arith, few)) skipped) found.0 (skipped.few found.0) found.1,
   )
 
   -- reading stopped
@@ -46,13 +48,13 @@ module _ (old : Tokens) (mid new : Front) (is : Bool) (l m : Option (List ℕ)) 
   skip_stops last Read ended_is found =
       let count = skipped.taken in (
         ended_is ∙ found.1.0,
-        gives_read new is (before ++ skips.bytes) given (omega (arith, count, found.1.1)) skipped found.1.0 (omega (arith, count, found.1.1)) (omega (arith, ap length found.0)) (λ k less. absurd (omega (arith, less, ap length found.0))),
+        gives_read by_blanks (tokens_from 0) (place new 0) new.bytes is (before ++ skips.bytes) given (taken_are new 0 is (before ++ skips.bytes) given (omega (arith, count, found.1.1)) skipped) found.1.0 (omega (arith, count, found.1.1)) (omega (arith, ap length found.0)) (λ k less. absurd (omega (arith, less, ap length found.0))),
       )
   skip_stops last (TooLong n) ended_is found = absurd found.1
   skip_stops last Bytes ended_is found =
       let count = skipped.taken in (
         ended_is ∙ found.1.0,
-        gives_full new is (before ++ skips.bytes) given (omega (arith, count, found.1.1)) skipped found.1.0 (omega (arith, count, found.1.1)) (omega (arith, ap length found.0)) (λ k less. absurd (omega (arith, less, ap length found.0))),
+        gives_full by_blanks (tokens_from 0) (place new 0) new.bytes is (before ++ skips.bytes) given (taken_are new 0 is (before ++ skips.bytes) given (omega (arith, count, found.1.1)) skipped) found.1.0 (omega (arith, count, found.1.1)) (omega (arith, ap length found.0)) (λ k less. absurd (omega (arith, less, ap length found.0))),
       )
   skip_stops last Spent ended_is found = absurd found.1
 
@@ -88,11 +90,11 @@ module _ (old : Tokens) (mid new : Front) (is : Bool) (l m : Option (List ℕ)) 
 
     -- reading stopped in it
     pub token_stops : (last : Tokens) (fault : FeedFault) → last.ended ≡ now → Reached after now (Err fault) → Answers last n bytes given (Err fault)
-    token_stops last Read ended_is r = let count = reached.taken in (ended_is ∙ r.0, gives_read after now bytes given (omega (arith, count, r.1)) reached r.0 (omega (arith, count, r.1)) r.2 r.3)
+    token_stops last Read ended_is r = let count = reached.taken in (ended_is ∙ r.0, gives_read by_blanks (tokens_from 0) (place after 0) after.bytes now bytes given (taken_are after 0 now bytes given (omega (arith, count, r.1)) reached) r.0 (omega (arith, count, r.1)) r.2 r.3)
     token_stops last (TooLong at) ended_is r =
         let count = reached.taken in
-        (told_of now, reach_told, sym (ap told_of ended_is), gives_long after now bytes given (omega (arith, count, r.3)) reached at (omega (arith, r.2)) r.0 r.1)
-    token_stops last Bytes ended_is r = let count = reached.taken in (ended_is ∙ r.0, gives_full after now bytes given (omega (arith, count, r.1)) reached r.0 (omega (arith, count, r.1)) r.2 r.3)
+        (told_of now, reach_told, sym (ap told_of ended_is), gives_long by_blanks (tokens_from 0) (place after 0) after.bytes now bytes given (taken_are after 0 now bytes given (omega (arith, count, r.3)) reached) at (omega (arith, r.2)) r.0 r.1)
+    token_stops last Bytes ended_is r = let count = reached.taken in (ended_is ∙ r.0, gives_full by_blanks (tokens_from 0) (place after 0) after.bytes now bytes given (taken_are after 0 now bytes given (omega (arith, count, r.1)) reached) r.0 (omega (arith, count, r.1)) r.2 r.3)
     token_stops last Spent ended_is r = absurd r
 
 -- a token has a byte, and so less is left behind it

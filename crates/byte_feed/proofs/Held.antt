@@ -4,13 +4,16 @@ use Rattle.std.proofs.lemmas.List.{append-nil, take_all}
 use Rattle.text_parts.specs.Places.{Placed}
 use Rattle.la_io.specs.Capture.{Open}
 use Rattle.la_io.specs.Intake.{Front}
-use Rattle.byte_feed.specs.Tokens.{Fed, is_blank, tokens_from}
+use Rattle.byte_feed.specs.Parts.{Fed}
+use Rattle.byte_feed.specs.Tokens.{by_blanks, is_blank, tokens_from}
 use Rattle.byte_feed.specs.Blanks.{AllBlank, AllPlain}
-use Rattle.byte_feed.specs.Reader.{StandsAt, GaveToken, place, front_of, text_of, told_of}
+use Rattle.byte_feed.specs.Feeding.{told_of}
+use Rattle.byte_feed.specs.Reader.{StandsAt, GaveToken, place, front_of, text_of}
 use Rattle.byte_feed.specs.declared.tokens.Tokens.{Tokens}
 use Rattle.byte_feed.proofs.Moving.{first_behind, front_blank}
 use Rattle.byte_feed.proofs.Standing.{stands_skip, stands_token}
-use Rattle.byte_feed.proofs.TokenLaws.{cut_token, long_token, skip_all}
+use Rattle.byte_feed.proofs.PartLaws.{cut_part, long_part}
+use Rattle.byte_feed.proofs.TokenLaws.{skip_all}
 
 pub rest_is : (xs : List ℕ) (n : ℕ) → slice_range xs n (length xs) ≡ drop n xs
 rest_is xs n = take_all (length xs - n) (drop n xs) (omega (arith, length-drop n xs))
@@ -56,5 +59,5 @@ none_held rest n within blank plain room =
     at = 0 + length (take n rest)
 
     by_size : (length word < 65536) ⊎ (65536 ≤ length word) → (tokens_from at Open word).items ≡ []
-    by_size (inl short) = ap (λ (f : Fed). f.items) (cut_token at word short plain)
-    by_size (inr long) = ap (λ (l : List ℕ). (tokens_from at Open l).items) (sym (append-nil word)) ∙ ap (λ (f : Fed). f.items) (long_token at Open word [] long plain)
+    by_size (inl short) = ap (λ (f : Fed). f.items) (cut_part by_blanks at word short plain)
+    by_size (inr long) = ap (λ (l : List ℕ). (tokens_from at Open l).items) (sym (append-nil word)) ∙ ap (λ (f : Fed). f.items) (long_part by_blanks at Open word [] long plain)

@@ -1,3 +1,5 @@
+pub mod PartLaws
+pub mod Giving
 pub mod Moving
 pub mod TokenLaws
 pub mod Standing

@@ -7,15 +7,15 @@ use Rattle.la_io.specs.Capture.{Told, AtEnd}
 use Rattle.la_io.specs.Intake.{Front}
 use Rattle.byte_feed.specs.declared.fault.FeedFault.{FeedFault}
 use Rattle.byte_feed.specs.declared.fault.FeedFault.TheVariants.{Read, TooLong, Bytes, Spent}
-use Rattle.byte_feed.specs.Tokens.{behind, bytes_ending}
-use Rattle.byte_feed.specs.Lines.{kept, lines_from, lines_of, unmarked}
+use Rattle.byte_feed.specs.Parts.{behind, bytes_ending}
+use Rattle.byte_feed.specs.Lines.{by_feeds, kept, lines_from, lines_of, unmarked}
 use Rattle.byte_feed.specs.LineMoves.{AllIn, FrontPassed, LineReached, PassesFront, ReachesEnd}
 use Rattle.byte_feed.specs.LineReader.{Answers, LinesAt, Stands, front_of, text_of}
-use Rattle.byte_feed.specs.Reader.{Onward, told_of}
+use Rattle.byte_feed.specs.Feeding.{Onward, told_of}
 use Rattle.byte_feed.specs.declared.lines.Lines.{Lines}
 use Rattle.byte_feed.proofs.LineMoving.{kept_len}
-use Rattle.byte_feed.proofs.LineStanding.{FrontAt, HeldAs, front_more, front_reached, held_on, lines_are, lines_end, lines_full, lines_long, lines_next, lines_none, lines_read, lines_stopped}
-use Rattle.byte_feed.proofs.Standing.{told_left, told_less}
+use Rattle.byte_feed.proofs.LineStanding.{FrontAt, HeldAs, front_more, front_reached, held_on, lines_are, lines_end, lines_next, lines_stopped, whole_lines}
+use Rattle.byte_feed.proofs.Giving.{gives_full, gives_long, gives_none, gives_read, told_left, told_less}
 
 module _ {T : Type 0} (old : Lines) (mid new : Front) (is : Bool) (l m : Option (List ℕ)) (result : Result T FeedFault) (passes : PassesFront old.number mid new old.ended is l m result)
     (gone : mid.bytes ≡ drop old.over (front_of old).bytes) (same : mid.taken ≡ (front_of old).taken) (before : List ℕ) (told : Told) (given : List Placed)
@@ -44,11 +44,11 @@ module _ {T : Type 0} (old : Lines) (mid new : Front) (is : Bool) (l m : Option 
   pub front_stops : (last : Lines) (fault : FeedFault) → last.ended ≡ is → FrontPassed {T = T} old.number (mid.bytes ++ kept passes.bytes) new is (Err fault) → Answers last m (before ++ passes.bytes) given (Err fault)
   front_stops last Read ended_is answer =
       let e = answer.4.0 in
-      (ended_is ∙ e, lines_read new old.number is _ given (stopped e answer.3 answer.0 (omega (arith, counted, answer.4.1))) e (omega (arith, counted, answer.4.1)) (omega (arith, answer.1, ap length answer.0)) (subst (λ (l : List ℕ). AllIn l (length l)) (sym answer.0) answer.2))
+      (ended_is ∙ e, gives_read by_feeds whole_lines (old.number + 1) new.bytes is _ given (stopped e answer.3 answer.0 (omega (arith, counted, answer.4.1))) e (omega (arith, counted, answer.4.1)) (omega (arith, answer.1, ap length answer.0)) (subst (λ (l : List ℕ). AllIn l (length l)) (sym answer.0) answer.2))
   front_stops last (TooLong n) ended_is answer = absurd answer.4
   front_stops last Bytes ended_is answer =
       let e = answer.4.0 in
-      (ended_is ∙ e, lines_full new old.number is _ given (stopped e answer.3 answer.0 (omega (arith, counted, answer.4.1))) e (omega (arith, counted, answer.4.1)) (omega (arith, answer.1, ap length answer.0)) (subst (λ (l : List ℕ). AllIn l (length l)) (sym answer.0) answer.2))
+      (ended_is ∙ e, gives_full by_feeds whole_lines (old.number + 1) new.bytes is _ given (stopped e answer.3 answer.0 (omega (arith, counted, answer.4.1))) e (omega (arith, counted, answer.4.1)) (omega (arith, answer.1, ap length answer.0)) (subst (λ (l : List ℕ). AllIn l (length l)) (sym answer.0) answer.2))
   front_stops last Spent ended_is answer = absurd answer.4
 
   module _ (after : Front) (now : Bool) (n : Option (List ℕ)) (length_of : Result ℕ FeedFault) (reaches : ReachesEnd old.number new after is now m n length_of) (x : T) (found : FrontPassed old.number (mid.bytes ++ kept passes.bytes) new is (Ok x)) where
@@ -98,14 +98,14 @@ module _ {T : Type 0} (old : Lines) (mid new : Front) (is : Bool) (l m : Option 
                 (subst (λ (k : ℕ). LinesAt after 0 k last.ended bytes given) (sym number_is)
                 (subst (λ (b : Bool). LinesAt after 0 old.number b bytes given) (sym ended_is) (lines_end after old.number now bytes given e empty reached))));
           },
-          lines_none after old.number now bytes given (here few) e (reached.few e) empty,
+          gives_none by_feeds whole_lines (old.number + 1) after.bytes now bytes given (here few) e (reached.few e) empty,
         )
 
     -- reading stopped in it
     pub line_stops : (last : Lines) (fault : FeedFault) → last.ended ≡ now → LineReached old.number after now (Err fault) → Answers last n bytes given (Err fault)
-    line_stops last Read ended_is r = let taken = reached.taken in (ended_is ∙ r.0, lines_read after old.number now bytes given (here (omega (arith, r.1))) r.0 (omega (arith, taken, r.1)) r.2 r.3)
-    line_stops last (TooLong at) ended_is r = (told_of now, reach_told, sym (ap told_of ended_is), lines_long after old.number now bytes given (here r.3) at r.2 r.0 r.1)
-    line_stops last Bytes ended_is r = let taken = reached.taken in (ended_is ∙ r.0, lines_full after old.number now bytes given (here (omega (arith, r.1))) r.0 (omega (arith, taken, r.1)) r.2 r.3)
+    line_stops last Read ended_is r = let taken = reached.taken in (ended_is ∙ r.0, gives_read by_feeds whole_lines (old.number + 1) after.bytes now bytes given (here (omega (arith, r.1))) r.0 (omega (arith, taken, r.1)) r.2 r.3)
+    line_stops last (TooLong at) ended_is r = (told_of now, reach_told, sym (ap told_of ended_is), gives_long by_feeds whole_lines (old.number + 1) after.bytes now bytes given (here r.3) at r.2 r.0 r.1)
+    line_stops last Bytes ended_is r = let taken = reached.taken in (ended_is ∙ r.0, gives_full by_feeds whole_lines (old.number + 1) after.bytes now bytes given (here (omega (arith, r.1))) r.0 (omega (arith, taken, r.1)) r.2 r.3)
     line_stops last Spent ended_is r = absurd r
 
 -- no reading says that it is spent

@@ -6,7 +6,7 @@ use Rattle.la_io.specs.Intake.{Front}
 use Rattle.byte_feed.specs.Lines.{is_feed, kept}
 use Rattle.byte_feed.specs.LineMoves.{AllIn}
 use Rattle.byte_feed.specs.LineReader.{Ahead, GaveLine, LinesAt, front_of, rest_of}
-use Rattle.byte_feed.specs.Reader.{told_of}
+use Rattle.byte_feed.specs.Feeding.{told_of}
 use Rattle.byte_feed.specs.declared.lines.Lines.{Lines}
 use Rattle.byte_feed.proofs.Marks.{front_behind}
 use Rattle.byte_feed.proofs.LineStanding.{FrontAt, front_reached, lines_next}

@@ -1,19 +1,19 @@
 -- What a reader of lines stands for, as it goes on.
-use Rattle.std.proofs.Common.{◌≡◌, ℕ, ◌+◌, ◌^◌, ◌≤◌, ◌<◌, ◌⊎◌, inl, inr, List, [], ◌∷◌, ◌++◌, take, drop, length, refl, sym, ◌∙◌, ap, subst, arith, length-append, length-take-le, append_assoc, take-append-drop, slice_index, Bool, true, false}
+use Rattle.std.proofs.Common.{◌≡◌, ℕ, ◌+◌, ◌^◌, ◌≤◌, ◌<◌, ◌⊎◌, inl, inr, List, [], ◌∷◌, ◌++◌, take, drop, length, refl, sym, ◌∙◌, ap, arith, length-append, length-take-le, append_assoc, take-append-drop, slice_index, Bool, true, false}
 use Rattle.std.proofs.lemmas.List.{append-nil, drop_more, get_or-take, take_all, drop_all}
 use Rattle.text_parts.specs.Places.{Placed}
-use Rattle.la_io.specs.declared.fault.CaptureFault.TheVariants as fault
-use Rattle.la_io.specs.Capture.{Told, AtEnd, Cut, Ending, Clean, Faulty, Open}
+use Rattle.la_io.specs.Capture.{Cut, Ending, Clean}
 use Rattle.la_io.specs.Intake.{Front}
-use Rattle.byte_feed.specs.Tokens.{Fed, behind, ends, bytes_ending}
-use Rattle.byte_feed.specs.Lines.{is_feed, kept, lines_behind, lines_from, lines_of, unmarked}
+use Rattle.byte_feed.specs.Parts.{Fed, behind, bytes_ending, ends}
+use Rattle.byte_feed.specs.Lines.{by_feeds, is_feed, kept, lines_behind, lines_from, lines_of, unmarked}
 use Rattle.byte_feed.specs.LineMoves.{AllIn}
 use Rattle.byte_feed.specs.LineReader.{LinesAt}
-use Rattle.byte_feed.specs.Reader.{Onward, told_of}
-use Rattle.byte_feed.proofs.LineLaws.{behind_line, cut_line, full_line, last_line, long_line, no_line, one_line}
+use Rattle.byte_feed.specs.Feeding.{Onward, told_of}
+use Rattle.byte_feed.proofs.LineLaws.{behind_line, one_line}
 use Rattle.byte_feed.proofs.LineMoving.{kept_append}
 use Rattle.byte_feed.proofs.Marks.{none_marked}
-use Rattle.byte_feed.proofs.Standing.{at_end, behind_end, behind_on, ending_full, ending_short, onward_end, onward_step}
+use Rattle.byte_feed.proofs.Giving.{at_end, few_on, onward_end, onward_step, whole_taken}
+use Rattle.byte_feed.proofs.PartLaws.{behind_on, last_one, no_part}
 
 -- nothing was taken
 pub lines_new : (front : Front) → front ≡ record { bytes = []; taken = 0 } → LinesAt front 0 0 false [] []
@@ -28,12 +28,6 @@ pub record FrontAt (front : Front) (lines : ℕ) (ended : Bool) (bytes : List �
   pub taken : front.taken ≡ length bytes
   pub few : ended ≡ true → length bytes < 2 ^ 60
   pub goes_on : Onward ended (λ more how. lines_behind 0 how (kept (bytes ++ more)) ≡ behind given (lines_from (lines + 1) how (front.bytes ++ kept more)))
-
-few_on : (was is : Bool) (bytes x : List ℕ) (old new : ℕ) → new ≡ old + length x → old ≡ length bytes → (was ≡ true → x ≡ []) → (was ≡ true → length bytes < 2 ^ 60) → (is ≡ true → (was ≡ true) ⊎ (new < 2 ^ 60)) → is ≡ true → length (bytes ++ x) < 2 ^ 60
-few_on was is bytes x old new count at nothing few told e = by_told (told e) where
-  by_told : (was ≡ true) ⊎ (new < 2 ^ 60) → length (bytes ++ x) < 2 ^ 60
-  by_told (inl e) = omega (arith, few e, length-append bytes x, ap length (nothing e))
-  by_told (inr less) = omega (arith, less, count, at, length-append bytes x)
 
 -- the lines of what is held and comes, behind those that were given
 abbrev pub HeldAs : ℕ → List ℕ → List ℕ → List Placed → List ℕ → Ending → Type 0
@@ -126,9 +120,9 @@ lines_next front count over lines is bytes given some short within one feed ende
       onward_end is Q e (
       at_end _ _ e st.goes_on
       ∙ ap (λ (l : List ℕ). behind given (lines_from (lines + 1) Clean l)) (append-nil front.bytes ∙ sym is_word)
-      ∙ ap (λ (f : Fed). behind given f) (last_line (lines + 1) word (omega (arith, word_len, all, some)) (omega (arith, word_len, short)) word_one)
+      ∙ ap (λ (f : Fed). behind given f) (last_one by_feeds (lines + 1) word (omega (arith, word_len, all, some)) (omega (arith, word_len, short)) word_one)
       ∙ behind_on given (item ∷ []) (ends Clean)
-      ∙ ap (λ (f : Fed). behind (given ++ item ∷ []) f) (sym (behind_line lines Clean (drop over front.bytes ++ []) ∙ ap (λ (l : List ℕ). lines_from (lines + 1 + 1) Clean (l ++ [])) nothing ∙ no_line (lines + 1 + 1) Clean))
+      ∙ ap (λ (f : Fed). behind (given ++ item ∷ []) f) (sym (behind_line lines Clean (drop over front.bytes ++ []) ∙ ap (λ (l : List ℕ). lines_from (lines + 1 + 1) Clean (l ++ [])) nothing ∙ no_part by_feeds (lines + 1 + 1) Clean))
       )
 
 -- the end came, and nothing is held
@@ -140,20 +134,16 @@ lines_end front lines is bytes given e nothing st = record {
       ∙ ap (λ (l : List ℕ). behind given (lines_from (lines + 1) Clean l)) (sym (none_marked lines)) ∙ ap (λ (l : List ℕ). behind given (lines_behind lines Clean (l ++ []))) (sym nothing));
 }
 
+-- how bytes that end in a way give lines
+abbrev pub whole_lines : Ending → List ℕ → Fed
+whole_lines how bytes = lines_behind 0 how (kept bytes)
+
 -- the lines of what was taken
 pub lines_are : (front : Front) (lines : ℕ) (is : Bool) (bytes : List ℕ) (given : List Placed) → length bytes ≤ 2 ^ 60 → FrontAt front lines is bytes given
     → lines_of bytes (told_of is) ≡ behind given (lines_from (lines + 1) (bytes_ending (length bytes) (told_of is)) front.bytes)
-lines_are front lines is bytes given few st = ap (λ (l : List ℕ). lines_behind 0 (bytes_ending (length bytes) (told_of is)) (kept l)) (take_all (2 ^ 60) bytes few) ∙ by_told is st.few st.goes_on where
-  Same : Ending → Type 0
-  Same how = lines_behind 0 how (kept bytes) ≡ behind given (lines_from (lines + 1) how front.bytes)
-
-  nothing : (how : Ending) → lines_behind 0 how (kept (bytes ++ [])) ≡ behind given (lines_from (lines + 1) how (front.bytes ++ [])) → Same how
-  nothing how h = ap (λ (l : List ℕ). lines_behind 0 how (kept l)) (sym (append-nil bytes)) ∙ h ∙ ap (λ (l : List ℕ). behind given (lines_from (lines + 1) how l)) (append-nil front.bytes)
-
-  by_told : (is : Bool) → (is ≡ true → length bytes < 2 ^ 60) → Onward is (λ more how. lines_behind 0 how (kept (bytes ++ more)) ≡ behind given (lines_from (lines + 1) how (front.bytes ++ kept more)))
-      → Same (bytes_ending (length bytes) (told_of is))
-  by_told true short h = subst Same (sym (ending_short (length bytes) AtEnd (short refl))) (nothing Clean h)
-  by_told false short h = nothing (bytes_ending (length bytes) Cut) (h [] (bytes_ending (length bytes) Cut))
+lines_are front lines is bytes given few st =
+    whole_taken whole_lines (λ how more. lines_from (lines + 1) how (front.bytes ++ kept more)) is bytes given few st.few st.goes_on
+    ∙ ap (λ (l : List ℕ). behind given (lines_from (lines + 1) (bytes_ending (length bytes) (told_of is)) l)) (append-nil front.bytes)
 
 -- and so it is where the reading stopped before a mark could be told
 pub lines_stopped : (front : Front) (lines : ℕ) (all bytes : List ℕ) (given : List Placed) (is : Bool) → length bytes ≤ 2 ^ 60 → is ≡ false → Onward is (HeldAs lines all bytes given) → unmarked lines all ≡ all → front.bytes ≡ all
@@ -164,44 +154,7 @@ lines_stopped front lines all bytes given false few e h same held =
     ap (λ (l : List ℕ). lines_behind 0 how (kept l)) (take_all (2 ^ 60) bytes few ∙ sym (append-nil bytes)) ∙ h [] how
     ∙ ap (λ (l : List ℕ). behind given (lines_from (lines + 1) how l)) (ap (λ (l : List ℕ). unmarked lines l) (append-nil all) ∙ same ∙ sym held)
 
-module _ (front : Front) (lines : ℕ) (is : Bool) (bytes : List ℕ) (given : List Placed)
-    (now : lines_of bytes (told_of is) ≡ behind given (lines_from (lines + 1) (bytes_ending (length bytes) (told_of is)) front.bytes)) where
-  -- these bytes are left, and with this ending they give this
-  gives : (told : Told) (how other : Ending) (left : List ℕ) → told_of is ≡ told → bytes_ending (length bytes) told ≡ how → front.bytes ≡ left → lines_from (lines + 1) how left ≡ ends other
-      → lines_of bytes told ≡ record { items = given; ending = other }
-  gives told how other left told_is how_is left_is law =
-      ap (λ (t : Told). lines_of bytes t) (sym told_is) ∙ now
-      ∙ (λ i. behind given (lines_from (lines + 1) (bytes_ending (length bytes) (told_is i)) (left_is i)))
-      ∙ ap (λ (h : Ending). behind given (lines_from (lines + 1) h left)) how_is ∙ ap (λ (f : Fed). behind given f) law ∙ behind_end given other
-
-  pub lines_none : is ≡ true → length bytes < 2 ^ 60 → front.bytes ≡ [] → lines_of bytes AtEnd ≡ record { items = given; ending = Clean }
-  lines_none e short nothing = gives AtEnd Clean Clean [] (ap told_of e) (ending_short (length bytes) AtEnd short) nothing (no_line (lines + 1) Clean)
-
-  pub lines_read : is ≡ false → length bytes < 2 ^ 60 → length front.bytes < 65536 → AllIn front.bytes (length front.bytes) → lines_of bytes Cut ≡ record { items = given; ending = Open }
-  lines_read e below short one = gives Cut Open Open front.bytes (ap told_of e) (ending_short (length bytes) Cut below) refl (cut_line (lines + 1) front.bytes short one)
-
-  pub lines_full : is ≡ false → 2 ^ 60 ≤ length bytes → length front.bytes < 65536 → AllIn front.bytes (length front.bytes) → lines_of bytes Cut ≡ record { items = given; ending = Faulty fault.Bytes }
-  lines_full e full short one = gives Cut (Faulty fault.Bytes) (Faulty fault.Bytes) front.bytes (ap told_of e) (ending_full (length bytes) Cut full) refl (full_line (lines + 1) front.bytes fault.Bytes short one)
-
-  pub lines_long : (at : ℕ) → at ≡ lines + 1 → 65536 ≤ length front.bytes → AllIn front.bytes 65536 → lines_of bytes (told_of is) ≡ record { items = given; ending = Faulty (fault.TooLong at) }
-  lines_long at is_at long one =
-      let how = bytes_ending (length bytes) (told_of is) in
-      let word = take 65536 front.bytes in
-      let word_len : length word ≡ 65536 = length-take-le 65536 front.bytes long in
-      gives (told_of is) how (Faulty (fault.TooLong at)) (word ++ drop 65536 front.bytes) refl refl (sym (take-append-drop 65536 front.bytes))
-      (long_line (lines + 1) how word (drop 65536 front.bytes) (omega (arith, word_len)) (λ k less. let below : k < 65536 = omega (arith, less, word_len) in ap is_feed (get_or-take 65536 front.bytes k 0 below) ∙ one k below)
-      ∙ ap (λ (n : ℕ). ends (Faulty (fault.TooLong n))) (sym is_at))
-
 -- the lines that were given are the first of those of what was taken
 pub lines_first : (front : Front) (over lines : ℕ) (is : Bool) (bytes : List ℕ) (given : List Placed) → length bytes ≤ 2 ^ 60 → LinesAt front over lines is bytes given → (rest : Fed) × (lines_of bytes (told_of is) ≡ behind given rest)
-lines_first front over lines is bytes given few st = (lines_behind lines (bytes_ending (length bytes) (told_of is)) (drop over front.bytes), ap (λ (l : List ℕ). lines_behind 0 (bytes_ending (length bytes) (told_of is)) (kept l)) (take_all (2 ^ 60) bytes few) ∙ by_told is st.few st.goes_on) where
-  Same : Ending → Type 0
-  Same how = lines_behind 0 how (kept bytes) ≡ behind given (lines_behind lines how (drop over front.bytes))
-
-  nothing : (how : Ending) → lines_behind 0 how (kept (bytes ++ [])) ≡ behind given (lines_behind lines how (drop over front.bytes ++ [])) → Same how
-  nothing how h = ap (λ (l : List ℕ). lines_behind 0 how (kept l)) (sym (append-nil bytes)) ∙ h ∙ ap (λ (l : List ℕ). behind given (lines_behind lines how l)) (append-nil (drop over front.bytes))
-
-  by_told : (is : Bool) → (is ≡ true → length bytes < 2 ^ 60) → Onward is (λ more how. lines_behind 0 how (kept (bytes ++ more)) ≡ behind given (lines_behind lines how (drop over front.bytes ++ kept more)))
-      → Same (bytes_ending (length bytes) (told_of is))
-  by_told true short h = subst Same (sym (ending_short (length bytes) AtEnd (short refl))) (nothing Clean h)
-  by_told false short h = nothing (bytes_ending (length bytes) Cut) (h [] (bytes_ending (length bytes) Cut))
+lines_first front over lines is bytes given few st =
+    (lines_behind lines (bytes_ending (length bytes) (told_of is)) (drop over front.bytes ++ []), whole_taken whole_lines (λ how more. lines_behind lines how (drop over front.bytes ++ kept more)) is bytes given few st.few st.goes_on)

@@ -6,14 +6,14 @@ use Rattle.std.specs.List.{starts_with}
 use Rattle.text_parts.specs.Places.{Placed}
 use Rattle.la_io.specs.declared.fault.CaptureFault.TheVariants.{TooLong}
 use Rattle.la_io.specs.Capture.{Cut, Ending, Clean, Faulty, Open}
-use Rattle.byte_feed.specs.Tokens.{Fed, behind, bytes_ending, ends, is_long, last_part}
-use Rattle.byte_feed.specs.Lines.{is_feed, kept, lines_behind, lines_from, lines_in, lines_of, mark, numbered_from, without_mark}
+use Rattle.byte_feed.specs.Parts.{Fed, behind, bytes_ending, ends, is_long, last_part, marked_from, parts_from, parts_in}
+use Rattle.byte_feed.specs.Lines.{by_feeds, is_feed, kept, lines_behind, lines_from, lines_of, mark, without_mark}
 use Rattle.byte_feed.specs.Laws.{LinesCanBeCut}
 use Rattle.byte_feed.specs.LineMoves.{AllIn}
-use Rattle.byte_feed.proofs.LineLaws.{long_line, no_line, one_line, split_alone}
+use Rattle.byte_feed.proofs.LineLaws.{one_line}
 use Rattle.byte_feed.proofs.LineMoving.{kept_len}
 use Rattle.byte_feed.proofs.Marks.{MarkFront, front_in, front_or_settled}
-use Rattle.byte_feed.proofs.Standing.{ending_short}
+use Rattle.byte_feed.proofs.PartLaws.{ending_short, long_part, no_part, split_alone}
 
 -- the first line feed
 First : List ℕ → Type 0
@@ -51,8 +51,8 @@ last_few Open part = by_test (is_long part.1) where
   by_test false = omega arith
 
 alone_few : (number : ℕ) (how : Ending) (word : List ℕ) → AllIn word (length word) → length (lines_from number how word).items ≤ 1
-unfolding lines_from
-alone_few number how word one = subst (λ (l : List (List ℕ)). length (lines_in how (numbered_from number l)).items ≤ 1) (sym (split_alone word one)) (last_few how (number, word))
+unfolding parts_from
+alone_few number how word one = subst (λ (l : List (List ℕ)). length (parts_in true how (marked_from by_feeds.next number l)).items ≤ 1) (sym (split_alone by_feeds word one)) (last_few how (number, word))
 
 -- these lines end with a line feed, and something comes behind it
 Parts : ℕ → List ℕ → List Placed → Type 0
@@ -85,7 +85,7 @@ first_line number how bytes first items rest some is = by_first (first_feed byte
   by_first (inl found) = by_length (search arith) where
     by_length : (length found.0 < 65536) ⊎ (65536 ≤ length found.0) → Line number how bytes first items rest
     by_length (inr long) =
-        let none = ap (λ (l : List ℕ). lines_from number how l) found.2 ∙ long_line number how found.0 (10 ∷ found.1) long found.3 in
+        let none = ap (λ (l : List ℕ). lines_from number how l) found.2 ∙ long_part by_feeds number how found.0 (10 ∷ found.1) long found.3 in
         absurd (omega (arith, many, ap (λ (f : Fed). length f.items) none))
     by_length (inl less) =
         let line : lines_from number how bytes ≡ behind ((number, found.0) ∷ []) (lines_from (number + 1) how found.1) = ap (λ (l : List ℕ). lines_from number how l) found.2 ∙ one_line number 10 how found.0 found.1 less found.3 refl in
@@ -109,11 +109,11 @@ cut_lines number how bytes first [] item rest is =
       line.next,
       line.bytes_are ∙ sym (append_assoc line.word (10 ∷ []) line.next),
       by_next line.next line.more,
-      one_line number 10 Open line.word [] line.short line.one refl ∙ ap (λ (f : Fed). behind ((number, line.word) ∷ []) f) (no_line (number + 1) Open) ∙ (λ i. record { items = line.first_is i ∷ []; ending = Open }),
+      one_line number 10 Open line.word [] line.short line.one refl ∙ ap (λ (f : Fed). behind ((number, line.word) ∷ []) f) (no_part by_feeds (number + 1) Open) ∙ (λ i. record { items = line.first_is i ∷ []; ending = Open }),
     )
   where
     by_next : (l : List ℕ) → lines_from (number + 1) how l ≡ behind (item ∷ []) rest → 0 < length l
-    by_next [] more = absurd (omega (arith, ap (λ (f : Fed). length f.items) (sym (no_line (number + 1) how) ∙ more)))
+    by_next [] more = absurd (omega (arith, ap (λ (f : Fed). length f.items) (sym (no_part by_feeds (number + 1) how) ∙ more)))
     by_next (b ∷ l) more = omega arith
 cut_lines number how bytes first (second ∷ items) item rest is =
     let line = first_line number how bytes first (second ∷ (items ++ item ∷ [])) rest (omega arith) is in

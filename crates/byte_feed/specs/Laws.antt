@@ -3,7 +3,8 @@ use Rattle.std.specs.Prelude.{ℕ, ◌≡◌, ◌-◌, ◌^◌, ◌<◌, ◌≤�
 use Rattle.text_parts.specs.Places.{Placed}
 use Rattle.la_io.specs.declared.fault.CaptureFault.{CaptureFault}
 use Rattle.la_io.specs.Capture.{Told, Cut, Faulty, Open}
-use Rattle.byte_feed.specs.Tokens.{Fed, behind, tokens_of}
+use Rattle.byte_feed.specs.Parts.{Fed, behind}
+use Rattle.byte_feed.specs.Tokens.{tokens_of}
 use Rattle.byte_feed.specs.Lines.{lines_of}
 
 -- more tokens, or lines, behind those of a front that has no fault; or the same as those of a front that has one

@@ -1,9 +1,12 @@
+pub mod Parts
 pub mod Tokens
 pub mod Blanks
 pub mod Moving
+pub mod Feeding
 pub mod Reader
 pub mod Laws
 pub mod Lines
 pub mod LineMoves
 pub mod LineReader
 pub mod Worked
+pub mod Errors

@@ -1,14 +1,15 @@
 -- How far a reader of lines has read.
 use Rattle.std.specs.Prelude.{ℕ, ◌≡◌, ◌<◌, ◌≤◌, ◌+◌, ◌^◌, Bool, true, false, List, [], ◌++◌, length, slice_index, Option, Result, Ok, Err}
 use Rattle.la_io.specs.Intake.{Front}
-use Rattle.byte_feed.specs.Lines.{is_feed, kept, unmarked}
+use Rattle.byte_feed.specs.Lines.{by_feeds, is_feed, kept, unmarked}
+use Rattle.byte_feed.specs.Parts.{NoneEnds}
 use Rattle.byte_feed.specs.Moving.{Filled, Moves, StopsAt}
 use Rattle.byte_feed.specs.declared.fault.FeedFault.{FeedFault}
 use Rattle.byte_feed.specs.declared.fault.FeedFault.TheVariants.{Read, TooLong, Bytes, Spent}
 
 -- so many bytes at the front are of one line
 abbrev pub AllIn : List ℕ → ℕ → Type 0
-AllIn bytes count = (k : ℕ) → k < count → is_feed (slice_index bytes k) ≡ false
+AllIn bytes count = NoneEnds by_feeds bytes count
 
 -- one read: what came is held without its carriage returns
 pub record FillsKept (old new : Front) (was is : Bool) (left_old left_new : Option (List ℕ)) (result : Result Bool FeedFault) : Type 0 where

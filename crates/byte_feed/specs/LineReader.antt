@@ -1,15 +1,13 @@
 -- What a reader of lines stands for, and what its answers mean.
-use Rattle.std.specs.Prelude.{ℕ, ◌≡◌, ◌+◌, ◌-◌, ◌^◌, ◌<◌, ◌≤◌, Bool, true, false, List, [], ◌∷◌, ◌++◌, length, slice_index, take, drop, Option, Some, None, Result, Ok, Err}
-use Rattle.std.specs.Io.KnownBytes.{Consumes, IsAtEnd}
+use Rattle.std.specs.Prelude.{ℕ, ◌≡◌, ◌+◌, ◌-◌, ◌^◌, ◌<◌, ◌≤◌, Bool, true, List, [], ◌∷◌, ◌++◌, length, slice_index, take, drop, Option, Some, None, Result, Ok, Err}
 use Rattle.text_parts.specs.Places.{Placed}
-use Rattle.la_io.specs.declared.fault.CaptureFault.TheVariants as fault
-use Rattle.la_io.specs.Capture.{Told, AtEnd, Cut, Clean, Faulty, Open}
+use Rattle.la_io.specs.Capture.{Told}
 use Rattle.la_io.specs.Intake.{Front}
-use Rattle.byte_feed.specs.Tokens.{behind}
+use Rattle.byte_feed.specs.Feeding.{Onward, told_of}
+use Rattle.byte_feed.specs.Feeding as feeding
+use Rattle.byte_feed.specs.Parts.{behind}
 use Rattle.byte_feed.specs.Lines.{is_feed, kept, lines_behind, lines_of}
-use Rattle.byte_feed.specs.Reader.{Onward, told_of}
 use Rattle.byte_feed.specs.declared.fault.FeedFault.{FeedFault}
-use Rattle.byte_feed.specs.declared.fault.FeedFault.TheVariants.{Read, TooLong, Bytes, Spent}
 use Rattle.byte_feed.specs.declared.lines.Lines.{Lines}
 
 -- these bytes were taken and these lines given: whatever comes, they are the first of its lines, and the others are those of what is held behind so many bytes
@@ -70,21 +68,11 @@ GaveLine old new number = (bytes : List ℕ) (told : Told) (given : List Placed)
 
 -- what an answer means, where these bytes were taken and these lines were given before it
 abbrev pub Answers : Lines → Option (List ℕ) → List ℕ → List Placed → Result (Option ℕ) FeedFault → Type 0
-Answers lines left bytes given (Ok (Some number)) = (told : Told) × (told ≡ AtEnd → IsAtEnd left) × Stands lines bytes told (given ++ (number, text_of lines) ∷ [])
-Answers lines left bytes given (Ok None) = IsAtEnd left × Stands lines bytes AtEnd given × (lines_of bytes AtEnd ≡ record { items = given; ending = Clean })
-Answers lines left bytes given (Err Read) = (ended_of lines ≡ false) × (lines_of bytes Cut ≡ record { items = given; ending = Open })
-Answers lines left bytes given (Err (TooLong at)) = (told : Told) × (told ≡ AtEnd → IsAtEnd left) × (told ≡ told_of (ended_of lines)) × (lines_of bytes told ≡ record { items = given; ending = Faulty (fault.TooLong at) })
-Answers lines left bytes given (Err Bytes) = (ended_of lines ≡ false) × (lines_of bytes Cut ≡ record { items = given; ending = Faulty fault.Bytes })
-Answers lines left bytes given (Err Spent) = ⊥
+Answers lines left bytes given result = feeding.Answers ended_of is_spent text_of Stands lines_of lines left bytes given result
 
--- one call: the bytes that it took, none behind the end, and what its answer means behind them
-pub record Next (old new : Lines) (left_old left_new : Option (List ℕ)) (result : Result (Option ℕ) FeedFault) : Type 0 where
-  pub bytes : List ℕ
-  pub consumed : Consumes left_old left_new bytes
-  pub none : ended_of old ≡ true → bytes ≡ []
-  pub stays : ended_of old ≡ true → ended_of new ≡ true
-  pub answers : (before : List ℕ) (told : Told) (given : List Placed) → is_spent old ≡ false → (told ≡ AtEnd → IsAtEnd left_old)
-      → Stands old before told given → Answers new left_new (before ++ bytes) given result
+-- one call: the bytes that it took, and what its answer means behind them
+abbrev pub Next : Lines → Lines → Option (List ℕ) → Option (List ℕ) → Result (Option ℕ) FeedFault → Type 0
+Next old new left_old left_new result = feeding.Next ended_of is_spent text_of Stands lines_of old new left_old left_new result
 
 -- the lines are counted from 1
 abbrev pub Numbers : ℕ → ℕ → Result (Option ℕ) FeedFault → Type 0

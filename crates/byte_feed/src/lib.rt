@@ -3,6 +3,7 @@
 #![tactic(auto)]
 
 mod blanks;
+mod errors;
 mod fault;
 mod filling;
 mod laws;
@@ -10,6 +11,7 @@ mod line_ends;
 mod lines;
 mod tokens;
 
+pub use errors::error_of;
 pub use fault::FeedFault;
 pub use laws::{lines_can_be_cut, lines_extend, lines_hold, tokens_extend};
 pub use lines::Lines;

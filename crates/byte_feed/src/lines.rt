@@ -31,7 +31,7 @@ impl Lines {
     ghost use Rattle.std.specs.Prelude.{◌≡◌, ◌≢◌, ◌<◌, ◌≤◌, ◌^◌, [], ◌+◌, length, take, IfOk, IfSome, Err, true, false};
     ghost use Rattle.la_io.specs.Capture.{Cut};
     ghost use Rattle.byte_feed.specs.Moving.{FeedCause};
-    ghost use Rattle.byte_feed.specs.Reader.{spent_by};
+    ghost use Rattle.byte_feed.specs.Feeding.{spent_by};
     ghost use Rattle.byte_feed.specs.LineReader.{Stands, Next, Numbers, Ahead, GaveLine, is_spent, ended_of, number_of, text_of, left_of, rest_of, taken_of};
     ghost use Rattle.byte_feed.specs.LineMoves.{AllIn};
     ghost use Rattle.byte_feed.specs.declared.fault.FeedFault.TheVariants.{Spent};

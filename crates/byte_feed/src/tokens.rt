@@ -23,7 +23,8 @@ impl Tokens {
     ghost use Rattle.std.specs.Prelude.{◌≡◌, ◌≢◌, ◌<◌, ◌≤◌, ◌^◌, [], IfOk, IfSome, None, Err, true, false};
     ghost use Rattle.la_io.specs.Capture.{Cut};
     ghost use Rattle.byte_feed.specs.Moving.{FeedCause};
-    ghost use Rattle.byte_feed.specs.Reader.{Stands, Next, GaveToken, HoldsNone, is_spent, ended_of, text_of, left_of, taken_of, spent_by};
+    ghost use Rattle.byte_feed.specs.Reader.{Stands, Next, GaveToken, HoldsNone, is_spent, ended_of, text_of, left_of, taken_of};
+    ghost use Rattle.byte_feed.specs.Feeding.{spent_by};
     ghost use Rattle.byte_feed.specs.declared.fault.FeedFault.TheVariants.{Spent};
 
     /// A reader that has taken nothing. This takes the memory for its buffer.

@@ -1,9 +1,9 @@
 use Rattle.std.proofs.Common.{refl}
-use Rattle.byte_feed.specs.Lines.{lines_from}
+use Rattle.byte_feed.specs.Parts.{parts_from}
 use Rattle.byte_feed.proofs.laws.lines_hold.Goals as goal
 
 pub returns : goal.returns
-unfolding lines_from
+unfolding parts_from
 returns c = record {
   ends = refl;
   cut = refl;
