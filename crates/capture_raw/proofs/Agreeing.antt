@@ -26,13 +26,17 @@ agree_bytes mask a b small_a small_b agree i is = by_place (search arith) where
       agree i (sym (bit_at_cat_low (mask / 256) 8 (mask % 256) i low) ∙ ap (λ (n : ℕ). bit_at n i) (sym apart) ∙ is)
   by_place (inr high) = bit_at_above a 8 i small_a high ∙ sym (bit_at_above b 8 i small_b high)
 
--- what agrees on the pins gives one sample
-pub picked_same : (mask a b : ℕ) (pins : List ℕ) → Covers mask pins → Agree mask a b → picked pins a ≡ picked pins b
-picked_same mask a b [] covers agree = omega arith
-picked_same mask a b (pin ∷ pins) covers agree =
-    let bit = agree pin (covers 0 (omega arith)) in
-    let rest = picked_same mask a b pins (λ k below. covers (suc k) (omega (arith, below))) agree in
+-- what has the same bits at the pins gives one sample
+pub picked_bits : (a b : ℕ) (pins : List ℕ) → ((k : ℕ) → k < length pins → bit_at a (get_or pins k 0) ≡ bit_at b (get_or pins k 0)) → picked pins a ≡ picked pins b
+picked_bits a b [] same = omega arith
+picked_bits a b (pin ∷ pins) same =
+    let bit = same 0 (omega arith) in
+    let rest = picked_bits a b pins (λ k below. same (suc k) (omega (arith, below))) in
     λ i. bit i + 2 * rest i
+
+-- and so does what agrees on a mask of them
+pub picked_same : (mask a b : ℕ) (pins : List ℕ) → Covers mask pins → Agree mask a b → picked pins a ≡ picked pins b
+picked_same mask a b pins covers agree = picked_bits a b pins (λ k below. agree (get_or pins k 0) (covers k below))
 
 -- the bit of one pin more
 pub covers_more : (mask : ℕ) (pins : List ℕ) (count width : ℕ) → get_or pins count 0 < width → ((k : ℕ) → k < count → bit_at mask (get_or pins k 0) ≡ 1)
@@ -52,12 +56,12 @@ covers_more mask pins count width small so_far k below = by_place (search arith)
   by_place (inr last) = ap (λ (n : ℕ). bit_at (bit_or mask (1 * 2 ^ pin % 2 ^ width)) (get_or pins n 0)) last ∙ omega (arith, bit pin, bit_at-pow_same pin, bit_at-lt mask pin)
 
 -- one sample more of a table
-pub table_more : (pins table : List ℕ) (count word : ℕ) → count < length table → word ≡ picked pins count → ((k : ℕ) → k < count → get_or table k 0 ≡ picked pins k)
-    → (k : ℕ) → k < count + 1 → get_or (set table count word) k 0 ≡ picked pins k
-table_more pins table count word within is so_far k below = by_place (search arith) where
-  by_place : (k < count) ⊎ (k ≡ count) → get_or (set table count word) k 0 ≡ picked pins k
+pub table_more : (pins table : List ℕ) (worth count word : ℕ) → count < length table → word ≡ picked pins (worth * count) → ((k : ℕ) → k < count → get_or table k 0 ≡ picked pins (worth * k))
+    → (k : ℕ) → k < count + 1 → get_or (set table count word) k 0 ≡ picked pins (worth * k)
+table_more pins table worth count word within is so_far k below = by_place (search arith) where
+  by_place : (k < count) ⊎ (k ≡ count) → get_or (set table count word) k 0 ≡ picked pins (worth * k)
   by_place (inl before) = get_or-set_other table count k word 0 (λ e. omega (arith, e, before)) ∙ so_far k before
-  by_place (inr last) = ap (λ (n : ℕ). get_or (set table count word) n 0) last ∙ get_or-set_same table count word 0 within ∙ is ∙ ap (λ (n : ℕ). picked pins n) (sym last)
+  by_place (inr last) = ap (λ (n : ℕ). get_or (set table count word) n 0) last ∙ get_or-set_same table count word 0 within ∙ is ∙ ap (λ (n : ℕ). picked pins (worth * n)) (sym last)
 
 -- the bits in which any byte so far differs
 abbrev pub Gathers : ℕ → List ℕ → ℕ → ℕ → Type 0

@@ -20,7 +20,7 @@ picked_bit (pin ∷ pins) n (suc j) below =
     let rest : (bit + 2 * picked pins n) / 2 ≡ picked pins n = omega (arith, bit_at-lt n pin) in
     bit_at-suc (bit + 2 * picked pins n) j ∙ ap (λ (m : ℕ). bit_at m j) rest ∙ picked_bit pins n j (omega (arith, below))
 
-picked_small : (pins : List ℕ) (n : ℕ) → picked pins n < 2 ^ length pins
+pub picked_small : (pins : List ℕ) (n : ℕ) → picked pins n < 2 ^ length pins
 picked_small [] n = omega arith
 picked_small (pin ∷ pins) n =
     let more = digit_more 2 (picked pins n) (length pins) (bit_at n pin) (picked_small pins n) (bit_at-lt n pin) in

@@ -6,3 +6,7 @@ pub mod Captures
 pub mod Levels
 pub mod Agreeing
 pub mod Words
+pub mod Parts
+pub mod Fours
+pub mod Picks
+pub mod Batches

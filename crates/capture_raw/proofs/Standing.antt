@@ -12,8 +12,9 @@ use Rattle.capture_raw.specs.declared.step.RawStep.{RawStep}
 use Rattle.capture_raw.specs.declared.step.RawStep.TheVariants.{End, ShortUnit}
 use Rattle.la_io.specs.Intake.{Front, Takes}
 use Rattle.capture_raw.specs.Raw.{unit_len, raw_samples, raw_rest, raw_capture}
-use Rattle.capture_raw.specs.Reader.{StandsAt, MeansAt, ToldEnd, stays_open}
-use Rattle.capture_raw.proofs.Captures.{samples_after, samples_at_end, no_samples, settled_is, ending_is, ending_full, ending_rest}
+use Rattle.capture_raw.specs.Reader.{Stands, StandsAt, Gives, LetsGo, MeansAt, ToldEnd, stays_open, raw_given, raw_held, raw_taken, raw_unit}
+use Rattle.capture_raw.specs.declared.reader.RawReader.{RawReader}
+use Rattle.capture_raw.proofs.Captures.{unit_some, samples_after, samples_at_end, no_samples, settled_is, ending_is, ending_full, ending_rest}
 
 module _ (unit : ℕ) (some : 0 < unit) (pins : List ℕ) where
   -- nothing was read
@@ -51,20 +52,19 @@ module _ (unit : ℕ) (some : 0 < unit) (pins : List ℕ) where
       }
 
   -- units were let go, and their samples given
-  pub stands_run : (old new : Front) (count : ℕ) (bytes given more : List ℕ) → count * unit ≤ length old.bytes → new.bytes ≡ drop (count * unit) old.bytes → new.taken ≡ old.taken
-      → length more ≡ count → more ≡ raw_samples unit pins (take (count * unit) old.bytes) → StandsAt unit pins old bytes given → StandsAt unit pins new bytes (given ++ more)
-  stands_run old new count bytes given more within held same is_count is st =
+  pub stands_run : (old new : Front) (bytes given more : List ℕ) → Gives unit pins old new more → StandsAt unit pins old bytes given → StandsAt unit pins new bytes (given ++ more)
+  stands_run old new bytes given more gives st =
       let n = length given * unit in
-      let m = count * unit in
-      let total : length (given ++ more) * unit ≡ n + m = ap (λ (k : ℕ). k * unit) (length-append given more ∙ ap (λ (k : ℕ). length given + k) is_count) ∙ split_sum (length given) count in
+      let m = length more * unit in
+      let total : length (given ++ more) * unit ≡ n + m = ap (λ (k : ℕ). k * unit) (length-append given more) ∙ split_sum (length given) (length more) in
       let held_len : length old.bytes ≡ length bytes - n = ap length st.held ∙ length-drop n bytes in
       let front_len : length (take n bytes) ≡ n = length-take-le n bytes st.within in
       let next = ap (λ (l : List ℕ). take m l) st.held in
       record {
-        taken = same ∙ st.taken;
-        within = omega (arith, total, held_len, within, st.within);
-        held = held ∙ ap (λ (l : List ℕ). drop m l) st.held ∙ drop-drop m n bytes ∙ ap (λ (k : ℕ). drop k bytes) (sym total);
-        gave = (λ i. st.gave i ++ is i) ∙ ap (λ (l : List ℕ). raw_samples unit pins (take n bytes) ++ raw_samples unit pins l) next
+        taken = gives.taken ∙ st.taken;
+        within = omega (arith, total, held_len, gives.within, st.within);
+        held = gives.held ∙ ap (λ (l : List ℕ). drop m l) st.held ∙ drop-drop m n bytes ∙ ap (λ (k : ℕ). drop k bytes) (sym total);
+        gave = (λ i. st.gave i ++ gives.same_samples i) ∙ ap (λ (l : List ℕ). raw_samples unit pins (take n bytes) ++ raw_samples unit pins l) next
             ∙ sym (samples_after unit some pins (take n bytes) (length given) front_len (take m (drop n bytes)))
             ∙ ap (λ (l : List ℕ). raw_samples unit pins l) (sym (take-add n m bytes) ∙ ap (λ (k : ℕ). take k bytes) (sym total));
       }
@@ -95,19 +95,39 @@ stands_same channels same_channels pins same_pins front bytes given is_channels 
     let by_pins : List ℕ → Type 0 = λ l. StandsAt (unit_len same_channels) l front bytes given in
     subst by_pins (sym is_pins) (subst by_channels (sym is_channels) st)
 
--- units that are let go are given, and there are as many bytes in them as units or more
-pub more_given : (unit count : ℕ) (old held new : Front) (left_old left_new : Option (List ℕ)) (bytes : List ℕ) → 0 < unit → Takes old held left_old left_new bytes → length held.bytes ≤ held.taken
-    → count * unit ≤ length held.bytes → new.bytes ≡ drop (count * unit) held.bytes → new.taken ≡ held.taken → old.taken - length old.bytes + count ≤ new.taken - length new.bytes
-more_given unit count old held new left_old left_new bytes some takes few within let_go same =
-    let enough : count ≤ count * unit = grind arith in
-    omega (arith, enough, ap length let_go, length-drop (count * unit) held.bytes, takes.taken, ap length takes.held, length-append old.bytes bytes)
+-- samples of so many bytes at the front, which were let go
+pub gives_front : (unit : ℕ) (pins : List ℕ) (old new : Front) (given : List ℕ) (n : ℕ) → length given * unit ≡ n → n ≤ length old.bytes → given ≡ raw_samples unit pins (take n old.bytes)
+    → new.bytes ≡ drop n old.bytes → new.taken ≡ old.taken → Gives unit pins old new given
+gives_front unit pins old new given n is within same held taken = record {
+  within = omega (arith, is, within);
+  same_samples = same ∙ ap (λ (m : ℕ). raw_samples unit pins (take m old.bytes)) (sym is);
+  held = held ∙ ap (λ (m : ℕ). drop m old.bytes) (sym is);
+  taken = taken;
+}
 
--- the same where no byte was taken
-pub more_given_held : (unit count : ℕ) (old new : Front) → 0 < unit → length old.bytes ≤ old.taken → count * unit ≤ length old.bytes → new.bytes ≡ drop (count * unit) old.bytes → new.taken ≡ old.taken
-    → old.taken - length old.bytes + count ≤ new.taken - length new.bytes
-more_given_held unit count old new some few within let_go same =
-    let enough : count ≤ count * unit = grind arith in
-    omega (arith, enough, ap length let_go, length-drop (count * unit) old.bytes, same, few)
+-- there are as many bytes in what was given as samples or more
+pub more_given : (unit : ℕ) (pins : List ℕ) (old new : Front) (given : List ℕ) → 0 < unit → length old.bytes ≤ old.taken → Gives unit pins old new given
+    → old.taken - length old.bytes + length given ≤ new.taken - length new.bytes
+more_given unit pins old new given some few gives =
+    let enough : length given ≤ length given * unit = count_enough (length given) in
+    omega (arith, enough, ap length gives.held, length-drop (length given * unit) old.bytes, gives.taken, gives.within, few)
+  where
+    count_enough : (count : ℕ) → count ≤ count * unit
+    count_enough count = grind arith
+
+-- bytes that are taken are not given
+pub taken_given : (old new : Front) (left_old left_new : Option (List ℕ)) (bytes : List ℕ) → Takes old new left_old left_new bytes → old.taken - length old.bytes ≤ new.taken - length new.bytes
+taken_given old new left_old left_new bytes takes = omega (arith, takes.taken, ap length takes.held, length-append old.bytes bytes)
+
+-- a reader that lets units go, and gives their samples, stands for what it stood for
+pub stands_on : (old new : RawReader) (bytes given more : List ℕ) → LetsGo old new more → Stands old bytes given → Stands new bytes (given ++ more)
+stands_on old new bytes given more go st =
+    stands_same old.channels new.channels old.pins.items new.pins.items new.held bytes (given ++ more) go.form.channels go.form.pins
+    (stands_run (unit_len old.channels) (unit_some old.channels old.channels_fit.0) old.pins.items old.held new.held bytes given more go.gives st)
+
+-- and it has given so many samples more, or more bytes
+pub given_on : (old new : RawReader) (more : List ℕ) → length (raw_held old) ≤ raw_taken old → LetsGo old new more → raw_given old + length more ≤ raw_given new
+given_on old new more few go = more_given (raw_unit old) old.pins.items old.held new.held more (unit_some old.channels old.channels_fit.0) few go.gives
 
 -- what was given is a front of what the bytes settle
 pub given_front : (channels : ℕ) → 0 < unit_len channels → (rate : Rate) (pins : List ℕ) (front : Front) (bytes given : List ℕ) (told : Told)

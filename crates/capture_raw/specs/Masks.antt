@@ -19,6 +19,6 @@ AllAgree mask first bytes count = (k : ℕ) → k < count → Agree mask (slice_
 abbrev pub SameSamples : ℕ → ℕ → List ℕ → ℕ → Type 0
 SameSamples unit mask bytes count = (pins : List ℕ) → Covers mask pins → raw_samples unit pins (take (count * unit) bytes) ≡ replicate count (word_of pins (take unit bytes))
 
--- a table of the sample of each byte that is a unit
-abbrev pub OfBytes : List ℕ → List ℕ → Type 0
-OfBytes table pins = (byte : ℕ) → byte < 256 → slice_index table byte ≡ picked pins byte
+-- a table of what the pins pick of each byte, times its worth
+abbrev pub OfBytes : ℕ → List ℕ → List ℕ → Type 0
+OfBytes worth table pins = (byte : ℕ) → byte < 256 → slice_index table byte ≡ picked pins (worth * byte)

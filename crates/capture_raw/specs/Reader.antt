@@ -106,9 +106,15 @@ pub record SameForm (old new : RawReader) : Type 0 where
   pub rate : raw_rate new ≡ raw_rate old
   pub pins : raw_pins new ≡ raw_pins old
 
--- a run was made of units at the front of what was held, and they were let go
-pub record Gives (unit : ℕ) (pins : List ℕ) (old new : Front) (run : Run) : Type 0 where
-  pub within : run.len * unit ≤ length old.bytes
-  pub same_samples : samples run ≡ raw_samples unit pins (take (run.len * unit) old.bytes)
-  pub held : new.bytes ≡ drop (run.len * unit) old.bytes
+-- these samples were made of units at the front of what was held, and the units were let go
+pub record Gives (unit : ℕ) (pins : List ℕ) (old new : Front) (given : List ℕ) : Type 0 where
+  pub within : length given * unit ≤ length old.bytes
+  pub same_samples : given ≡ raw_samples unit pins (take (length given * unit) old.bytes)
+  pub held : new.bytes ≡ drop (length given * unit) old.bytes
   pub taken : new.taken ≡ old.taken
+
+-- the same of a reader, and nothing else changed
+pub record LetsGo (old new : RawReader) (given : List ℕ) : Type 0 where
+  pub gives : Gives (raw_unit old) (raw_pins old) old.held new.held given
+  pub form : SameForm old new
+  pub is_open : raw_open new ≡ raw_open old

@@ -4,23 +4,19 @@ ghost use Rattle.std.specs.Int.Bits.{bit_and, bit_xor};
 ghost use Rattle.capture_raw.specs.Masks.{Agree, AllAgree, SameSamples};
 ghost use Rattle.capture_raw.specs.Raw.{number};
 
-use crate::units::{MOST_UNIT, number};
+use crate::pairs::alike_pairs;
+use crate::units::{MOST_UNIT, WORD, word_at};
+use crate::wide::alike_wide;
 use la_base::Word;
-
-// How many bytes are compared at once.
-const BLOCK: usize = 64;
 
 // How many bytes are compared at once under a mask.
 const SHORT_BLOCK: usize = 32;
-
-// How many bytes a word has.
-const WORD: usize = 8;
 
 // How many bytes are looked at by words before that: the first one, and nine words.
 const NEAR: usize = 73;
 
 /// How many units at the front give the same sample, for pins whose bits `mask` has.
-#[inline]
+#[inline(always)]
 pub fn alike_units(bytes: &[u8], unit: usize, mask: Word) -> usize
     requires some { 0 < unit }
     requires few { unit ≤ MOST_UNIT }
@@ -32,66 +28,10 @@ pub fn alike_units(bytes: &[u8], unit: usize, mask: Word) -> usize
     if unit == 1 {
         return alike_bytes(bytes, (mask & 0xff) as u8);
     }
+    if unit == 2 {
+        return alike_pairs(bytes, mask);
+    }
     alike_wide(bytes, unit, mask)
-}
-
-// The same for units of several bytes.
-#[inline(never)]
-fn alike_wide(bytes: &[u8], unit: usize, mask: Word) -> usize
-    requires some { 0 < unit }
-    requires few { unit ≤ MOST_UNIT }
-    requires whole { unit ≤ length bytes.now }
-    ensures some { 1 ≤ result }
-    ensures within { result * unit ≤ length bytes.now }
-    ensures same { SameSamples unit mask bytes.now result }
-{
-    let equal = equal_front(bytes, &bytes[unit..]);
-    // Dividing takes long.
-    if equal < unit {
-        return more_units(bytes, unit, mask, 1);
-    }
-    more_units(bytes, unit, mask, 1 + equal / unit)
-}
-
-// Goes on behind `known` units that give the same sample.
-fn more_units(bytes: &[u8], unit: usize, mask: Word, known: usize) -> usize
-    requires some { 1 ≤ known }
-    requires bytes { 0 < unit }
-    requires few { unit ≤ MOST_UNIT }
-    requires within { known * unit ≤ length bytes.now }
-    requires same { SameSamples unit mask bytes.now known }
-    ensures some { 1 ≤ result }
-    ensures within { result * unit ≤ length bytes.now }
-    ensures same { SameSamples unit mask bytes.now result }
-{
-    let first = number(&bytes[..unit]);
-    let mut count = known;
-    let mut at = known * unit;
-    while bytes.len() - at >= unit {
-        if (number(&bytes[at..at + unit]) ^ first) & mask != 0 {
-            return count;
-        }
-        at += unit;
-        count += 1;
-    }
-    count
-}
-
-// How many bytes `a` and `b` have in common at their fronts, by whole blocks.
-fn equal_front(a: &[u8], b: &[u8]) -> usize
-    requires { length b.now ≤ length a.now }
-    ensures within { result ≤ length b.now }
-    ensures same { take result a.now ≡ take result b.now }
-{
-    let mut done = 0;
-    while b.len() - done >= BLOCK {
-        // Often the first bytes differ.
-        if a[done] != b[done] || a[done..done + BLOCK] != b[done..done + BLOCK] {
-            return done;
-        }
-        done += BLOCK;
-    }
-    done
 }
 
 // How many units of one byte give the same sample. Most runs are the shortest that there are, and are seen
@@ -177,18 +117,6 @@ fn block_agrees(bytes: &[u8], first: u8, mask: u8) -> bool
         place += 1;
     }
     different & mask == 0
-}
-
-// The number of eight bytes behind the first `at`, the lowest first.
-#[inline(always)]
-fn word_at(bytes: &[u8], at: usize) -> u64
-    requires { at + 8 ≤ length bytes.now }
-    ensures { result ≡ number (take 8 (drop at bytes.now)) }
-{
-    let eight = &bytes[at..at + 8];
-    u64::from_le_bytes([
-        eight[0], eight[1], eight[2], eight[3], eight[4], eight[5], eight[6], eight[7],
-    ])
 }
 
 // The number of eight equal bytes.

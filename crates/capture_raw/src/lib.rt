@@ -6,9 +6,12 @@ mod alike;
 mod fill;
 mod filled;
 mod laws;
+mod pairs;
 mod reader;
 mod step;
+mod stretch;
 mod units;
+mod wide;
 
 pub use laws::{fault_stays, given_is_front, longer_extends, samples_are_levels, stands_fixes};
 pub use reader::RawReader;

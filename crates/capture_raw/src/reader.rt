@@ -3,12 +3,14 @@ ghost use Rattle.std.specs.Prelude.{◌≡◌, ◌<◌, ◌≤◌, ℕ, length, 
 ghost use Rattle.la_base.specs.declared.samples.TheConstants.{MOST_PINS};
 ghost use Rattle.capture_raw.specs.Masks.{Covers, OfBytes};
 ghost use Rattle.capture_raw.specs.Raw.{unit_len};
+ghost use Rattle.capture_raw.specs.Stretches.{Picks};
 
 use crate::RawStep;
 use crate::alike::alike_units;
 use crate::fill::{ROOM, fill};
 use crate::filled::Filled;
-use crate::units::{BYTES, MOST_UNIT, mask_of, number, picked, samples_of_bytes};
+use crate::stretch::{Stretch, stretch_of};
+use crate::units::{BYTES, MOST_UNIT, mask_of, picked_of, samples_of_bytes};
 use la_base::{MOST_PINS, Pins, Rate, Run, Word};
 use la_io::{Failed, Intake, Source};
 
@@ -23,8 +25,11 @@ pub struct RawReader {
     pins: Pins,
     // the bits of the unit that the pins pick
     mask: Word,
-    // the samples of units of one byte
+    // the samples of units of one byte, and what a second byte adds to them
     of_bytes: [Word; BYTES],
+    of_seconds: [Word; BYTES],
+    // how a shift picks the samples of longer units, if it does
+    stretch: Stretch,
     held: Intake<ROOM>,
     open: bool,
     ghost channels_fit: { (1 ≤ channels) × (channels ≤ MOST_PINS) },
@@ -32,15 +37,18 @@ pub struct RawReader {
     ghost few_pins: { length pins.items ≤ MOST_PINS },
     ghost pins_fit: { (k : ℕ) → k < length pins.items → slice_index pins.items k < channels },
     ghost mask_covers: { Covers mask pins.items },
-    ghost table_fits: { OfBytes of_bytes pins.items },
+    ghost table_fits: { OfBytes 1 of_bytes pins.items },
+    ghost seconds_fit: { OfBytes 256 of_seconds pins.items },
+    ghost stretch_fits: { Picks stretch.holds stretch.first stretch.ones pins.items },
 }
 
 impl RawReader {
     ghost use Rattle.std.specs.Prelude.{◌≡◌, ◌+◌, ◌++◌, ◌-◌, ◌==◌, ◌^◌, if◌then◌else◌, List, [], None, IfSome, take, true};
     ghost use Rattle.la_base.specs.Samples.{samples};
+    ghost use Rattle.la_base.specs.Runs.{samples_of};
     ghost use Rattle.capture_raw.specs.Raw.{word_of};
     ghost use Rattle.la_io.specs.Causes.{HasCause};
-    ghost use Rattle.capture_raw.specs.Reader.{Stands, Next, Gives, SameForm, IfRun, stays_open, raw_channels, raw_rate, raw_pins, raw_open, raw_unit, raw_held, raw_given};
+    ghost use Rattle.capture_raw.specs.Reader.{Stands, Next, LetsGo, SameForm, IfRun, stays_open, raw_channels, raw_rate, raw_pins, raw_open, raw_unit, raw_held, raw_given};
 
     /// A reader of captures of so many channels, that has read nothing. Until `select` is called
     /// there are no pins, and each word is 0.
@@ -54,7 +62,9 @@ impl RawReader {
         ensures pins { raw_pins result ≡ [] }
     {
         let pins = Pins::new();
-        let of_bytes = samples_of_bytes(&pins);
+        let of_bytes = samples_of_bytes(&pins, 1);
+        let of_seconds = samples_of_bytes(&pins, 256);
+        let stretch = stretch_of(&pins);
         RawReader {
             channels,
             unit: channels.div_ceil(8) as usize,
@@ -62,6 +72,8 @@ impl RawReader {
             pins,
             mask: 0,
             of_bytes,
+            of_seconds,
+            stretch,
             held: Intake::new(),
             open: true,
         }
@@ -78,10 +90,14 @@ impl RawReader {
         ensures is_open { raw_open self.new ≡ raw_open self.old }
     {
         let mask = mask_of(&pins);
-        let of_bytes = samples_of_bytes(&pins);
+        let of_bytes = samples_of_bytes(&pins, 1);
+        let of_seconds = samples_of_bytes(&pins, 256);
+        let stretch = stretch_of(&pins);
         self.pins = pins;
         self.mask = mask;
         self.of_bytes = of_bytes;
+        self.of_seconds = of_seconds;
+        self.stretch = stretch;
     }
 
     /// The rate of its samples.
@@ -107,36 +123,122 @@ impl RawReader {
         self.unit
     }
 
-    // The sample of the first unit of what is held.
-    #[inline]
-    fn sample(&self, unit: usize) -> Word
+    // The sample of the first unit of these bytes.
+    #[inline(always)]
+    fn sample(&self, bytes: &[u8], unit: usize) -> Word
         requires unit { unit ≡ raw_unit self.now }
-        requires whole { unit ≤ length (raw_held self.now) }
-        ensures { result ≡ word_of (raw_pins self.now) (take unit (raw_held self.now)) }
+        requires whole { unit ≤ length bytes.now }
+        ensures { result ≡ word_of (raw_pins self.now) (take unit bytes.now) }
     {
-        let bytes = self.held.bytes();
         if unit == 1 {
             return self.of_bytes[bytes[0] as usize];
         }
-        picked(&self.pins, number(&bytes[..unit]))
+        if unit == 2 {
+            return self.of_bytes[bytes[0] as usize] + self.of_seconds[bytes[1] as usize];
+        }
+        picked_of(&self.pins, self.stretch, bytes, unit)
     }
 
-    // The next run of what is held.
-    #[inline]
+    // The next run of what is held. Units of one byte are the usual ones.
+    #[inline(always)]
     fn run(&mut self, unit: usize) -> Run
         requires unit { unit ≡ raw_unit self.old }
         requires whole { unit ≤ length (raw_held self.old) }
-        ensures gives { Gives (raw_unit self.old) (raw_pins self.old) self.old.held self.new.held result }
-        ensures form { SameForm self.old self.new }
-        ensures is_open { raw_open self.new ≡ raw_open self.old }
+        ensures { LetsGo self.old self.new (samples result) }
     {
-        let count = alike_units(self.held.bytes(), unit, self.mask);
-        let value = self.sample(unit);
+        if unit == 1 {
+            return self.run_by(1);
+        }
+        self.long_run(unit)
+    }
+
+    // The same for units of several bytes.
+    #[inline(never)]
+    fn long_run(&mut self, unit: usize) -> Run
+        requires unit { unit ≡ raw_unit self.old }
+        requires whole { unit ≤ length (raw_held self.old) }
+        ensures { LetsGo self.old self.new (samples result) }
+    {
+        if unit == 2 {
+            return self.run_by(2);
+        }
+        self.run_by(unit)
+    }
+
+    // The same, for a unit that the caller may know as a number.
+    #[inline(always)]
+    fn run_by(&mut self, unit: usize) -> Run
+        requires unit { unit ≡ raw_unit self.old }
+        requires whole { unit ≤ length (raw_held self.old) }
+        ensures { LetsGo self.old self.new (samples result) }
+    {
+        let bytes = self.held.bytes();
+        let count = alike_units(bytes, unit, self.mask);
+        let value = self.sample(bytes, unit);
         self.held.advance(count * unit);
         Run {
             value,
             len: count as u64,
         }
+    }
+
+    // As many runs of what is held as there is room for, for a unit that the caller may know as a number.
+    #[inline(always)]
+    fn runs_by(&mut self, unit: usize, into: &mut [Run]) -> usize
+        requires unit { unit ≡ raw_unit self.old }
+        ensures within { result ≤ length into.new }
+        ensures lets_go { LetsGo self.old self.new (samples_of (take result into.new)) }
+        ensures all { result < length into.new → length (raw_held self.new) < raw_unit self.old }
+    {
+        let bytes = self.held.bytes();
+        let mask = self.mask;
+        let mut left = bytes;
+        let mut count = 0;
+        while count < into.len() && left.len() >= unit {
+            let len = alike_units(left, unit, mask);
+            into[count] = Run {
+                value: self.sample(left, unit),
+                len: len as u64,
+            };
+            left = &left[len * unit..];
+            count += 1;
+        }
+        let done = bytes.len() - left.len();
+        self.held.advance(done);
+        count
+    }
+
+    // The same for units of one byte. Each length has a loop of its own, so that it has its registers.
+    #[inline(never)]
+    fn byte_runs(&mut self, into: &mut [Run]) -> usize
+        requires unit { 1 ≡ raw_unit self.old }
+        ensures within { result ≤ length into.new }
+        ensures lets_go { LetsGo self.old self.new (samples_of (take result into.new)) }
+        ensures all { result < length into.new → length (raw_held self.new) < raw_unit self.old }
+    {
+        self.runs_by(1, into)
+    }
+
+    // The same for units of two bytes.
+    #[inline(never)]
+    fn pair_runs(&mut self, into: &mut [Run]) -> usize
+        requires unit { 2 ≡ raw_unit self.old }
+        ensures within { result ≤ length into.new }
+        ensures lets_go { LetsGo self.old self.new (samples_of (take result into.new)) }
+        ensures all { result < length into.new → length (raw_held self.new) < raw_unit self.old }
+    {
+        self.runs_by(2, into)
+    }
+
+    // The same for longer units.
+    #[inline(never)]
+    fn wide_runs(&mut self, unit: usize, into: &mut [Run]) -> usize
+        requires unit { unit ≡ raw_unit self.old }
+        ensures within { result ≤ length into.new }
+        ensures lets_go { LetsGo self.old self.new (samples_of (take result into.new)) }
+        ensures all { result < length into.new → length (raw_held self.new) < raw_unit self.old }
+    {
+        self.runs_by(unit, into)
     }
 
     /// The next run of what is held, as `next` gives it. `None` comes exactly where less than a unit is
@@ -156,6 +258,40 @@ impl RawReader {
             return None;
         }
         Some(self.run(unit))
+    }
+
+    /// As many runs of what is held as there is room for, as `held_run` gives them, and how many. Nothing is
+    /// read.
+    pub fn held_runs(&mut self, into: &mut [Run]) -> usize
+        ensures within { result ≤ length into.new }
+        ensures given { (bytes given : List ℕ) → Stands self.old bytes given → Stands self.new bytes (given ++ samples_of (take result into.new)) }
+        ensures all { result < length into.new → length (raw_held self.new) < raw_unit self.old }
+        ensures is_open { raw_open self.new ≡ raw_open self.old }
+        ensures form { SameForm self.old self.new }
+        ensures progress { raw_given self.old + length (samples_of (take result into.new)) ≤ raw_given self.new }
+        ensures few { raw_given self.new ≤ 2 ^ 60 }
+    {
+        let unit = self.unit();
+        if self.held.bytes().len() < unit {
+            return 0;
+        }
+        self.runs(unit, into)
+    }
+
+    // The same where a unit is held.
+    fn runs(&mut self, unit: usize, into: &mut [Run]) -> usize
+        requires unit { unit ≡ raw_unit self.old }
+        ensures within { result ≤ length into.new }
+        ensures lets_go { LetsGo self.old self.new (samples_of (take result into.new)) }
+        ensures all { result < length into.new → length (raw_held self.new) < raw_unit self.old }
+    {
+        if unit == 1 {
+            return self.byte_runs(into);
+        }
+        if unit == 2 {
+            return self.pair_runs(into);
+        }
+        self.wide_runs(unit, into)
     }
 
     /// The next run, or the end and how it came. It reads only where less than a unit is held, and

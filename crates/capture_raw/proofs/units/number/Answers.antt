@@ -15,8 +15,8 @@ pub overflow_add-value : goal.overflow_add-value
 overflow_add-value c =
     let s = c.loop-place in
     let digits = length c.args.unit.now - s.place in
-    let byte : c.from-in-loop-place.result < 256 = omega (arith, c.from-in-loop-place.ensures, c.type_inv.unit (s.place - 1)) in
-    let fits : 256 * s.value + c.from-in-loop-place.result < 256 ^ MOST_UNIT = digits_fit 256 _ (digits + 1) MOST_UNIT (omega arith) (digit_more 256 s.value digits c.from-in-loop-place.result s.invariant.small byte) (omega arith) in
+    let byte : c.from.result < 256 = omega (arith, c.from.ensures, c.type_inv.unit (s.place - 1)) in
+    let fits : 256 * s.value + c.from.result < 256 ^ MOST_UNIT = digits_fit 256 _ (digits + 1) MOST_UNIT (omega arith) (digit_more 256 s.value digits c.from.result s.invariant.small byte) (omega arith) in
     omega (arith, fits)
 
 pub loop-place-preserved : goal.loop-place-preserved
@@ -24,12 +24,12 @@ loop-place-preserved c =
     let s = c.loop-place in
     let bytes = c.args.unit.now in
     let digits = length bytes - s.place in
-    let byte : c.from-in-loop-place.result < 256 = omega (arith, c.from-in-loop-place.ensures, c.type_inv.unit (s.place - 1)) in
+    let byte : c.from.result < 256 = omega (arith, c.from.ensures, c.type_inv.unit (s.place - 1)) in
     let next : s.place - 1 + 1 ≡ s.place = omega arith in
     let more : digits + 1 ≡ length bytes - (s.place - 1) = omega arith in
-    let Fits : ℕ → Type 0 = λ k. 256 * s.value + c.from-in-loop-place.result < 256 ^ k in
+    let Fits : ℕ → Type 0 = λ k. 256 * s.value + c.from.result < 256 ^ k in
     record {
-      so_far = omega (arith, number_more bytes (s.place - 1) (omega arith), ap (λ (k : ℕ). number (drop k bytes)) next, s.invariant.so_far, c.from-in-loop-place.ensures);
+      so_far = omega (arith, number_more bytes (s.place - 1) (omega arith), ap (λ (k : ℕ). number (drop k bytes)) next, s.invariant.so_far, c.from.ensures);
       within = omega arith;
-      small = subst Fits more (digit_more 256 s.value digits c.from-in-loop-place.result s.invariant.small byte);
+      small = subst Fits more (digit_more 256 s.value digits c.from.result s.invariant.small byte);
     }

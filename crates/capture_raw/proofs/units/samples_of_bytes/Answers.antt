@@ -8,5 +8,5 @@ loop-byte-preserved c =
     record {
       within = omega arith;
       size = length-set s.table s.byte c.picked.result ∙ s.invariant.size;
-      so_far = table_more c.args.pins.now s.table s.byte c.picked.result (omega (arith, s.invariant.size)) c.picked.ensures s.invariant.so_far;
+      so_far = table_more c.args.pins.now s.table c.args.worth s.byte c.picked.result (omega (arith, s.invariant.size)) c.picked.ensures s.invariant.so_far;
     }

@@ -4,7 +4,7 @@ use Rattle.capture_raw.specs.Raw.{unit_len}
 use Rattle.capture_raw.specs.Reader.{raw_unit}
 use Rattle.capture_raw.proofs.Captures.{unit_some}
 use Rattle.la_base.proofs.RunLemmas.{samples_len}
-use Rattle.capture_raw.proofs.Standing.{stands_more, stands_same, stands_run, more_given, ends_full, ends_open, ended, ended_told}
+use Rattle.capture_raw.proofs.Standing.{stands_more, stands_same, stands_run, more_given, taken_given, ends_full, ends_open, ended, ended_told}
 use Rattle.capture_raw.proofs.reader.RawReader.next.Goals as goal
 
 -- a run
@@ -15,23 +15,23 @@ returns-in-Unit-clause-next g c =
     let new = c.run.new.self in
     let fills = c.in-Unit.ensures.fills in
     let some = unit_some s.channels s.channels_fit.0 in
-    let gives = c.run.ensures.gives in
-    let form = c.run.ensures.form in
+    let go = c.run.ensures in
     record {
       bytes = fills.bytes;
       consumed = fills.takes.consumed;
       told = tt;
       means = λ before given st.
           let after = stands_more (unit_len s.channels) some s.pins.items s.held front _ _ fills.bytes before given fills.takes st in
-          stands_same s.channels new.channels s.pins.items new.pins.items new.held (before ++ fills.bytes) (given ++ samples c.run.result) form.channels form.pins
-          (stands_run (unit_len s.channels) some s.pins.items front new.held c.run.result.len (before ++ fills.bytes) given (samples c.run.result) gives.within gives.held gives.taken (samples_len c.run.result) gives.same_samples after);
+          stands_same s.channels new.channels s.pins.items new.pins.items new.held (before ++ fills.bytes) (given ++ samples c.run.result) go.form.channels go.form.pins
+          (stands_run (unit_len s.channels) some s.pins.items front new.held (before ++ fills.bytes) given (samples c.run.result) go.gives after);
     }
 
 pub returns-in-Unit-clause-progress : goal.returns-in-Unit-clause-progress
 returns-in-Unit-clause-progress g c =
     let s = c.args.self.now in
-    let fills = c.in-Unit.ensures.fills in
-    more_given (raw_unit s) c.run.result.len s.held c.fill.new.held c.run.new.self.held _ _ fills.bytes (unit_some s.channels s.channels_fit.0) fills.takes c.in-Unit.ensures.held c.run.ensures.gives.within c.run.ensures.gives.held c.run.ensures.gives.taken
+    let front = c.fill.new.held in
+    let ensures = c.in-Unit.ensures in
+    omega (arith, samples_len c.run.result, taken_given s.held front _ _ ensures.fills.bytes ensures.fills.takes, more_given (raw_unit s) s.pins.items front c.run.new.self.held (samples c.run.result) (unit_some s.channels s.channels_fit.0) ensures.held c.run.ensures.gives)
 
 pub returns-in-Unit-clause-few : goal.returns-in-Unit-clause-few
 returns-in-Unit-clause-few g c = omega (arith, c.in-Unit.ensures.few, c.run.ensures.gives.taken)

@@ -1,7 +1,7 @@
 use Rattle.std.proofs.Common.{arith}
-use Rattle.capture_raw.specs.declared.alike.TheConstants.{BLOCK}
+use Rattle.capture_raw.specs.declared.wide.TheConstants.{BLOCK}
 use Rattle.capture_raw.proofs.Fronts.{equal_lists, block_more}
-use Rattle.capture_raw.proofs.alike.equal_front.Goals as goal
+use Rattle.capture_raw.proofs.wide.equal_front.Goals as goal
 
 pub loop-done-preserved : goal.loop-done-preserved
 loop-done-preserved c =

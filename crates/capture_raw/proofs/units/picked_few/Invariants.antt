@@ -1,6 +1,6 @@
 use Rattle.std.proofs.Common.{◌≡◌, ◌-◌, ◌<◌, ◌≤◌, ◌^◌, drop, length}
 use Rattle.capture_raw.specs.Raw.{picked}
-use Rattle.capture_raw.proofs.units.picked.Given as goal
+use Rattle.capture_raw.proofs.units.picked_few.Given as goal
 
 abbrev pub invariant-loop-place : goal.invariant-loop-place
 invariant-loop-place l = record {

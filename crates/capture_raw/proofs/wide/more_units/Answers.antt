@@ -3,7 +3,7 @@ use Rattle.std.specs.Int.{bit_at}
 use Rattle.capture_raw.specs.Raw.{number}
 use Rattle.capture_raw.specs.Masks.{Agree}
 use Rattle.capture_raw.proofs.Agreeing.{agree_from, same_next}
-use Rattle.capture_raw.proofs.alike.more_units.Goals as goal
+use Rattle.capture_raw.proofs.wide.more_units.Goals as goal
 
 pub loop-at-preserved : goal.loop-at-preserved
 loop-at-preserved c =
