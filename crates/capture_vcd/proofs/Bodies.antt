@@ -6,8 +6,9 @@ use Rattle.la_base.specs.Naming.{same_name}
 use Rattle.text_parts.specs.Places.{Placed}
 use Rattle.la_io.specs.declared.fault.CaptureFault.{CaptureFault}
 use Rattle.la_io.specs.declared.fault.CaptureFault.TheVariants.{TimeLarge}
-use Rattle.capture_vcd.specs.Body.{Channel, Event, Reaches, Sets, Statement, Time, Change, Wrong, Within, digit_bit, digits_at, event_of, first_time, last_time, statements_from, time_behind, token_gives, within_behind, word_at, words_from}
-use Rattle.capture_vcd.specs.Vcd.{after_one, read_front}
+use Rattle.capture_vcd.specs.Body.{Channel, Event, Reaches, Sets, Statement, Time, Change, Wrong, digit_bit, digits_at, event_of, first_time, last_time, time_behind, word_at, words_from}
+use Rattle.capture_vcd.specs.Within.{Within, statements_from, token_gives, within_behind}
+use Rattle.text_parts.specs.Reading.{after_one, read_front}
 
 -- the statements of more tokens
 pub statements_more : (within : Within) (tokens more : List Placed) → statements_from within (tokens ++ more) ≡ statements_from within tokens ++ statements_from (within_behind within tokens) more

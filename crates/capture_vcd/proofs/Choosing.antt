@@ -6,8 +6,9 @@ use Rattle.std.specs.declared.alloc.Global.{Global}
 use Rattle.text_parts.specs.Places.{Placed}
 use Rattle.la_base.specs.declared.samples.Rate.{Rate}
 use Rattle.la_io.specs.Capture.{Told, Open}
-use Rattle.capture_vcd.specs.Body.{Channel, Within}
-use Rattle.capture_vcd.specs.Body as within
+use Rattle.capture_vcd.specs.Body.{Channel}
+use Rattle.capture_vcd.specs.Within.{Within}
+use Rattle.capture_vcd.specs.Within as within
 use Rattle.capture_vcd.specs.Vcd.{chosen, settled_by}
 use Rattle.capture_vcd.specs.Slots.{channel_of, code_at, level_of}
 use Rattle.capture_vcd.specs.Following.{levels_now}
@@ -15,7 +16,8 @@ use Rattle.capture_vcd.specs.Places.{channel_at}
 use Rattle.capture_vcd.specs.Running.{OpenAt, PartsStand, last_of, start_of}
 use Rattle.capture_vcd.specs.declared.reader.Phase.{Phase}
 use Rattle.capture_vcd.specs.declared.reader.Phase.TheVariants.{Fresh, Running, Ended, Refused}
-use Rattle.capture_vcd.specs.Reader.{HeadRead, StandsAs, kept_by, slot_at, slot_by}
+use Rattle.capture_vcd.specs.Reader.{HeadRead, StandsAs, kept_by}
+use Rattle.capture_vcd.specs.Slots.{slot_at, slot_by}
 use Rattle.capture_vcd.specs.declared.body.Pending.{Pending}
 use Rattle.capture_vcd.specs.declared.body.Pending.TheVariants.{Free}
 use Rattle.capture_vcd.specs.declared.body.Span.{Span}

@@ -9,11 +9,14 @@ use Rattle.text_parts.specs.Places.{Placed}
 use Rattle.la_io.specs.declared.fault.CaptureFault.{CaptureFault}
 use Rattle.la_io.specs.declared.fault.CaptureFault.TheVariants as fault
 use Rattle.la_io.specs.Capture.{Captured, Head, Ending, Clean, Faulty, Open, Ends}
-use Rattle.capture_vcd.specs.Body.{Channel, Event, Free, Reaches, Sets, Statement, Time, Change, Wrong, Within, digit_bit, digits_at, event_of, first_time, hanging, last_time, samples_before, samples_to, statements_from, time_behind, token_gives, within_behind, word_at, words_from}
-use Rattle.capture_vcd.specs.Vcd.{after_one, body_by, read_front, settled_by, statements_at}
+use Rattle.capture_vcd.specs.Body.{Channel, Event, Reaches, Sets, Statement, Time, Change, Wrong, digit_bit, digits_at, event_of, first_time, last_time, samples_before, samples_to, time_behind, word_at, words_from}
+use Rattle.capture_vcd.specs.Within.{Free, Within, hanging, statements_from, token_gives, within_behind}
+use Rattle.capture_vcd.specs.Vcd.{body_by, settled_by}
+use Rattle.text_parts.specs.Reading.{after_one, read_front}
+use Rattle.capture_vcd.specs.Within.{statements_read}
 use Rattle.capture_vcd.specs.Stretches.{TimesTo, digits_now, word_now}
 use Rattle.capture_vcd.specs.Following.{BodyAt, is_one, levels_now, or_zero, word_bits}
-use Rattle.capture_vcd.proofs.Fronts.{front_none, front_some}
+use Rattle.text_parts.proofs.FrontLemmas.{front_none, front_some}
 use Rattle.capture_vcd.proofs.Bodies.{first_stays, last_on, map_more, map_same, statements_more, word_same}
 use Rattle.capture_vcd.proofs.Stretches.{map_run, stretch_is_run}
 use Rattle.capture_vcd.proofs.Longer.{before_last}
@@ -113,7 +116,7 @@ unfolding words_from
 no_words channels events start down = refl
 
 -- a fault of a body, whatever comes behind it
-statements_with : (how : Ending) (items rest : List Placed) → (others : List Statement) × (statements_at how (items ++ rest) ≡ statements_from Free items ++ others)
+statements_with : (how : Ending) (items rest : List Placed) → (others : List Statement) × (statements_read how (items ++ rest) ≡ statements_from Free items ++ others)
 statements_with Clean items rest = (_, ap (λ (l : List Statement). l ++ hanging (within_behind Free (items ++ rest))) (statements_more Free items rest) ∙ append_assoc (statements_from Free items) (statements_from (within_behind Free items) rest) (hanging (within_behind Free (items ++ rest))))
 statements_with (Faulty fault) items rest = (_, statements_more Free items rest)
 statements_with Open items rest = (_, statements_more Free items rest)
@@ -165,7 +168,7 @@ module _ (down : ℕ) (some : 0 < down) where
 
         -- a fault
         pub body_fault : (fault : CaptureFault) → event_of body.events part ≡ Err fault
-            → (head : Head) (how : Ending) (rest : List Placed) → Ends (body_by down head channels how (read_front event_of [] (statements_at how ((items ++ token ∷ []) ++ rest)))) given (Faulty fault)
+            → (head : Head) (how : Ending) (rest : List Placed) → Ends (body_by down head channels how (read_front event_of [] (statements_read how ((items ++ token ∷ []) ++ rest)))) given (Faulty fault)
         body_fault fault bad head how rest =
             let others = statements_with how (items ++ token ∷ []) rest in
             let front = statements_from Free items in
@@ -173,7 +176,7 @@ module _ (down : ℕ) (some : 0 < down) where
             front_none event_of [] front (part ∷ []) (ap (λ (r : List Event × Option CaptureFault). r.1) body.read)
             ∙ ap (λ (r : List Event × Option CaptureFault). read_front event_of r.0 (part ∷ [])) body.read
             ∙ ap (λ (r : Result Event CaptureFault). after_one (λ values rest. read_front event_of values rest) body.events [] r) bad in
-            let all : read_front event_of [] (statements_at how ((items ++ token ∷ []) ++ rest)) ≡ (body.events, Some fault) =
+            let all : read_front event_of [] (statements_read how ((items ++ token ∷ []) ++ rest)) ≡ (body.events, Some fault) =
             ap (λ (l : List Statement). read_front event_of [] l) (others.1 ∙ ap (λ (l : List Statement). l ++ others.0) parts_are)
             ∙ front_some event_of [] (front ++ part ∷ []) others.0 fault (ap (λ (r : List Event × Option CaptureFault). r.1) one) ∙ one in
             record {
@@ -241,7 +244,7 @@ module _ (down : ℕ) (some : 0 < down) where
     -- the ends of a body
     module _ (levels : List Bool) (within : Within) (start last : Option ℕ) (items : List Placed) (given : List ℕ) (body : BodyAt down channels levels within start last items given) (head : Head) where
       abbrev Body : Ending → Captured
-      Body how = body_by down head channels how (read_front event_of [] (statements_at how items))
+      Body how = body_by down head channels how (read_front event_of [] (statements_read how items))
 
       -- it is cut
       pub body_cut : Ends (Body Open) given Open
@@ -261,7 +264,7 @@ module _ (down : ℕ) (some : 0 < down) where
       pub body_hangs : (at : ℕ) → hanging within ≡ Wrong at ∷ [] → Ends (Body Clean) given (Faulty (fault.Token at))
       body_hangs at hangs =
           let front = statements_from Free items in
-          let all : read_front event_of [] (statements_at Clean items) ≡ (body.events, Some (fault.Token at)) =
+          let all : read_front event_of [] (statements_read Clean items) ≡ (body.events, Some (fault.Token at)) =
           ap (λ (w : Within). read_front event_of [] (front ++ hanging w)) body.leaves ∙ ap (λ (l : List Statement). read_front event_of [] (front ++ l)) hangs
           ∙ front_none event_of [] front (Wrong at ∷ []) (ap (λ (r : List Event × Option CaptureFault). r.1) body.read)
           ∙ ap (λ (r : List Event × Option CaptureFault). read_front event_of r.0 (Wrong at ∷ [])) body.read in
@@ -270,7 +273,7 @@ module _ (down : ℕ) (some : 0 < down) where
             ending = ap (λ (r : List Event × Option CaptureFault). (body_by down head channels Clean r).ending) all;
           }
 
-      clean_read : hanging within ≡ [] → read_front event_of [] (statements_at Clean items) ≡ (body.events, None)
+      clean_read : hanging within ≡ [] → read_front event_of [] (statements_read Clean items) ≡ (body.events, None)
       clean_read none =
           ap (λ (w : Within). read_front event_of [] (statements_from Free items ++ hanging w)) body.leaves
           ∙ ap (λ (l : List Statement). read_front event_of [] l) (ap (λ (l : List Statement). statements_from Free items ++ l) none ∙ append-nil (statements_from Free items)) ∙ body.read

@@ -7,9 +7,11 @@ use Rattle.std.specs.declared.vec.Vec.{Vec}
 use Rattle.std.specs.declared.alloc.Global.{Global}
 use Rattle.text_parts.specs.Places.{Placed}
 use Rattle.la_io.specs.declared.fault.CaptureFault.{CaptureFault}
+use Rattle.rate_math.specs.Scale.{in_second}
 use Rattle.capture_vcd.specs.Header.{Cut, Declared, Scale, Declares, Nothing, Pending, Section, channels_of, declared_by, first_at, header_from, is_keyword, joined, says, scale_of, variable_of}
 use Rattle.capture_vcd.specs.Body.{Channel}
-use Rattle.capture_vcd.specs.Vcd.{after_one, bits_in, bits_of, declared_in, read_front, scale_in}
+use Rattle.capture_vcd.specs.Vcd.{bits_in, bits_of, declared_in, scale_in}
+use Rattle.text_parts.specs.Reading.{after_one, read_front}
 use Rattle.capture_vcd.specs.Slots.{code_at}
 use Rattle.la_base.specs.Naming.{same_name}
 use Rattle.capture_vcd.specs.Gathered.{Opens, names_by, placed, scale_said, text_at, variable_by_words}
@@ -21,7 +23,9 @@ use Rattle.capture_vcd.specs.declared.scale.Scale.{Scale as TimeScale}
 use Rattle.capture_vcd.specs.declared.section.Word.{Word}
 use Rattle.capture_vcd.specs.declared.section.Kind.{Kind}
 use Rattle.capture_vcd.specs.declared.section.Kind.TheVariants as kind
-use Rattle.capture_vcd.proofs.Fronts.{front_none}
+use Rattle.capture_vcd.specs.Keeping.{scale_step, scale_words, variable_step}
+use Rattle.capture_vcd.proofs.Kept.{scale_first, scale_more, scale_same, variable_more, variable_same}
+use Rattle.text_parts.proofs.FrontLemmas.{front_none}
 use Rattle.capture_vcd.proofs.Declaring.{names_len}
 
 -- what several declare
@@ -93,12 +97,12 @@ module _ (names : List (List ℕ)) (places : List Place) (codes : List (Vec ℕ 
     scale_is = kept.scale_is ∙ sym (scale_on None declared (Nothing ∷ []));
   }
 
-  pub kept_scale : (now : TimeScale) → KeptOf names places codes (Some now) (declared ++ Scale now.count now.a_second ∷ [])
+  pub kept_scale : (now : TimeScale) → KeptOf names places codes (Some now) (declared ++ Scale now.count (in_second now.unit) ∷ [])
   kept_scale now = record {
-    names_are = kept.names_are ∙ sym (channels_on declared (Scale now.count now.a_second ∷ []) ∙ append-nil (channels_of declared));
-    bits_are = kept.bits_are ∙ sym (bits_on declared (Scale now.count now.a_second ∷ []) ∙ append-nil (bits_in declared));
+    names_are = kept.names_are ∙ sym (channels_on declared (Scale now.count (in_second now.unit) ∷ []) ∙ append-nil (channels_of declared));
+    bits_are = kept.bits_are ∙ sym (bits_on declared (Scale now.count (in_second now.unit) ∷ []) ∙ append-nil (bits_in declared));
     within = kept.within;
-    scale_is = sym (scale_on None declared (Scale now.count now.a_second ∷ []));
+    scale_is = sym (scale_on None declared (Scale now.count (in_second now.unit) ∷ []));
   }
 
   pub kept_variable : (words : List Placed) (width : ℕ) (code : Vec ℕ Global) (new_names : List (List ℕ)) (new_places : List Place) (new_codes : List (Vec ℕ Global)) → code.items ≡ text_at words 2
@@ -128,8 +132,8 @@ module _ (names : List (List ℕ)) (places : List Place) (codes_are : List (Vec 
 
   -- it opens a section, or it is passed over
   module _ (at was : ℕ) (text : List ℕ) (words : List Word) (p : PartsAt kind.Outside was words names places codes_are scale items) where
-    opened : (k : Kind) (pending : Pending) → PendingAt k at [] pending → ((rest : List Placed) → header_from None ((at, text) ∷ rest) ≡ header_from pending rest) → PartsAt k at [] names places codes_are scale (items ++ (at, text) ∷ [])
-    opened k pending opened_is step = record {
+    opened : (k : Kind) (at_now : ℕ) (now : List Word) (pending : Pending) → PendingAt k at_now now pending → ((rest : List Placed) → header_from None ((at, text) ∷ rest) ≡ header_from pending rest) → PartsAt k at_now now names places codes_are scale (items ++ (at, text) ∷ [])
+    opened k at_now now pending opened_is step = record {
       sections = p.sections;
       declared = p.declared;
       pending = pending;
@@ -143,11 +147,15 @@ module _ (names : List (List ℕ)) (places : List Place) (codes_are : List (Vec 
     begun is rest = cond-true (is_keyword (0, text) && not (says (codes "$end") (0, text))) _ _ is
 
     pub opens : (k : Kind) → Opens text k → PartsAt k at [] names places codes_are scale (items ++ (at, text) ∷ [])
-    opens kind.Outside is = opened kind.Outside None refl (λ rest. cond-false (is_keyword (0, text) && not (says (codes "$end") (0, text))) _ _ is)
-    opens kind.Passed is = opened kind.Passed (Some ((at, text), [])) ((at, text), [], refl, is.1) (begun is.0)
-    opens kind.Definitions is = opened kind.Definitions (Some ((at, text), [])) ((at, text), [], refl, is.1) (begun is.0)
-    opens kind.Scale is = opened kind.Scale (Some ((at, text), [])) ((at, text), refl, is.1) (begun is.0)
-    opens kind.Variable is = opened kind.Variable (Some ((at, text), [])) (text, refl, is.1) (begun is.0)
+    opens kind.Outside is = opened kind.Outside at [] None refl (λ rest. cond-false (is_keyword (0, text) && not (says (codes "$end") (0, text))) _ _ is)
+    opens kind.Passed is = opened kind.Passed at [] (Some ((at, text), [])) ((at, text), [], refl, is.1) (begun is.0)
+    opens kind.Definitions is = opened kind.Definitions at [] (Some ((at, text), [])) ((at, text), [], refl, is.1) (begun is.0)
+    opens kind.Scale is = opened kind.Scale at [] (Some ((at, text), [])) ((at, text), [], refl, is.1, refl) (begun is.0)
+    opens kind.Variable is = opened kind.Variable at [] (Some ((at, text), [])) (text, [], refl, is.1, refl) (begun is.0)
+
+    -- an end that ends no section is passed over
+    pub ends_none : text ≡ codes "$end" → PartsAt kind.Outside was words names places codes_are scale (items ++ (at, text) ∷ [])
+    ends_none is = opened kind.Outside was words None refl (λ rest. ap (λ (t : List ℕ). header_from None ((at, t) ∷ rest)) is)
 
   -- it is a word of the section that is open
   module _ (at place : ℕ) (text : List ℕ) (words new : List Word) (no_end : says (codes "$end") (place, text) ≡ false) where
@@ -169,8 +177,12 @@ module _ (names : List (List ℕ)) (places : List Place) (codes_are : List (Vec 
     keeps kind.Outside some kept p = absurd (some refl)
     keeps kind.Passed some kept p = let o = p.opened in word_on kind.Passed p (o.0, o.1) _ o.2 refl (o.0, o.1 ++ (place, text) ∷ [], refl, o.3)
     keeps kind.Definitions some kept p = let o = p.opened in word_on kind.Definitions p (o.0, o.1) _ o.2 refl (o.0, o.1 ++ (place, text) ∷ [], refl, o.3)
-    keeps kind.Scale some kept p = let o = p.opened in word_on kind.Scale p (o.0, map placed words) _ o.1 (ap (λ (l : List Placed). Some (o.0, l)) (sym kept)) (o.0, refl, o.2)
-    keeps kind.Variable some kept p = let o = p.opened in word_on kind.Variable p ((at, o.0), map placed words) _ o.1 (ap (λ (l : List Placed). Some ((at, o.0), l)) (sym kept)) (o.0, refl, o.2)
+    keeps kind.Scale some kept p =
+        let o = p.opened in
+        word_on kind.Scale p (o.0, o.1) _ o.2 refl (o.0, o.1 ++ (place, text) ∷ [], refl, o.3, kept ∙ ap (λ (l : List Placed). scale_step l (place, text)) o.4 ∙ sym (scale_more o.1 (place, text)))
+    keeps kind.Variable some kept p =
+        let o = p.opened in
+        word_on kind.Variable p ((at, o.0), o.1) _ o.2 refl (o.0, o.1 ++ (place, text) ∷ [], refl, o.3, kept ∙ ap (λ (l : List Placed). variable_step l (place, text)) o.4 ∙ sym (variable_more o.1 (place, text)))
 
   -- it ends a section
   module _ (k : Kind) (at end_at : ℕ) (words : List Word) (p : PartsAt k at words names places codes_are scale items) (section : Placed × List Placed) (was : p.pending ≡ Some section) where
@@ -235,30 +247,35 @@ module _ (names : List (List ℕ)) (places : List Place) (codes_are : List (Vec 
 
     module _ (p : PartsAt kind.Scale at words names places codes_are scale items) where
       scale_is : (r : Result TimeScale CaptureFault) → scale_said r ≡ scale_of (first_at end_at (map placed words)) (joined (map placed words))
-          → declared_by p.declared (record { keyword = p.opened.0; words = map placed words; end_at = end_at }) ≡ scale_said r
-      scale_is r is = cond-true (same_name (codes "$timescale") p.opened.0.1) _ _ p.opened.2.1 ∙ sym is
+          → declared_by p.declared (record { keyword = p.opened.0; words = p.opened.1; end_at = end_at }) ≡ scale_said r
+      scale_is r is =
+          let o = p.opened in
+          cond-true (same_name (codes "$timescale") o.0.1) _ _ o.3.1
+          ∙ sym (is ∙ (λ i. scale_of (first_at end_at (o.4 i)) (joined (o.4 i))) ∙ (λ i. scale_of (scale_first end_at o.1 i) (joined (scale_words o.1))) ∙ scale_same (first_at end_at o.1) o.1)
 
       pub scale_closes : (now : TimeScale) → scale_said (Ok now) ≡ scale_of (first_at end_at (map placed words)) (joined (map placed words)) → PartsAt kind.Outside at words names places codes_are (Some now) (items ++ (end_at, codes "$end") ∷ [])
       scale_closes now is =
           let o = p.opened in
-          closes_good kind.Scale at end_at words p (o.0, map placed words) o.1 o.2.0 (Scale now.count now.a_second) at words names places codes_are (Some now) (scale_is (Ok now) is) (kept_scale names places codes_are scale p.declared p.kept now)
+          closes_good kind.Scale at end_at words p (o.0, o.1) o.2 o.3.0 (Scale now.count (in_second now.unit)) at words names places codes_are (Some now) (scale_is (Ok now) is) (kept_scale names places codes_are scale p.declared p.kept now)
 
       pub scale_fails : (fault : CaptureFault) → scale_said (Err fault) ≡ scale_of (first_at end_at (map placed words)) (joined (map placed words)) → HeaderFaulty (items ++ (end_at, codes "$end") ∷ []) fault
-      scale_fails fault is = let o = p.opened in closes_bad kind.Scale at end_at words p (o.0, map placed words) o.1 o.2.0 fault (scale_is (Err fault) is)
+      scale_fails fault is = let o = p.opened in closes_bad kind.Scale at end_at words p (o.0, o.1) o.2 o.3.0 fault (scale_is (Err fault) is)
 
     module _ (p : PartsAt kind.Variable at words names places codes_are scale items) where
-      variable_is : declared_by p.declared (record { keyword = (at, p.opened.0); words = map placed words; end_at = end_at }) ≡ variable_of at (length names) (map placed words)
+      variable_is : declared_by p.declared (record { keyword = (at, p.opened.0); words = p.opened.1; end_at = end_at }) ≡ variable_of at (length names) (map placed words)
       variable_is =
-          cond-false (same_name (codes "$timescale") p.opened.0) _ _ p.opened.2.1 ∙ cond-true (same_name (codes "$var") p.opened.0) _ _ p.opened.2.2
-          ∙ ap (λ (l : List (List ℕ)). variable_of at (length l) (map placed words)) (sym p.kept.names_are)
+          let o = p.opened in
+          cond-false (same_name (codes "$timescale") o.0) _ _ o.3.1 ∙ cond-true (same_name (codes "$var") o.0) _ _ o.3.2
+          ∙ ap (λ (l : List (List ℕ)). variable_of at (length l) o.1) (sym p.kept.names_are)
+          ∙ sym (ap (λ (l : List Placed). variable_of at (length names) l) o.4 ∙ variable_same at (length names) o.1)
 
       pub none_closes : variable_of at (length names) (map placed words) ≡ Ok Nothing → PartsAt kind.Outside at words names places codes_are scale (items ++ (end_at, codes "$end") ∷ [])
       none_closes is =
           let o = p.opened in
-          closes_good kind.Variable at end_at words p ((at, o.0), map placed words) o.1 o.2.0 Nothing at words names places codes_are scale (variable_is ∙ is) (kept_nothing names places codes_are scale p.declared p.kept)
+          closes_good kind.Variable at end_at words p ((at, o.0), o.1) o.2 o.3.0 Nothing at words names places codes_are scale (variable_is ∙ is) (kept_nothing names places codes_are scale p.declared p.kept)
 
       pub variable_fails : (fault : CaptureFault) → variable_of at (length names) (map placed words) ≡ Err fault → HeaderFaulty (items ++ (end_at, codes "$end") ∷ []) fault
-      variable_fails fault is = let o = p.opened in closes_bad kind.Variable at end_at words p ((at, o.0), map placed words) o.1 o.2.0 fault (variable_is ∙ is)
+      variable_fails fault is = let o = p.opened in closes_bad kind.Variable at end_at words p ((at, o.0), o.1) o.2 o.3.0 fault (variable_is ∙ is)
 
       pub variable_closes : (width at_now : ℕ) (now : List Word) (code : Vec ℕ Global) (new_names : List (List ℕ)) (new_places : List Place) (new_codes : List (Vec ℕ Global)) (new_scale : Option TimeScale)
           → variable_of at (length names) (map placed words) ≡ Ok (Declares (variable_by_words width (map placed words))) → code.items ≡ text_at (map placed words) 2
@@ -267,7 +284,7 @@ module _ (names : List (List ℕ)) (places : List Place) (codes_are : List (Vec 
       variable_closes width at_now now code new_names new_places new_codes new_scale is code_is names_is places_is codes_is scale_is =
           let o = p.opened in
           let kept = kept_variable names places codes_are scale p.declared p.kept (map placed words) width code new_names new_places new_codes code_is names_is places_is codes_is in
-          closes_good kind.Variable at end_at words p ((at, o.0), map placed words) o.1 o.2.0 (Declares (variable_by_words width (map placed words))) at_now now new_names new_places new_codes new_scale (variable_is ∙ is)
+          closes_good kind.Variable at end_at words p ((at, o.0), o.1) o.2 o.3.0 (Declares (variable_by_words width (map placed words))) at_now now new_names new_places new_codes new_scale (variable_is ∙ is)
           (subst (λ (s : Option TimeScale). KeptOf new_names new_places new_codes s (p.declared ++ Declares (variable_by_words width (map placed words)) ∷ [])) (sym scale_is) kept)
 
 -- a word was kept, and nothing else changed

@@ -4,8 +4,10 @@ use Rattle.std.proofs.lemmas.List.{append-nil}
 use Rattle.text_parts.specs.Places.{Placed}
 use Rattle.la_io.specs.Capture.{Told, Open}
 use Rattle.la_io.specs.declared.fault.CaptureFault.{CaptureFault}
-use Rattle.capture_vcd.specs.Body.{Event, Statement, Free, event_of, statements_from}
-use Rattle.capture_vcd.specs.Vcd.{body_by, read_front, settled_by}
+use Rattle.capture_vcd.specs.Body.{Event, Statement, event_of}
+use Rattle.capture_vcd.specs.Within.{Free, statements_from}
+use Rattle.capture_vcd.specs.Vcd.{body_by, settled_by}
+use Rattle.text_parts.specs.Reading.{read_front}
 use Rattle.capture_vcd.specs.Running.{channels_in, waiting}
 use Rattle.capture_vcd.specs.declared.reader.Phase.{Phase}
 use Rattle.capture_vcd.specs.declared.reader.Phase.TheVariants.{Fresh, Running, Ended, Refused}

@@ -10,19 +10,23 @@ use Rattle.la_io.specs.declared.fault.CaptureFault.TheVariants as fault
 use Rattle.la_io.specs.declared.fault.CaptureError.{CaptureError}
 use Rattle.la_io.specs.declared.fault.CaptureError.TheVariants as error
 use Rattle.la_io.specs.Capture.{Told, AtEnd, Cut, Head, Good, Bad, Unread, Ending, Clean, Faulty, Open}
-use Rattle.byte_feed.specs.Tokens.{Fed, behind, tokens_of}
+use Rattle.byte_feed.specs.Tokens.{tokens_of}
+use Rattle.byte_feed.specs.Parts.{Fed, behind}
 use Rattle.byte_feed.specs.Reader.{Answers, Stands, is_spent, taken_of}
 use Rattle.byte_feed.specs.declared.tokens.Tokens.{Tokens}
 use Rattle.byte_feed.specs.declared.fault.FeedFault.{FeedFault}
 use Rattle.byte_feed.specs.declared.fault.FeedFault.TheVariants.{Read, TooLong, Bytes, Spent}
+use Rattle.rate_math.specs.Scale.{in_second}
 use Rattle.capture_vcd.specs.Header as header
 use Rattle.capture_vcd.specs.Header.{Declared, Section, channels_of, declared_by, header_from}
 use Rattle.capture_vcd.specs.Vcd.{bits_in, capture_by, chosen, cut_head, declared_in, head_by, head_in, scale_in, tokens_give, vcd_capture, whole_head}
-use Rattle.capture_vcd.specs.Errors.{error_of}
+use Rattle.byte_feed.specs.Errors.{error_of}
 use Rattle.capture_vcd.specs.Gathering.{HeaderFaulty, PartsAt, PartsDone, TokenSays, scale_pair}
 use Rattle.capture_vcd.specs.Opening.{HeadSays, Whole}
 use Rattle.capture_vcd.specs.declared.reader.Phase.{Phase}
-use Rattle.capture_vcd.specs.Reader.{HeadRead, Makes, Opened, StandsAs, VcdCause, kept_in, pins_in, vcd_down}
+use Rattle.capture_vcd.specs.Reader.{HeadRead, Opened, StandsAs, kept_in, pins_in, vcd_down}
+use Rattle.la_io.specs.Reading.{CaptureCause}
+use Rattle.capture_vcd.specs.Stepping.{Makes}
 use Rattle.capture_vcd.specs.Running.{channels_in}
 use Rattle.capture_vcd.specs.Places.{channel_at}
 use Rattle.capture_vcd.specs.declared.reader.VcdReader.{VcdReader}
@@ -98,7 +102,7 @@ module _ (tokens : Tokens) (header : Header) (left : Option (List ℕ)) (bytes :
     error_says why e is r = subst (λ (x : CaptureError). HeadSays tokens header left bytes (Err x)) (sym is) (fault_says why r)
 
 -- an answer that no failed read gives
-pub no_read_cause : {T : Type 0} (before now : ℕ) (r : Result T CaptureError) → now ≡ before → r ≢ Err error.Read → VcdCause before now r
+pub no_read_cause : {T : Type 0} (before now : ℕ) (r : Result T CaptureError) → now ≡ before → r ≢ Err error.Read → CaptureCause before now r
 no_read_cause before now (Ok x) same never = same
 no_read_cause before now (Err (error.Fault why)) same never = same
 no_read_cause before now (Err error.Read) same never = absurd (never refl)
@@ -124,14 +128,14 @@ opening_goes down tokens header left bytes (Err why) makes fresh whole =
 opening_goes down tokens header left bytes (Ok reader) (scale, scale_is, tokens_is, body, codes_is, no_channels, names_is, places_is, num_is, den_is, phase_is, new) fresh whole =
     let first = given_first tokens bytes whole.told whole.items whole.stands whole.few in
     let done = whole.done in
-    let is : scale_in None done.declared ≡ Some (scale.count, scale.a_second) = sym done.kept.scale_is ∙ ap scale_pair scale_is in
+    let is : scale_in None done.declared ≡ Some (scale.count, in_second scale.unit) = sym done.kept.scale_is ∙ ap scale_pair scale_is in
     let names : reader.names ≡ channels_of done.declared = names_is ∙ done.kept.names_are in
     let read : HeadRead (vcd_down reader) (pins_in reader) (channels_in reader.body) (kept_in reader) whole.items = record {
       sections = done.sections;
       whole = done.whole;
       declared = done.declared;
       read = done.read;
-      scale = (scale.count, scale.a_second);
+      scale = (scale.count, in_second scale.unit);
       scale_is = is;
       channels_are = no_channels ∙ sym (ap (λ (p : List ℕ). chosen (bits_in done.declared) p) new.no_pins);
       names_are = names;

@@ -6,17 +6,22 @@ use Rattle.std.proofs.lemmas.List.{append-nil}
 use Rattle.text_parts.specs.Places.{Placed}
 use Rattle.la_io.specs.declared.fault.CaptureFault.{CaptureFault}
 use Rattle.la_io.specs.Capture.{Cut, Head, Good, Bad, Unread, Ending, Clean, Faulty, Open, Captured}
-use Rattle.byte_feed.specs.Tokens.{Fed, tokens_of}
+use Rattle.byte_feed.specs.Tokens.{tokens_of}
+use Rattle.byte_feed.specs.Parts.{Fed}
 use Rattle.byte_feed.specs.Laws.{Extends}
 use Rattle.byte_feed.proofs.Longer.{tokens_extend}
 use Rattle.capture_vcd.specs.Header.{Declared, Section, channels_of, declared_by, header_from}
 use Rattle.capture_vcd.specs.Header as header
-use Rattle.capture_vcd.specs.Body.{Channel, Event, Free, Statement, event_of, first_time, hanging, last_time, samples_before, statements_from, within_behind}
-use Rattle.capture_vcd.specs.Vcd.{bits_in, body_by, body_ending, capture_by, chosen, count_by, head_in, read_front, scale_in, settled_by, statements_at, tokens_give, vcd_capture, whole_head}
+use Rattle.capture_vcd.specs.Body.{Channel, Event, Statement, event_of, first_time, last_time, samples_before}
+use Rattle.capture_vcd.specs.Within.{Free, hanging, statements_from, within_behind}
+use Rattle.capture_vcd.specs.Vcd.{bits_in, body_by, body_ending, capture_by, chosen, count_by, head_in, scale_in, settled_by, tokens_give, vcd_capture, whole_head}
+use Rattle.text_parts.specs.Reading.{read_front}
+use Rattle.capture_vcd.specs.Within.{statements_read}
 use Rattle.capture_vcd.specs.Laws.{GoesOn, LongerGoesOn, PinsLeaveTheEnding, PinsLeaveTheHead}
 use Rattle.capture_vcd.proofs.Headers.{header_more, header_whole}
-use Rattle.capture_vcd.proofs.Fronts.{front_keeps, front_none, front_some}
+use Rattle.text_parts.proofs.FrontLemmas.{front_keeps, front_none, front_some}
 use Rattle.capture_vcd.proofs.Bodies.{first_stays, front_rises, statements_more, words_longer}
+use Rattle.capture_vcd.proofs.Grammar.{capture_read, tokens_read, tokens_same}
 
 goes_same : (down : ℕ) (front whole : Captured) → whole ≡ front → GoesOn down front whole
 goes_same down front whole same = record {
@@ -76,7 +81,7 @@ module _ (down : ℕ) where
         (count_grows down some how (end - start) (later.0 - start) (omega (arith, later.2))) last_is (λ k less. before_last down some start end k less) in
         (longer.0, (λ i. settled_by down channels (events ++ rest) how (first_stays events rest start first_is i) (later.1 i)) ∙ longer.1)
 
-    pub statements_on : (how : Ending) (tokens more : List Placed) → (others : List Statement) × (statements_at how (tokens ++ more) ≡ statements_from Free tokens ++ others)
+    pub statements_on : (how : Ending) (tokens more : List Placed) → (others : List Statement) × (statements_read how (tokens ++ more) ≡ statements_from Free tokens ++ others)
     statements_on Clean tokens more = (_, ap (λ (l : List Statement). l ++ hanging (within_behind Free (tokens ++ more))) (statements_more Free tokens more) ∙ append_assoc (statements_from Free tokens) (statements_from (within_behind Free tokens) more) (hanging (within_behind Free (tokens ++ more))))
     statements_on (Faulty fault) tokens more = (_, statements_more Free tokens more)
     statements_on Open tokens more = (_, statements_more Free tokens more)
@@ -110,17 +115,17 @@ module _ (down : ℕ) where
 
   module _ (pins : List ℕ) where
     abbrev cap : Ending → Option (List Placed) → List Declared × Option CaptureFault → Captured
-    cap how tokens read = capture_by down pins how tokens read.0 (head_in down how tokens read.0 read.1)
+    cap how tokens read = capture_read down pins how tokens read.0 (head_in down how tokens read.0 read.1)
 
     -- a header that is whole
     whole_goes : (how : Ending) (tokens more : List Placed) (declared : List Declared) (fault : Option CaptureFault) (scale : Option (ℕ × ℕ)) → scale_in None declared ≡ scale
         → GoesOn down (cap Open (Some tokens) (declared, fault)) (cap how (Some (tokens ++ more)) (declared, fault))
     whole_goes how tokens more declared (Some fault) scale is = goes_same down _ _ refl
     whole_goes how tokens more declared None None is =
-        let H = λ (h : Ending) (l : List Placed) (s : Option (ℕ × ℕ)). capture_by down pins h (Some l) declared (whole_head down (channels_of declared) s) in
+        let H = λ (h : Ending) (l : List Placed) (s : Option (ℕ × ℕ)). capture_read down pins h (Some l) declared (whole_head down (channels_of declared) s) in
         goes_same down _ _ (ap (λ (s : Option (ℕ × ℕ)). H how (tokens ++ more) s) is ∙ sym (ap (λ (s : Option (ℕ × ℕ)). H Open tokens s) is))
     whole_goes how tokens more declared None (Some scale) is =
-        let H = λ (h : Ending) (l : List Placed) (s : Option (ℕ × ℕ)). capture_by down pins h (Some l) declared (whole_head down (channels_of declared) s) in
+        let H = λ (h : Ending) (l : List Placed) (s : Option (ℕ × ℕ)). capture_read down pins h (Some l) declared (whole_head down (channels_of declared) s) in
         let head = Good (channels_of declared) scale.1 (scale.0 * down) in
         let ch = chosen (bits_in declared) pins in
         let on = statements_on head ch how tokens more in
@@ -149,12 +154,12 @@ module _ (down : ℕ) where
             bad = λ fault e. cc;
           })
 
-    tokens_go : (front whole : Fed) → Extends front whole → GoesOn down (tokens_give down pins front) (tokens_give down pins whole)
-    tokens_go front whole (inr same) = goes_same down _ _ (ap (λ (f : Fed). tokens_give down pins f) same.2)
+    tokens_go : (front whole : Fed) → Extends front whole → GoesOn down (tokens_read down pins front) (tokens_read down pins whole)
+    tokens_go front whole (inr same) = goes_same down _ _ (ap (λ (f : Fed). tokens_read down pins f) same.2)
     tokens_go front whole (inl cut) =
         let G : Ending → List Placed → Fed = λ (h : Ending) (l : List Placed). record { items = l; ending = h } in
-        subst (λ (h : Ending). GoesOn down (tokens_give down pins (G h front.items)) (tokens_give down pins whole)) (sym cut.0)
-        (subst (λ (l : List Placed). GoesOn down (tokens_give down pins (G Open front.items)) (tokens_give down pins (G whole.ending l))) (sym cut.2)
+        subst (λ (h : Ending). GoesOn down (tokens_read down pins (G h front.items)) (tokens_read down pins whole)) (sym cut.0)
+        (subst (λ (l : List Placed). GoesOn down (tokens_read down pins (G Open front.items)) (tokens_read down pins (G whole.ending l))) (sym cut.2)
         (by_body (header_from None front.items).body refl))
       where
         first : header.Cut
@@ -177,7 +182,11 @@ module _ (down : ℕ) where
 
 pub longer_goes_on : LongerGoesOn
 unfolding vcd_capture
-longer_goes_on down pins front more told = tokens_go down pins (tokens_of front Cut) (tokens_of (front ++ more) told) (tokens_extend front more told)
+longer_goes_on down pins front more told =
+    let one = tokens_same down pins (tokens_of front Cut) in
+    let all = tokens_same down pins (tokens_of (front ++ more) told) in
+    subst (λ (c : Captured). GoesOn down c (tokens_give down pins (tokens_of (front ++ more) told))) (sym one)
+    (subst (λ (c : Captured). GoesOn down (tokens_read down pins (tokens_of front Cut)) c) (sym all) (tokens_go down pins (tokens_of front Cut) (tokens_of (front ++ more) told) (tokens_extend front more told)))
 
 -- a file's head is the one that its header says
 head_is : (down : ℕ) (pins : List ℕ) (how : Ending) (tokens : Option (List Placed)) (declared : List Declared) (head : Head) → (capture_by down pins how tokens declared head).head ≡ head

@@ -7,15 +7,18 @@ use Rattle.la_base.specs.Samples.{samples}
 use Rattle.la_base.specs.declared.samples.Run.{Run}
 use Rattle.la_io.specs.declared.fault.CaptureFault.{CaptureFault}
 use Rattle.la_io.specs.declared.fault.CaptureFault.TheVariants as fault
-use Rattle.capture_vcd.specs.Body.{Channel, Event, Sets, Statement, Time, Change, Wrong, Within, event_of, hanging, last_time, samples_before, samples_to, time_behind, token_gives}
-use Rattle.capture_vcd.specs.Body as within
+use Rattle.capture_vcd.specs.Body.{Channel, Event, Statement, Time, Change, Wrong, event_of, samples_before, samples_to, time_behind}
+use Rattle.capture_vcd.specs.Within.{Within, hanging, token_gives}
+use Rattle.capture_vcd.specs.Within as within
 use Rattle.capture_vcd.specs.Following.{BodyAt, is_one, word_bits}
-use Rattle.capture_vcd.specs.Marks.{NoneHas}
-use Rattle.capture_vcd.proofs.Marking.{levels_left, none_valued}
+use Rattle.capture_vcd.specs.Chains.{NoneHas}
+use Rattle.capture_vcd.proofs.Chaining.{levels_left, none_valued}
 use Rattle.capture_vcd.specs.Slots.{assigned, changed, channel_of, level_of, value_of, valued}
 use Rattle.capture_vcd.specs.Running.{BodyFaulty, BodyEnds, OpenAt, PartsStand, hanging_of}
 use Rattle.la_io.specs.Capture.{Clean, Ends, Faulty, Open}
-use Rattle.capture_vcd.specs.Vcd.{body_by, read_front, settled_by, statements_at}
+use Rattle.capture_vcd.specs.Vcd.{body_by, settled_by}
+use Rattle.text_parts.specs.Reading.{read_front}
+use Rattle.capture_vcd.specs.Within.{statements_read}
 use Rattle.capture_vcd.specs.declared.slots.Slot.{Slot}
 use Rattle.capture_vcd.specs.declared.body.Pending.{Pending}
 use Rattle.capture_vcd.specs.declared.body.Pending.TheVariants.{Free, Value, Skip, Comment}
@@ -104,7 +107,7 @@ module _ (down : ℕ) (some : 0 < down) (channels : List Channel) (slots : List 
     parts_empty start_is = λ head.
         let same : given ++ [] ≡ settled_by down channels st.stands.events Clean start last =
         append-nil given ∙ st.stands.gave ∙ ap (λ (o : Option ℕ). settled_by down channels st.stands.events Open o last) start_is ∙ sym (ap (λ (o : Option ℕ). settled_by down channels st.stands.events Clean o last) start_is) in
-        subst (λ (g : List ℕ). Ends (body_by down head channels Clean (read_front event_of [] (statements_at Clean items))) g Clean) (append-nil given)
+        subst (λ (g : List ℕ). Ends (body_by down head channels Clean (read_front event_of [] (statements_read Clean items))) g Clean) (append-nil given)
         (body_ends down some channels (map level_of slots) st.open_is start last items given st.stands head [] (none_hangs pending st.open_is none st.opened) same)
 
     module _ (s l : ℕ) (start_is : start ≡ Some s) (last_is : last ≡ Some l) where

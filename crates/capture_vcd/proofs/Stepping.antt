@@ -9,7 +9,8 @@ use Rattle.text_parts.specs.Places.{Placed}
 use Rattle.la_io.specs.declared.fault.CaptureFault.{CaptureFault}
 use Rattle.la_io.specs.Capture.{Told, AtEnd, Cut, Ending, Clean, Faulty, Open, Captured, Ends}
 use Rattle.byte_feed.specs.Tokens.{tokens_of}
-use Rattle.byte_feed.specs.Reader.{Answers, Stands, ended_of, taken_of, text_of, told_of}
+use Rattle.byte_feed.specs.Reader.{Answers, Stands, ended_of, taken_of, text_of}
+use Rattle.byte_feed.specs.Feeding.{told_of}
 use Rattle.byte_feed.specs.declared.tokens.Tokens.{Tokens}
 use Rattle.byte_feed.specs.declared.fault.FeedFault.{FeedFault}
 use Rattle.byte_feed.specs.declared.fault.FeedFault.TheVariants.{Read, TooLong, Bytes, Spent}
@@ -18,8 +19,9 @@ use Rattle.la_io.specs.declared.fault.CaptureError.{CaptureError}
 use Rattle.capture_vcd.specs.Body.{Channel}
 use Rattle.capture_vcd.specs.Slots.{level_of}
 use Rattle.capture_vcd.specs.Vcd.{vcd_capture}
-use Rattle.capture_vcd.specs.Errors.{error_of}
-use Rattle.capture_vcd.specs.Running.{BodyEnds, BodyFaulty, BodySettled, BodyStands, Flushes, SameForm, channels_in, down_in, given_in, held_in, last_of, run_samples, start_of, waiting, word_in}
+use Rattle.byte_feed.specs.Errors.{error_of}
+use Rattle.capture_vcd.specs.Running.{BodyEnds, BodyFaulty, BodySettled, BodyStands, Flushes, SameForm, channels_in, down_in, given_in, held_in, last_of, start_of, waiting, word_in}
+use Rattle.la_io.specs.Reading.{run_samples, Behind}
 use Rattle.capture_vcd.specs.declared.body.Body.{Body}
 use Rattle.capture_vcd.specs.declared.place.Place.{Place}
 use Rattle.la_base.specs.declared.samples.Rate.{Rate}
@@ -30,7 +32,8 @@ use Rattle.std.proofs.lemmas.List.{append-nil}
 use Rattle.capture_vcd.specs.declared.reader.Phase.{Phase}
 use Rattle.capture_vcd.specs.declared.reader.Phase.TheVariants.{Fresh, Running, Ended, Refused}
 use Rattle.capture_vcd.proofs.Waiting.{flush_form, none_waits, run_is, settles}
-use Rattle.capture_vcd.specs.Reader.{Behind, Going, HeadRead, Kept, SameReader, StandsAs, StepAnswers, given_at, is_going, kept_by, kept_in, pins_in, vcd_down}
+use Rattle.capture_vcd.specs.Reader.{Going, HeadRead, Kept, SameReader, StandsAs, StepAnswers, given_at, kept_by, kept_in, pins_in, vcd_down}
+use Rattle.capture_vcd.specs.Stepping.{is_going}
 use Rattle.capture_vcd.specs.declared.reader.VcdReader.{VcdReader}
 use Rattle.capture_vcd.proofs.Following.{body_cut, body_feed}
 use Rattle.capture_vcd.proofs.Reading.{capture_is, given_first, head_is}

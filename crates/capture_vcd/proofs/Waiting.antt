@@ -6,11 +6,13 @@ use Rattle.std.specs.declared.alloc.Global.{Global}
 use Rattle.text_parts.specs.Places.{Placed}
 use Rattle.la_base.specs.declared.samples.Run.{Run}
 use Rattle.la_io.specs.Capture.{Open, Clean}
-use Rattle.capture_vcd.specs.Body.{Channel, Time, samples_before, samples_to, token_gives}
-use Rattle.capture_vcd.specs.Body as within
+use Rattle.capture_vcd.specs.Body.{Channel, Time, samples_before, samples_to}
+use Rattle.capture_vcd.specs.Within.{token_gives}
+use Rattle.capture_vcd.specs.Within as within
 use Rattle.capture_vcd.specs.Following.{word_bits}
 use Rattle.capture_vcd.specs.Slots.{channel_of, level_of}
-use Rattle.capture_vcd.specs.Running.{BodyEnds, BodySettled, BodyStands, Flushes, IsRun, PartsStand, SameForm, TokenAnswers, hanging_of, held_in, last_of, run_samples, start_of, waiting, word_in}
+use Rattle.capture_vcd.specs.Running.{BodyEnds, BodySettled, BodyStands, Flushes, IsRun, PartsStand, SameForm, TokenAnswers, hanging_of, held_in, last_of, start_of, waiting, word_in}
+use Rattle.la_io.specs.Reading.{run_samples}
 use Rattle.capture_vcd.specs.declared.slots.Slot.{Slot}
 use Rattle.capture_vcd.specs.declared.body.Body.{Body}
 use Rattle.capture_vcd.specs.declared.body.Pending.{Pending}

@@ -1,5 +1,5 @@
 -- The body of a VCD file: its statements, and the times and changes that they tell.
-use Rattle.std.specs.Prelude.{ℕ, pos, ◌+◌, ◌-◌, ◌*◌, ◌/◌, ◌^◌, ◌==◌, ◌||◌, ◌&&◌, not, nat_le, nat_lt, Bool, if◌then◌else◌, List, [], ◌∷◌, ◌++◌, length, map, slice_index, reverse, codes, Option, Some, None, Result, Ok, Err}
+use Rattle.std.specs.Prelude.{ℕ, pos, ◌+◌, ◌-◌, ◌*◌, ◌/◌, ◌^◌, ◌==◌, ◌||◌, ◌&&◌, not, nat_le, nat_lt, Bool, false, if◌then◌else◌, List, [], ◌∷◌, length, drop, map, slice_index, take, reverse, codes, Option, Some, None, Result, Ok, Err}
 use Rattle.std.specs.List.{list_all, range_with_len}
 use Rattle.la_base.specs.Naming.{same_name}
 use Rattle.la_io.specs.declared.fault.CaptureFault.{CaptureFault}
@@ -14,13 +14,6 @@ pub data Statement : Type 0 where
   Change : (code digits : List ℕ) → Statement
   Wrong : (at : ℕ) → Statement
 
--- what the next token belongs to: nothing; a value, whose code it is; a value that is skipped; or a comment
-pub data Within : Type 0 where
-  Free : Within
-  Value : (at : ℕ) (digits : List ℕ) → Within
-  Skip : (at : ℕ) → Within
-  Comment : Within
-
 -- the bytes 0, 1, x, X, z and Z
 abbrev pub is_digit : ℕ → Bool
 is_digit byte = (byte == 48) || (byte == 49) || (byte == 120) || (byte == 88) || (byte == 122) || (byte == 90)
@@ -29,39 +22,60 @@ is_digit byte = (byte == 48) || (byte == 49) || (byte == 120) || (byte == 88) ||
 abbrev pub first_is : ℕ → ℕ → ℕ → Bool
 first_is byte lower upper = (byte == lower) || (byte == upper)
 
--- the statements of a token that belongs to nothing before it, and what comes then
-abbrev pub begins : ℕ → List ℕ → List Statement × Within
-begins at [] = (Wrong at ∷ [], Free)
-begins at (first ∷ rest) = if first == 35 then (if is_number rest then (Time at (number_after 0 rest) ∷ [], Free) else (Wrong at ∷ [], Free))
-    else if is_digit first && not (length rest == 0) then (Change rest (first ∷ []) ∷ [], Free)
-    else if first_is first 98 66 && not (length rest == 0) && list_all is_digit rest then ([], Value at rest)
-    else if first_is first 114 82 || first_is first 115 83 then ([], Skip at)
-    else if same_name (codes "$comment") (first ∷ rest) then ([], Comment)
-    else if first == 36 then ([], Free)
-    else (Wrong at ∷ [], Free)
+-- what a token is by its text: a time, a value of one digit with its code behind it, digits whose code is the next token, a value that is skipped with the next token, the beginning of a comment, or a keyword that is passed over
+abbrev pub is_time : List ℕ → Bool
+is_time [] = false
+is_time (first ∷ rest) = first == 35
 
--- a token behind what is open
-abbrev pub token_gives : Within → Placed → List Statement × Within
-token_gives Free token = begins token.0 token.1
-token_gives (Value at digits) token = (Change token.1 digits ∷ [], Free)
-token_gives (Skip at) token = ([], Free)
-token_gives Comment token = if says (codes "$end") token then ([], Free) else ([], Comment)
+abbrev pub is_scalar : List ℕ → Bool
+is_scalar [] = false
+is_scalar (first ∷ code) = is_digit first && not (length code == 0)
 
--- the statements of tokens, and what is open behind them
-abbrev pub statements_from : Within → List Placed → List Statement
-statements_from within [] = []
-statements_from within (token ∷ tokens) = (token_gives within token).0 ++ statements_from (token_gives within token).1 tokens
+abbrev pub is_vector : List ℕ → Bool
+is_vector [] = false
+is_vector (first ∷ digits) = first_is first 98 66 && not (length digits == 0) && list_all is_digit digits
 
-abbrev pub within_behind : Within → List Placed → Within
-within_behind within [] = within
-within_behind within (token ∷ tokens) = within_behind (token_gives within token).1 tokens
+abbrev pub is_skipped : List ℕ → Bool
+is_skipped [] = false
+is_skipped (first ∷ rest) = first_is first 114 82 || first_is first 115 83
 
--- a value or a skipped value that ends the file lacks its second token
-abbrev pub hanging : Within → List Statement
-hanging Free = []
-hanging (Value at digits) = Wrong at ∷ []
-hanging (Skip at) = Wrong at ∷ []
-hanging Comment = []
+abbrev pub is_comment : List ℕ → Bool
+is_comment text = same_name (codes "$comment") text
+
+abbrev pub is_passed : List ℕ → Bool
+is_passed [] = false
+is_passed (first ∷ rest) = first == 36
+
+-- the statement of a time
+abbrev pub time_of : Placed → Statement
+time_of token = if is_number (drop 1 token.1) then Time token.0 (number_after 0 (drop 1 token.1)) else Wrong token.0
+
+-- the statements of tokens; `lacks` are those of a value that lacks its second token
+abbrev mutual
+  pub statements : (ℕ → List Statement) → List Placed → List Statement
+  statements lacks [] = []
+  statements lacks (token ∷ tokens) = if is_time token.1 then time_of token ∷ statements lacks tokens
+      else if is_scalar token.1 then Change (drop 1 token.1) (take 1 token.1) ∷ statements lacks tokens
+      else if is_vector token.1 then vector lacks token.0 (drop 1 token.1) tokens
+      else if is_skipped token.1 then skipped lacks token.0 tokens
+      else if is_comment token.1 then comment lacks tokens
+      else if is_passed token.1 then statements lacks tokens
+      else Wrong token.0 ∷ statements lacks tokens
+
+  -- digits, and their code
+  pub vector : (ℕ → List Statement) → ℕ → List ℕ → List Placed → List Statement
+  vector lacks at digits [] = lacks at
+  vector lacks at digits (code ∷ tokens) = Change code.1 digits ∷ statements lacks tokens
+
+  -- a value that is skipped, and the token behind it
+  pub skipped : (ℕ → List Statement) → ℕ → List Placed → List Statement
+  skipped lacks at [] = lacks at
+  skipped lacks at (code ∷ tokens) = statements lacks tokens
+
+  -- a comment up to its `$end`, or to that of the tokens
+  pub comment : (ℕ → List Statement) → List Placed → List Statement
+  comment lacks [] = []
+  comment lacks (token ∷ tokens) = if says (codes "$end") token then statements lacks tokens else comment lacks tokens
 
 -- the times and changes of statements
 pub data Event : Type 0 where

@@ -2,9 +2,11 @@
 use Rattle.std.specs.Prelude.{ℕ, ◌≡◌, ◌+◌, ◌*◌, ◌==◌, Bool, if◌then◌else◌, List, [], ◌∷◌, map, slice_index, reverse, Option, Some, None}
 use Rattle.text_parts.specs.Places.{Placed}
 use Rattle.la_io.specs.Capture.{Open}
-use Rattle.capture_vcd.specs.Body.{Channel, Event, Free, Within, event_of, first_time, last_time, statements_from, within_behind}
+use Rattle.capture_vcd.specs.Body.{Channel, Event, event_of, first_time, last_time}
+use Rattle.capture_vcd.specs.Within.{Free, Within, statements_from, within_behind}
 use Rattle.capture_vcd.specs.Stretches.{TimesTo, digits_now}
-use Rattle.capture_vcd.specs.Vcd.{read_front, settled_by}
+use Rattle.capture_vcd.specs.Vcd.{settled_by}
+use Rattle.text_parts.specs.Reading.{read_front}
 
 -- whether a bit of a value is 1
 abbrev pub is_one : ℕ → List ℕ → Bool

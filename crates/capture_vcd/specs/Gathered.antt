@@ -1,6 +1,8 @@
 -- What the reader of a header keeps of its words, and what they declare.
 use Rattle.std.specs.Prelude.{ℕ, ◌≡◌, ◌+◌, ◌==◌, ◌≤◌, ◌<◌, ◌⊎◌, ◌&&◌, not, true, false, nat_le, if◌then◌else◌, List, [], ◌∷◌, ◌++◌, drop, length, get_or, codes, Option, Some, None, Result, Ok, Err}
 use Rattle.la_base.specs.Naming.{same_name}
+use Rattle.rate_math.specs.Scale.{in_second}
+use Rattle.rate_math.specs.declared.scale.TimeUnit.{TimeUnit}
 use Rattle.la_io.specs.declared.fault.CaptureFault.{CaptureFault}
 use Rattle.la_io.specs.declared.fault.CaptureFault.TheVariants.{Token, TooMany}
 use Rattle.text_parts.specs.Numbers.{is_number, number_after}
@@ -31,9 +33,14 @@ Opens text kind.Definitions = ((is_keyword (0, text) && not (says (codes "$end")
 Opens text kind.Scale = ((is_keyword (0, text) && not (says (codes "$end") (0, text))) ≡ true) × IsKind text kind.Scale
 Opens text kind.Variable = ((is_keyword (0, text) && not (says (codes "$end") (0, text))) ≡ true) × IsKind text kind.Variable
 
+-- how many of a unit are a second, if it is one
+abbrev pub per_second : Option TimeUnit → Option ℕ
+per_second None = None
+per_second (Some unit) = Some (in_second unit)
+
 -- a time scale, or its fault, as what is declared
 abbrev pub scale_said : Result TimeScale CaptureFault → Result Declared CaptureFault
-scale_said (Ok scale) = Ok (Scale scale.count scale.a_second)
+scale_said (Ok scale) = Ok (Scale scale.count (in_second scale.unit))
 scale_said (Err fault) = Err fault
 
 -- a size from 1 to 65,535, and not too many channels; else the fault

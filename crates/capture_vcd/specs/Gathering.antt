@@ -6,9 +6,12 @@ use Rattle.text_parts.specs.Places.{Placed}
 use Rattle.la_io.specs.declared.fault.CaptureFault.{CaptureFault}
 use Rattle.la_io.specs.declared.fault.CaptureError.{CaptureError}
 use Rattle.la_io.specs.declared.fault.CaptureError.TheVariants as error
+use Rattle.rate_math.specs.Scale.{in_second}
 use Rattle.capture_vcd.specs.Header.{Cut, Declared, Pending, Section, channels_of, declared_by, header_from}
-use Rattle.capture_vcd.specs.Vcd.{bits_in, declared_in, read_front, scale_in}
+use Rattle.capture_vcd.specs.Vcd.{bits_in, declared_in, scale_in}
+use Rattle.text_parts.specs.Reading.{read_front}
 use Rattle.capture_vcd.specs.Gathered.{IsKind, names_by, placed, text_at}
+use Rattle.capture_vcd.specs.Keeping.{scale_step, scale_words, variable_step, variable_words}
 use Rattle.capture_vcd.specs.Places.{Below, channel_at, places_of}
 use Rattle.capture_vcd.specs.declared.header.Header.{Header}
 use Rattle.capture_vcd.specs.declared.place.Place.{Place}
@@ -17,13 +20,13 @@ use Rattle.capture_vcd.specs.declared.section.Word.{Word}
 use Rattle.capture_vcd.specs.declared.section.Kind.{Kind}
 use Rattle.capture_vcd.specs.declared.section.Kind.TheVariants as kind
 
--- the section that is open, of which the words are kept where they are needed
+-- the section that is open, and what is kept of its words
 abbrev pub PendingAt : Kind → ℕ → List Word → Pending → Type 0
 PendingAt kind.Outside at words pending = pending ≡ None
 PendingAt kind.Passed at words pending = (keyword : Placed) × (told : List Placed) × (pending ≡ Some (keyword, told)) × IsKind keyword.1 kind.Passed
 PendingAt kind.Definitions at words pending = (keyword : Placed) × (told : List Placed) × (pending ≡ Some (keyword, told)) × IsKind keyword.1 kind.Definitions
-PendingAt kind.Scale at words pending = (keyword : Placed) × (pending ≡ Some (keyword, map placed words)) × IsKind keyword.1 kind.Scale
-PendingAt kind.Variable at words pending = (text : List ℕ) × (pending ≡ Some ((at, text), map placed words)) × IsKind text kind.Variable
+PendingAt kind.Scale at words pending = (keyword : Placed) × (told : List Placed) × (pending ≡ Some (keyword, told)) × IsKind keyword.1 kind.Scale × (map placed words ≡ scale_words told)
+PendingAt kind.Variable at words pending = (text : List ℕ) × (told : List Placed) × (pending ≡ Some ((at, text), told)) × IsKind text kind.Variable × (map placed words ≡ variable_words told)
 
 -- sections before others
 abbrev pub with_sections : List Section → Cut → Cut
@@ -31,7 +34,7 @@ with_sections sections cut = record { sections = sections ++ cut.sections; body 
 
 abbrev pub scale_pair : Option Scale → Option (ℕ × ℕ)
 scale_pair None = None
-scale_pair (Some scale) = Some (scale.count, scale.a_second)
+scale_pair (Some scale) = Some (scale.count, in_second scale.unit)
 
 -- what was declared is kept: names, places, codes, and the last time scale
 pub record KeptOf (names : List (List ℕ)) (places : List Place) (codes : List (Vec ℕ Global)) (scale : Option Scale) (declared : List Declared) : Type 0 where
@@ -93,13 +96,13 @@ pub record Adds (old new : Header) (width : ℕ) : Type 0 where
   pub codes : new.codes.items ≡ old.codes.items ++ code ∷ []
   pub scale : new.scale ≡ old.scale
 
--- a word was kept, where the section needs its words
+-- what is needed of a word was kept
 abbrev pub KeepsWord : Kind → List Word → List Word → ℕ → List ℕ → Type 0
 KeepsWord kind.Outside old new at text = Unit {0}
 KeepsWord kind.Passed old new at text = Unit {0}
 KeepsWord kind.Definitions old new at text = Unit {0}
-KeepsWord kind.Scale old new at text = map placed new ≡ map placed old ++ (at, text) ∷ []
-KeepsWord kind.Variable old new at text = map placed new ≡ map placed old ++ (at, text) ∷ []
+KeepsWord kind.Scale old new at text = map placed new ≡ scale_step (map placed old) (at, text)
+KeepsWord kind.Variable old new at text = map placed new ≡ variable_step (map placed old) (at, text)
 
 pub record Keeps (old new : Header) (at : ℕ) (text : List ℕ) : Type 0 where
   pub kind_stays : new.kind ≡ old.kind

@@ -1,5 +1,6 @@
 pub mod Header
 pub mod Body
+pub mod Within
 pub mod Vcd
 pub mod Worked
 pub mod Laws
@@ -9,9 +10,11 @@ pub mod Slots
 pub mod Begun
 pub mod Running
 pub mod Reader
+pub mod Stepping
 pub mod Gathered
-pub mod Errors
 pub mod Places
+pub mod Keeping
 pub mod Gathering
 pub mod Opening
-pub mod Marks
+pub mod Chains
+pub mod Linked

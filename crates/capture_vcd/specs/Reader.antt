@@ -1,27 +1,23 @@
--- What a reader of VCD captures stands for behind its header, and what its answers mean.
-use Rattle.std.specs.Prelude.{ℕ, ◌≡◌, ◌+◌, ◌*◌, ◌^◌, ◌<◌, ◌≤◌, Bool, true, false, List, [], ◌++◌, length, slice_get, map, Option, Some, None, Result, Ok, Err}
+-- What a reader of VCD captures stands for behind its header, and what the answers of its calls mean.
+use Rattle.std.specs.Prelude.{ℕ, ◌≡◌, ◌+◌, ◌*◌, ◌^◌, ◌<◌, ◌≤◌, Bool, true, false, List, [], ◌++◌, length, map, Option, Some, None, Result, Ok, Err}
 use Rattle.std.specs.Io.KnownBytes.{Consumes, IsAtEnd}
 use Rattle.text_parts.specs.Places.{Placed}
 use Rattle.la_base.specs.Samples.{samples}
 use Rattle.la_base.specs.declared.samples.Run.{Run}
+use Rattle.la_io.specs.Reading.{Behind}
 use Rattle.la_io.specs.declared.fault.CaptureError.{CaptureError}
 use Rattle.la_io.specs.declared.fault.CaptureError.TheVariants as error
 use Rattle.la_io.specs.Capture.{Told, AtEnd, Cut, Good, Bad, Unread, Clean, Faulty, Open, Captured, Ends}
-use Rattle.byte_feed.specs.Reader.{HoldsNone, Stands, is_spent, left_of, taken_of}
+use Rattle.byte_feed.specs.Reader.{HoldsNone, Stands, is_spent, taken_of}
 use Rattle.std.specs.declared.vec.Vec.{Vec}
 use Rattle.std.specs.declared.alloc.Global.{Global}
 use Rattle.la_base.specs.declared.samples.Rate.{Rate}
-use Rattle.la_io.specs.Causes.{Rose}
 use Rattle.capture_vcd.specs.Header.{Declared, Section, channels_of, declared_by, header_from}
 use Rattle.capture_vcd.specs.Body.{Channel}
-use Rattle.capture_vcd.specs.Vcd.{bits_in, chosen, read_front, scale_in, vcd_capture}
+use Rattle.capture_vcd.specs.Vcd.{bits_in, chosen, scale_in, vcd_capture}
+use Rattle.text_parts.specs.Reading.{read_front}
 use Rattle.la_io.specs.declared.fault.CaptureFault.{CaptureFault}
 use Rattle.capture_vcd.specs.Running.{BodyStands, all_in, channels_in, down_in, given_in, held_in}
-use Rattle.la_io.specs.declared.fault.CaptureFault.TheVariants.{NoTimescale}
-use Rattle.byte_feed.specs.declared.tokens.Tokens.{Tokens}
-use Rattle.capture_vcd.specs.declared.header.Header.{Header}
-use Rattle.capture_vcd.specs.declared.scale.Scale.{Scale}
-use Rattle.capture_vcd.specs.declared.slots.Slot.{Slot}
 use Rattle.capture_vcd.specs.declared.body.Body.{Body}
 use Rattle.capture_vcd.specs.declared.place.Place.{Place}
 use Rattle.capture_vcd.specs.Places.{channel_at}
@@ -76,13 +72,6 @@ vcd_down reader = down_in reader.body
 -- whether there may be more to come
 abbrev pub vcd_open : VcdReader → Bool
 vcd_open reader = reader.is_open
-
--- whether it may read more of the body
-abbrev pub is_going : Phase → Bool
-is_going Fresh = true
-is_going Running = true
-is_going Ended = false
-is_going (Refused fault) = false
 
 -- how many samples it gave
 abbrev pub given_at : Phase → Body → ℕ
@@ -154,32 +143,6 @@ HeldOut (Refused fault) reader = Unit {0}
 abbrev pub HoldsNothing : VcdReader → Type 0
 HoldsNothing reader = vcd_open reader ≡ true → HeldOut reader.phase reader
 
--- the run of a step, if it gave one
-abbrev pub run_of : Step → Option Run
-run_of Went = None
-run_of (Gave run) = Some run
-run_of Over = None
-
--- what a step means that took no byte
-abbrev pub HeldAnswers : VcdReader → List ℕ → Told → List ℕ → Step → Type 0
-HeldAnswers reader bytes told given Went = Midway reader bytes told given
-HeldAnswers reader bytes told given (Gave run) = VcdStands reader bytes told (given ++ samples run)
-HeldAnswers reader bytes told given Over = VcdStands reader bytes told given
-
-abbrev pub HeldSteps : VcdReader → VcdReader → Step → Type 0
-HeldSteps old new step = (bytes : List ℕ) (told : Told) (given : List ℕ) → Midway old bytes told given → HeldAnswers new bytes told given step
-
--- behind a token that gave no samples it goes on, and less is left; at the end nothing is held
-abbrev pub HeldWent : VcdReader → VcdReader → Step → Type 0
-HeldWent old new Went = (new.phase ≡ Running) × (left_of new.tokens < left_of old.tokens)
-HeldWent old new (Gave run) = Unit {0}
-HeldWent old new Over = HoldsNothing new
-
--- the samples that were held back were given
-abbrev pub Flushed : VcdReader → VcdReader → Option Run → Type 0
-Flushed old new None = (bytes : List ℕ) (told : Told) (given : List ℕ) → Going old bytes told given → Going new bytes told given
-Flushed old new (Some run) = (bytes : List ℕ) (told : Told) (given : List ℕ) → Going old bytes told given → VcdStands new bytes told (given ++ samples run)
-
 -- what an answer says of all bytes taken
 abbrev pub StepAnswers : VcdReader → List ℕ → Told → List ℕ → Result Step CaptureError → Type 0
 StepAnswers reader bytes told given (Ok Went) = Going reader bytes told given
@@ -189,28 +152,6 @@ StepAnswers reader bytes told given (Err (error.Fault fault)) = Ends (vcd_by rea
 StepAnswers reader bytes told given (Err error.Read) = (told ≡ Cut) × Ends (vcd_by reader bytes told) given Open
 StepAnswers reader bytes told given (Err error.NoMemory) = ⊥
 
--- what is said behind bytes that were taken, none where the end was told before, and it stays told
-pub record Behind (left : Option (List ℕ)) (before : List ℕ) (early : Told) (bytes : List ℕ) (Says : List ℕ → Told → Type 0) : Type 0 where
-  pub told : Told
-  pub none : early ≡ AtEnd → bytes ≡ []
-  pub still : early ≡ AtEnd → told ≡ AtEnd
-  pub at_end : told ≡ AtEnd → IsAtEnd left
-  pub says : Says (before ++ bytes) told
-
--- one token: the bytes that it took, and what the answer means behind them
-pub record Steps (old new : VcdReader) (left_old left_new : Option (List ℕ)) (result : Result Step CaptureError) : Type 0 where
-  pub bytes : List ℕ
-  pub consumed : Consumes left_old left_new bytes
-  pub answers : (before : List ℕ) (early : Told) (given : List ℕ) → (early ≡ AtEnd → IsAtEnd left_old) → Going old before early given
-      → Behind left_new before early bytes (λ all told. StepAnswers new all told given result)
-
--- the source failed where the answer is Read, and only there; nothing was read behind a failure
-abbrev pub VcdCause : {T : Type 0} → ℕ → ℕ → Result T CaptureError → Type 0
-VcdCause before now (Ok x) = now ≡ before
-VcdCause before now (Err (error.Fault fault)) = now ≡ before
-VcdCause before now (Err error.Read) = (before ≤ now) × Rose before now
-VcdCause before now (Err error.NoMemory) = now ≡ before
-
 -- its channels and its rate stay, and the places of the file's channels
 pub record SameReader (old new : VcdReader) : Type 0 where
   pub names : vcd_names new ≡ vcd_names old
@@ -218,28 +159,11 @@ pub record SameReader (old new : VcdReader) : Type 0 where
   pub pins : pins_in new ≡ pins_in old
   pub down : vcd_down new ≡ vcd_down old
 
--- behind a token that gave no samples it reads on, and less is left; behind a run it is open; else it is closed
-abbrev pub WentOn : VcdReader → VcdReader → Result Step CaptureError → Type 0
-WentOn old new (Ok Went) = (is_going new.phase ≡ true) × (vcd_open new ≡ true) × (left_of new.tokens < left_of old.tokens) × (vcd_given new ≡ vcd_given old)
-WentOn old new (Ok (Gave run)) = (vcd_open new ≡ true) × (vcd_given old + run.len ≡ vcd_given new)
-WentOn old new (Ok Over) = vcd_open new ≡ false
-WentOn old new (Err why) = vcd_open new ≡ false
-
 -- an answer as that of a step
 abbrev pub step_of : Result (Option Run) CaptureError → Result Step CaptureError
 step_of (Ok (Some run)) = Ok (Gave run)
 step_of (Ok None) = Ok Over
 step_of (Err why) = Err why
-
--- whether it is open behind an answer
-abbrev pub stays_open : Result (Option Run) CaptureError → Bool
-stays_open (Ok (Some run)) = true
-stays_open (Ok None) = false
-stays_open (Err why) = false
-
--- the same for the tokens up to a run, or the end
-abbrev pub Nexts : VcdReader → VcdReader → Option (List ℕ) → Option (List ℕ) → Result (Option Run) CaptureError → Type 0
-Nexts old new left_old left_new result = Steps old new left_old left_new (step_of result)
 
 -- one call: the bytes that it took, and what its answer means behind them
 pub record Gives (old new : VcdReader) (left_old left_new : Option (List ℕ)) (result : Result (Option Run) CaptureError) : Type 0 where
@@ -277,17 +201,3 @@ pub record IsNew (down : ℕ) (reader : VcdReader) : Type 0 where
   pub no_pins : pins_in reader ≡ []
   pub is_open : vcd_open reader ≡ true
   pub few : (vcd_rate reader).num ≤ 10 ^ 15
-
--- a channel of the file as one that is selected, low
-abbrev pub slot_by : ℕ → Option Place → Slot
-slot_by none None = record { variable = none; bit = 0; level = false; value = false }
-slot_by none (Some place) = record { variable = place.variable; bit = place.bit; level = false; value = false }
-
-abbrev pub slot_at : List Place → ℕ → ℕ → Slot
-slot_at places none pin = slot_by none (slice_get places pin)
-
--- a reader behind a whole header, or the fault that no time scale came
-abbrev pub Makes : Tokens → Header → ℕ → Result VcdReader CaptureError → Type 0
-Makes tokens header down (Ok reader) = (scale : Scale) × (header.scale ≡ Some scale) × (reader.tokens ≡ tokens) × BodyStands reader.body [] [] × (reader.body.codes ≡ header.codes) × (channels_in reader.body ≡ [])
-    × (reader.names ≡ header.names) × (reader.places ≡ header.places) × (reader.rate.num ≡ scale.a_second) × (reader.rate.den ≡ scale.count * down) × (reader.phase ≡ Fresh) × IsNew down reader
-Makes tokens header down (Err why) = (header.scale ≡ None) × (why ≡ error.Fault NoTimescale)

@@ -3,11 +3,15 @@ use Rattle.std.specs.Prelude.{ℕ, ◌≡◌, ◌+◌, ◌-◌, ◌≤◌, Bool,
 use Rattle.text_parts.specs.Places.{Placed}
 use Rattle.la_base.specs.Samples.{samples}
 use Rattle.la_base.specs.declared.samples.Run.{Run}
+use Rattle.la_io.specs.Reading.{run_samples}
 use Rattle.la_io.specs.declared.fault.CaptureFault.{CaptureFault}
 use Rattle.la_io.specs.Capture.{Head, Ending, Clean, Faulty, Ends}
-use Rattle.capture_vcd.specs.Body.{Channel, Statement, Time, Change, Within, event_of, samples_before, samples_to, statements_from, token_gives}
-use Rattle.capture_vcd.specs.Body as within
-use Rattle.capture_vcd.specs.Vcd.{body_by, read_front, statements_at}
+use Rattle.capture_vcd.specs.Body.{Channel, Time, Change, event_of, samples_before, samples_to}
+use Rattle.capture_vcd.specs.Within.{Within, statements_from, token_gives}
+use Rattle.capture_vcd.specs.Within as within
+use Rattle.capture_vcd.specs.Vcd.{body_by}
+use Rattle.text_parts.specs.Reading.{read_front}
+use Rattle.capture_vcd.specs.Within.{statements_read}
 use Rattle.capture_vcd.specs.Following.{BodyAt, is_one, word_bits}
 use Rattle.capture_vcd.specs.Slots.{channel_of, level_of, value_of}
 use Rattle.capture_vcd.specs.declared.slots.Slot.{Slot}
@@ -73,11 +77,6 @@ waiting body = replicate (held_in body) (word_in body)
 abbrev pub BodyStands : Body → List Placed → List ℕ → Type 0
 BodyStands body items given = BodySettled body items (given ++ waiting body)
 
--- the samples of a run, if there is one
-abbrev pub run_samples : Option Run → List ℕ
-run_samples None = []
-run_samples (Some run) = samples run
-
 -- so many samples of this word, as a run
 abbrev pub IsRun : ℕ → ℕ → Option Run → Type 0
 IsRun count word None = count ≡ 0
@@ -85,7 +84,7 @@ IsRun count word (Some run) = (run.len ≡ count) × (run.value ≡ word) × (1 
 
 -- these tokens hold a fault, whatever comes behind them, and these are the samples before it
 abbrev pub BodyFaulty : ℕ → List Channel → List Placed → List ℕ → CaptureFault → Type 0
-BodyFaulty down channels items given fault = (head : Head) (how : Ending) (rest : List Placed) → Ends (body_by down head channels how (read_front event_of [] (statements_at how (items ++ rest)))) given (Faulty fault)
+BodyFaulty down channels items given fault = (head : Head) (how : Ending) (rest : List Placed) → Ends (body_by down head channels how (read_front event_of [] (statements_read how (items ++ rest)))) given (Faulty fault)
 
 -- what an answer means behind one more token
 abbrev pub TokenAnswers : Body → List Placed → List ℕ → Result (Option Run) CaptureFault → Type 0
@@ -120,7 +119,7 @@ hanging_of Comment = None
 
 -- what the end means
 abbrev pub BodyEnds : ℕ → List Channel → List Placed → List ℕ → Ending → Type 0
-BodyEnds down channels items given how = (head : Head) → Ends (body_by down head channels Clean (read_front event_of [] (statements_at Clean items))) given how
+BodyEnds down channels items given how = (head : Head) → Ends (body_by down head channels Clean (read_front event_of [] (statements_read Clean items))) given how
 
 abbrev pub EndAnswers : Body → List Placed → List ℕ → Result (Option Run) CaptureFault → Type 0
 EndAnswers body items given (Ok None) = BodyEnds (down_in body) (channels_in body) items given Clean

@@ -1,21 +1,14 @@
 -- What the bytes of a VCD capture give.
-use Rattle.std.specs.Prelude.{ℕ, ◌+◌, ◌-◌, ◌*◌, List, [], ◌∷◌, ◌++◌, map, get_or, Option, Some, None, Result, Ok, Err}
+use Rattle.std.specs.Prelude.{ℕ, ◌+◌, ◌-◌, ◌*◌, List, [], ◌∷◌, ◌++◌, map, get_or, Option, Some, None}
 use Rattle.la_io.specs.declared.fault.CaptureFault.{CaptureFault}
 use Rattle.la_io.specs.declared.fault.CaptureFault.TheVariants.{NoTimescale, NoDefinitions}
 use Rattle.la_io.specs.Capture.{Told, Head, Good, Bad, Unread, Ending, Clean, Faulty, Open, Captured}
 use Rattle.text_parts.specs.Places.{Placed}
-use Rattle.byte_feed.specs.Tokens.{Fed, tokens_of}
+use Rattle.byte_feed.specs.Tokens.{tokens_of}
+use Rattle.text_parts.specs.Reading.{read_front}
+use Rattle.byte_feed.specs.Parts.{Fed}
 use Rattle.capture_vcd.specs.Header.{Cut, Declared, Scale, Declares, Nothing, channels_of, declared_by, header_from}
-use Rattle.capture_vcd.specs.Body.{Channel, Event, Statement, Free, event_of, first_time, hanging, last_time, within_behind, samples_before, samples_to, statements_from, words_from}
-
--- the values of parts up to the first fault, each judged behind those before it, and that fault
-abbrev pub after_one : {P V : Type 0} → (List V → List P → List V × Option CaptureFault) → List V → List P → Result V CaptureFault → List V × Option CaptureFault
-after_one more before parts (Ok value) = more (before ++ value ∷ []) parts
-after_one more before parts (Err fault) = (before, Some fault)
-
-abbrev pub read_front : {P V : Type 0} → (List V → P → Result V CaptureFault) → List V → List P → List V × Option CaptureFault
-read_front judge before [] = (before, None)
-read_front judge before (part ∷ parts) = after_one (λ values rest. read_front judge values parts) before parts (judge before part)
+use Rattle.capture_vcd.specs.Body.{Channel, Event, Statement, Wrong, event_of, first_time, last_time, samples_before, samples_to, statements, words_from}
 
 -- the last time scale
 abbrev pub scale_in : Option (ℕ × ℕ) → List Declared → Option (ℕ × ℕ)
@@ -61,9 +54,9 @@ head_by down how cut read = head_in down how cut.body read.0 read.1
 
 -- the statements of a body: a value that lacks its second token counts as one where the file ends clean there
 abbrev pub statements_at : Ending → List Placed → List Statement
-statements_at Clean tokens = statements_from Free tokens ++ hanging (within_behind Free tokens)
-statements_at (Faulty fault) tokens = statements_from Free tokens
-statements_at Open tokens = statements_from Free tokens
+statements_at Clean tokens = statements (λ at. Wrong at ∷ []) tokens
+statements_at (Faulty fault) tokens = statements (λ at. []) tokens
+statements_at Open tokens = statements (λ at. []) tokens
 
 -- how a body ends: with its first fault, else as its tokens do
 abbrev pub body_ending : Ending → Option CaptureFault → Ending

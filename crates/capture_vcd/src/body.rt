@@ -1,13 +1,17 @@
 // The body of a VCD file, token by token.
-ghost use Rattle.std.specs.Prelude.{◌≡◌, ◌+◌, ◌-◌, ◌*◌, ◌^◌, ◌≤◌, ◌<◌, length, vec_len};
+ghost use Rattle.std.specs.Prelude.{◌≡◌, ◌+◌, ◌-◌, ◌*◌, ◌^◌, ◌≤◌, ◌<◌, length, map, vec_len};
 ghost use Rattle.capture_vcd.specs.Body.{samples_before};
-ghost use Rattle.capture_vcd.specs.Marks.{Marked, NoneHas};
+ghost use Rattle.capture_vcd.specs.Chains.{NoneHas};
+ghost use Rattle.capture_vcd.specs.Following.{word_bits};
+ghost use Rattle.capture_vcd.specs.Linked.{Linked};
+ghost use Rattle.capture_vcd.specs.Slots.{channel_of, level_of};
 
-use crate::marks::{BYTES, marks_of};
+use crate::chains::Chains;
+use crate::selecting::PLACES;
 use crate::slots::{Slot, assign, change, set_values, word_of};
 use crate::tokens::{Begun, begin};
 use arrayvec::ArrayVec;
-use la_base::Run;
+use la_base::{Run, Word};
 use la_io::CaptureFault;
 
 /// What the next token belongs to.
@@ -40,14 +44,16 @@ pub struct Span {
 pub struct Body {
     // the code of each variable
     codes: Vec<Vec<u8>>,
-    slots: ArrayVec<Slot, 64>,
-    // the last bytes of their codes
-    marks: [bool; BYTES],
+    slots: ArrayVec<Slot, PLACES>,
+    chains: Chains,
+    // the word of their levels
+    word: Word,
     pending: Pending,
     span: Option<Span>,
     down: u64,
     ghost down_fits: { (1 ≤ down) × (down ≤ 1000000000) },
-    ghost marked: { Marked marks codes.items slots.items },
+    ghost linked: { Linked chains (map (channel_of codes.items) slots.items) },
+    ghost word_is: { word ≡ word_bits (map level_of slots.items) },
 }
 
 // How many samples have a time before the last one.
@@ -82,7 +88,8 @@ impl Body {
         Body {
             codes,
             slots: ArrayVec::new(),
-            marks: [false; BYTES],
+            chains: Chains::new(),
+            word: 0,
             pending: Pending::Free,
             span: None,
             down,
@@ -97,16 +104,18 @@ impl Body {
     }
 
     /// These channels are the bits of the samples, all low, and nothing was read.
-    pub fn select(&mut self, slots: ArrayVec<Slot, 64>)
+    pub fn select(&mut self, slots: ArrayVec<Slot, PLACES>)
         ensures slots { self.new.slots.items ≡ slots.items }
         ensures codes { self.new.codes ≡ self.old.codes }
         ensures down { down_in self.new ≡ down_in self.old }
         ensures free { pending_in self.new ≡ Free }
         ensures span { self.new.span ≡ None }
     {
-        let marks = marks_of(&self.codes, &slots);
+        let chains = Chains::of(&self.codes, &slots);
+        let word = word_of(&slots);
         self.slots = slots;
-        self.marks = marks;
+        self.chains = chains;
+        self.word = word;
         self.pending = Pending::Free;
         self.span = None;
     }
@@ -166,7 +175,7 @@ impl Body {
             last: span.last,
         });
         Some(Run {
-            value: word_of(&self.slots),
+            value: self.word,
             len,
         })
     }
@@ -176,10 +185,7 @@ impl Body {
     fn may_change(&self, code: &[u8]) -> bool
         ensures { result ≡ false → NoneHas self.now.codes.items code.now self.now.slots.items }
     {
-        if code.is_empty() {
-            return true;
-        }
-        self.marks[code[code.len() - 1] as usize]
+        self.chains.first(code) < self.slots.len()
     }
 
     // The value that was noted is that of this code.
@@ -195,7 +201,13 @@ impl Body {
             return None;
         }
         let run = self.flush();
-        assign(&self.codes, &mut self.slots, code);
+        assign(
+            &self.codes,
+            &self.chains,
+            &mut self.slots,
+            &mut self.word,
+            code,
+        );
         self.pending = Pending::Free;
         run
     }
@@ -212,7 +224,14 @@ impl Body {
             return None;
         }
         let run = self.flush();
-        change(&self.codes, &mut self.slots, first, code);
+        change(
+            &self.codes,
+            &self.chains,
+            &mut self.slots,
+            &mut self.word,
+            first,
+            code,
+        );
         run
     }
 
@@ -311,7 +330,7 @@ impl Body {
             return Ok(None);
         }
         Ok(Some(Run {
-            value: word_of(&self.slots),
+            value: self.word,
             len,
         }))
     }

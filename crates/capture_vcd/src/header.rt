@@ -1,9 +1,10 @@
 // The header of a VCD file, token by token.
 ghost use Rattle.std.specs.Prelude.{◌≡◌, ◌≢◌, ◌+◌, ◌≤◌, [], length, Err, OnOk};
 ghost use Rattle.capture_vcd.specs.declared.section.Kind.TheVariants.{Outside as OfOutside, Scale as OfScale, Variable as OfVariable};
-ghost use Rattle.capture_vcd.specs.Gathering.{Adds, Closes, HeaderAt, HeaderGives, Keeps};
+ghost use Rattle.capture_vcd.specs.Keeping.{IsShort};
 
 use crate::bits::{push_names, push_places};
+use crate::keeping::{keep_scale, keep_variable};
 use crate::place::Place;
 use crate::scale::Scale;
 use crate::section::{Kind, Word, first_at, joined, opened_by, scale_of, width_of};
@@ -15,7 +16,7 @@ use std::alloc::Global;
 #[derive(Drop)]
 pub struct Header {
     alloc: Global,
-    // the section that is open, the place of its keyword, and its words where they are needed
+    // the section that is open, the place of its keyword, and what is kept of its words
     kind: Kind,
     at: u64,
     words: Vec<Word>,
@@ -25,9 +26,12 @@ pub struct Header {
     pub places: Vec<Place>,
     pub codes: Vec<Vec<u8>>,
     pub scale: Option<Scale>,
+    ghost short: { kind ≡ OfScale → IsShort words.items },
 }
 
 impl Header {
+    ghost use Rattle.capture_vcd.specs.Gathering.{Adds, Closes, HeaderAt, HeaderGives, Keeps};
+
     /// Nothing was read.
     pub fn new(alloc: Global) -> Header
         ensures { HeaderAt result [] }
@@ -101,9 +105,8 @@ impl Header {
         }
     }
 
-    // Ends the section that is open. `true` is the end of the header.
+    // An end: that of the section that is open, if one is. `true` is the end of the header.
     fn close(&mut self, end_at: u64) -> Result<bool, CaptureError>
-        requires { self.old.kind ≢ OfOutside }
         ensures closes { Closes self.old self.new end_at result }
         ensures no_read { result ≢ Err CaptureError.Read }
     {
@@ -119,18 +122,13 @@ impl Header {
         }
     }
 
-    // Keeps a word of the section that is open, where it is needed.
+    // Keeps of a word of the section that is open what is needed.
     fn keep(&mut self, at: u64, text: &[u8]) -> Result<(), NoMemory>
         ensures { OnOk result (Keeps self.old self.new at text.now) }
     {
         match self.kind {
-            Kind::Scale | Kind::Variable => {
-                self.words.push(Word {
-                    at,
-                    text: text.to_vec(self.alloc)?,
-                })?;
-                Ok(())
-            }
+            Kind::Scale => keep_scale(self.alloc, &mut self.words, at, text),
+            Kind::Variable => keep_variable(self.alloc, &mut self.words, at, text),
             Kind::Outside | Kind::Passed | Kind::Definitions => Ok(()),
         }
     }

@@ -6,10 +6,10 @@
 
 mod bits;
 mod body;
-mod errors;
+mod chains;
 mod header;
+mod keeping;
 mod laws;
-mod marks;
 mod opening;
 mod place;
 mod reader;

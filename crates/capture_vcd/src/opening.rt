@@ -2,11 +2,10 @@
 ghost use Rattle.std.specs.Prelude.{◌≡◌, true, false, IfOk};
 ghost use Rattle.byte_feed.specs.Reader.{is_spent};
 ghost use Rattle.capture_vcd.specs.Opening.{HeadOn, HeadReads};
-ghost use Rattle.capture_vcd.specs.Reader.{VcdCause};
+ghost use Rattle.la_io.specs.Reading.{CaptureCause};
 
-use crate::errors::error_of;
 use crate::header::Header;
-use byte_feed::Tokens;
+use byte_feed::{Tokens, error_of};
 use la_io::{CaptureError, CaptureFault, Source};
 
 // Reads one token. `true` is the end of the header.
@@ -18,7 +17,7 @@ fn head_token<S: Source>(
     requires { is_spent tokens.old ≡ false }
     ensures reads { HeadReads tokens.old tokens.new header.old header.new (S.left source.old) (S.left source.new) result }
     ensures on { HeadOn tokens.old tokens.new result }
-    ensures cause { VcdCause (S.faults source.old) (S.faults source.new) result }
+    ensures cause { CaptureCause (S.faults source.old) (S.faults source.new) result }
 {
     match tokens.next(source) {
         Ok(Some(at)) => header.token(at, tokens.text()),
@@ -37,7 +36,7 @@ pub fn read_header<S: Source>(
     ensures reads { HeadReads tokens.old tokens.new header.old header.new (S.left source.old) (S.left source.new) result }
     ensures whole { IfOk result (λ done. done ≡ true) }
     ensures fresh { IfOk result (λ _. is_spent tokens.new ≡ false) }
-    ensures cause { VcdCause (S.faults source.old) (S.faults source.new) result }
+    ensures cause { CaptureCause (S.faults source.old) (S.faults source.new) result }
 {
     'head: loop {
         match head_token(tokens, header, source) {

@@ -3,14 +3,14 @@ ghost use Rattle.std.specs.Prelude.{◌≡◌, true, false};
 ghost use Rattle.byte_feed.specs.Reader.{is_spent, left_of};
 
 use crate::body::Body;
-use crate::errors::error_of;
 use crate::header::Header;
 use crate::opening::read_header;
 use crate::place::Place;
 use crate::selecting::slots_of;
-use byte_feed::Tokens;
+use byte_feed::{Tokens, error_of};
 use la_base::{Names, NoMemory, Pins, Rate, Run};
 use la_io::{CaptureError, CaptureFault, Source};
+use rate_math::timescale;
 use std::alloc::Global;
 
 /// What one token gave.
@@ -56,9 +56,11 @@ pub struct VcdReader {
 impl VcdReader {
     ghost use Rattle.std.specs.Prelude.{◌≢◌, ◌≤◌, ◌<◌, ◌+◌, ◌^◌, ℕ, List, [], length, slice_index, Err, IfOk, None};
     ghost use Rattle.la_io.specs.Capture.{Told};
-    ghost use Rattle.capture_vcd.specs.Running.{RunCounts, held_in, run_samples};
+    ghost use Rattle.capture_vcd.specs.Running.{RunCounts, held_in};
+    ghost use Rattle.la_io.specs.Reading.{run_samples, CaptureCause, stays_open};
     ghost use Rattle.capture_vcd.specs.declared.reader.Phase.TheVariants.{Running};
-    ghost use Rattle.capture_vcd.specs.Reader.{Flushed, GaveHeld, HeldSteps, HeldWent, HoldsNothing, run_of, IsNew, Makes, Opens, VcdStands, is_going, pins_in, vcd_down, Gives, MoreGiven, Nexts, SameReader, Steps, VcdCause, WentOn, stays_open, vcd_given, vcd_names, vcd_open, vcd_rate};
+    ghost use Rattle.capture_vcd.specs.Reader.{GaveHeld, HoldsNothing, IsNew, Opens, VcdStands, pins_in, vcd_down, Gives, MoreGiven, SameReader, vcd_given, vcd_names, vcd_open, vcd_rate};
+    ghost use Rattle.capture_vcd.specs.Stepping.{Flushed, HeldSteps, HeldWent, run_of, Makes, is_going, Nexts, Steps, WentOn};
 
     /// Reads the header of a capture of which each sample stands for `down` units of time. `Fault` comes
     /// exactly where the header has one, `Read` where the source failed before the header was whole.
@@ -71,7 +73,7 @@ impl VcdReader {
         requires few { down ≤ 1000000000 }
         ensures opens { Opens down (S.left source.old) (S.left source.new) result }
         ensures new { IfOk result (λ reader. IsNew down reader) }
-        ensures cause { VcdCause (S.faults source.old) (S.faults source.new) result }
+        ensures cause { CaptureCause (S.faults source.old) (S.faults source.new) result }
     {
         let mut tokens = match Tokens::new(alloc) {
             Ok(tokens) => tokens,
@@ -130,19 +132,20 @@ impl VcdReader {
     {
         match header.scale {
             None => Err(CaptureError::Fault(CaptureFault::NoTimescale)),
-            Some(scale) => Ok(VcdReader {
-                tokens,
-                body: Body::new(header.codes, down),
-                names: header.names,
-                places: header.places,
-                rate: Rate {
-                    num: scale.a_second,
-                    den: scale.count * down,
-                },
-                pins: Pins::new(),
-                phase: Phase::Fresh,
-                is_open: true,
-            }),
+            Some(scale) => match timescale(scale.count, scale.unit, down) {
+                Some(rate) => Ok(VcdReader {
+                    tokens,
+                    body: Body::new(header.codes, down),
+                    names: header.names,
+                    places: header.places,
+                    rate,
+                    pins: Pins::new(),
+                    phase: Phase::Fresh,
+                    is_open: true,
+                }),
+                // A count is at most 100, and `down` at most 10^9.
+                None => unreachable!(),
+            },
         }
     }
 
@@ -244,7 +247,7 @@ impl VcdReader {
         ensures went { WentOn self.old self.new result }
         ensures form { SameReader self.old self.new }
         ensures memory { result ≢ Err CaptureError.NoMemory }
-        ensures cause { VcdCause (S.faults source.old) (S.faults source.new) result }
+        ensures cause { CaptureCause (S.faults source.old) (S.faults source.new) result }
     {
         match self.tokens.next(source) {
             Ok(Some(at)) => match self.body.token(at, self.tokens.text()) {
@@ -294,7 +297,7 @@ impl VcdReader {
         ensures form { SameReader self.old self.new }
         ensures more { MoreGiven self.old self.new result }
         ensures memory { result ≢ Err CaptureError.NoMemory }
-        ensures cause { VcdCause (S.faults source.old) (S.faults source.new) result }
+        ensures cause { CaptureCause (S.faults source.old) (S.faults source.new) result }
     {
         'body: loop {
             match self.flush() {
@@ -320,7 +323,7 @@ impl VcdReader {
         ensures more { MoreGiven self.old self.new result }
         ensures few { vcd_given self.new ≤ 2 ^ 60 }
         ensures memory { result ≢ Err CaptureError.NoMemory }
-        ensures cause { VcdCause (S.faults source.old) (S.faults source.new) result }
+        ensures cause { CaptureCause (S.faults source.old) (S.faults source.new) result }
     {
         match self.phase {
             Phase::Fresh => self.run_on(source),
@@ -347,7 +350,7 @@ impl VcdReader {
         ensures more { MoreGiven self.old self.new result }
         ensures few { vcd_given self.new ≤ 2 ^ 60 }
         ensures memory { result ≢ Err CaptureError.NoMemory }
-        ensures cause { VcdCause (S.faults source.old) (S.faults source.new) result }
+        ensures cause { CaptureCause (S.faults source.old) (S.faults source.new) result }
     {
         match self.held_run() {
             Some(run) => Ok(Some(run)),

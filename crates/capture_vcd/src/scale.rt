@@ -1,11 +1,12 @@
 // Time scales.
 ghost use Rattle.std.specs.Prelude.{◌≤◌};
 
-/// A time scale: so many units, of which this many are a second.
+use rate_math::TimeUnit;
+
+/// A time scale: so many of a unit.
 #[derive(Clone, Copy, Debug, PartialEq, Eq)]
 pub struct Scale {
     pub count: u64,
-    pub a_second: u64,
+    pub unit: TimeUnit,
     ghost count_fits: { (1 ≤ count) × (count ≤ 100) },
-    ghost unit_fits: { (1 ≤ a_second) × (a_second ≤ 1000000000000000) },
 }

@@ -1,12 +1,13 @@
 // The sections of a header, and what their words declare.
 ghost use Rattle.std.specs.Prelude.{◌≡◌, ◌≤◌, ◌&&◌, nat_le, map, IfOk, IfSome};
 ghost use Rattle.capture_vcd.specs.Header.{a_second, first_at, has_no_channel, is_code, joined, scale_by, scale_of};
-ghost use Rattle.capture_vcd.specs.Gathered.{Opens, VariableGives, WidthGives, placed, scale_said};
+ghost use Rattle.capture_vcd.specs.Gathered.{Opens, VariableGives, WidthGives, per_second, placed, scale_said};
 
 use crate::scale::Scale;
 use crate::tokens::number_of;
 use la_base::NoMemory;
 use la_io::CaptureFault;
+use rate_math::TimeUnit;
 use std::alloc::Global;
 
 /// A word of a section, and the place of its first byte.
@@ -67,38 +68,29 @@ pub fn joined(alloc: Global, words: &[Word]) -> Result<Vec<u8>, NoMemory>
     Ok(text)
 }
 
-// How many of a unit are a second.
-fn a_second(unit: &[u8]) -> Option<u64>
-    ensures { result ≡ a_second unit.now }
+// The unit that a text names.
+fn unit_of(text: &[u8]) -> Option<TimeUnit>
+    ensures { per_second result ≡ a_second text.now }
 {
-    if b"s".as_slice() == unit {
-        return Some(1);
+    if b"s".as_slice() == text {
+        return Some(TimeUnit::S);
     }
-    if b"ms".as_slice() == unit {
-        return Some(1_000);
+    if b"ms".as_slice() == text {
+        return Some(TimeUnit::Ms);
     }
-    if b"us".as_slice() == unit {
-        return Some(1_000_000);
+    if b"us".as_slice() == text {
+        return Some(TimeUnit::Us);
     }
-    if b"ns".as_slice() == unit {
-        return Some(1_000_000_000);
+    if b"ns".as_slice() == text {
+        return Some(TimeUnit::Ns);
     }
-    if b"ps".as_slice() == unit {
-        return Some(1_000_000_000_000);
+    if b"ps".as_slice() == text {
+        return Some(TimeUnit::Ps);
     }
-    if b"fs".as_slice() == unit {
-        return Some(1_000_000_000_000_000);
+    if b"fs".as_slice() == text {
+        return Some(TimeUnit::Fs);
     }
     None
-}
-
-// The same as 1 to 10^15.
-fn unit_of(unit: &[u8]) -> Option<u64>
-    ensures is { result ≡ a_second unit.now }
-    ensures some { IfSome result (λ count. 1 ≤ count) }
-    ensures few { IfSome result (λ count. count ≤ 1000000000000000) }
-{
-    a_second(unit)
 }
 
 // A count of a unit; where that is none, a fault at this place.
@@ -108,7 +100,7 @@ fn scale_by(at: u64, count: u64, unit: &[u8]) -> Result<Scale, CaptureFault>
     ensures { scale_said result ≡ scale_by at count (a_second unit.now) }
 {
     match unit_of(unit) {
-        Some(a_second) => Ok(Scale { count, a_second }),
+        Some(unit) => Ok(Scale { count, unit }),
         None => Err(CaptureFault::Token { at }),
     }
 }
@@ -129,8 +121,8 @@ pub fn scale_of(at: u64, text: &[u8]) -> Result<Scale, CaptureFault>
     Err(CaptureFault::Token { at })
 }
 
-// Whether a variable of this type has no channels.
-fn has_no_channel(kind: &[u8]) -> bool
+/// Whether a variable of this type has no channels.
+pub fn has_no_channel(kind: &[u8]) -> bool
     ensures { result ≡ has_no_channel kind.now }
 {
     b"real".as_slice() == kind || b"realtime".as_slice() == kind || b"string".as_slice() == kind

@@ -1,10 +1,14 @@
 // Channels of a file, as those that are selected.
 ghost use Rattle.std.specs.Prelude.{◌≡◌, ◌≤◌, length, map};
-ghost use Rattle.capture_vcd.specs.Reader.{slot_at};
+ghost use Rattle.capture_vcd.specs.Slots.{slot_at};
 
 use crate::place::Place;
 use crate::slots::Slot;
 use arrayvec::ArrayVec;
+use la_base::MOST_PINS;
+
+/// How many channels can be selected.
+pub const PLACES: usize = MOST_PINS as usize;
 
 // A channel of the file, low. `none` is the number of no variable.
 fn slot_at(places: &[Place], none: usize, pin: usize) -> Slot
@@ -27,8 +31,8 @@ fn slot_at(places: &[Place], none: usize, pin: usize) -> Slot
 }
 
 /// The channels that are selected, all low. `none` is the number of no variable.
-pub fn slots_of(places: &[Place], none: usize, pins: &[u32]) -> ArrayVec<Slot, 64>
-    requires { length pins.now ≤ 64 }
+pub fn slots_of(places: &[Place], none: usize, pins: &[u32]) -> ArrayVec<Slot, PLACES>
+    requires { length pins.now ≤ PLACES }
     ensures { result.items ≡ map (slot_at places.now none) pins.now }
 {
     let mut slots = ArrayVec::new();

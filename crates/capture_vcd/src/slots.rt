@@ -1,10 +1,13 @@
 // The channels that are selected, and their levels.
-ghost use Rattle.std.specs.Prelude.{◌≡◌, ◌≤◌, length, map};
+ghost use Rattle.std.specs.Prelude.{◌≡◌, ◌+◌, ◌*◌, ◌^◌, ◌≤◌, ◌<◌, length, map};
+ghost use Rattle.std.specs.Int.{bit_at};
 ghost use Rattle.la_base.specs.Naming.{same_name};
 ghost use Rattle.capture_vcd.specs.Following.{is_one, level_bit, word_bits};
-ghost use Rattle.capture_vcd.specs.Slots.{assigned, changed, code_at, level_of, valued};
+ghost use Rattle.capture_vcd.specs.Linked.{Linked};
+ghost use Rattle.capture_vcd.specs.Slots.{assigned, changed, channel_of, code_at, level_of, valued, with_level};
 
-use la_base::Word;
+use crate::chains::Chains;
+use la_base::{MOST_PINS, Word};
 
 /// A channel that is selected: the number of its variable, its bit there, its level, and what the
 /// value that was read last would make of it.
@@ -54,6 +57,29 @@ pub fn set_values(slots: &mut [Slot], digits: &[u8])
     }
 }
 
+// A word behind a change of one bit.
+#[inline(always)]
+fn with_bit(word: Word, place: usize, was: bool, now: bool) -> Word
+    requires within { place < MOST_PINS }
+    requires is { bit_at word place ≡ level_bit was }
+    ensures { result + level_bit was * 2 ^ place ≡ word + level_bit now * 2 ^ place }
+{
+    word ^ ((level_bit(was) ^ level_bit(now)) << place)
+}
+
+// A channel has this level from now on, and so its bit of the word.
+#[inline(always)]
+fn set_level(slots: &mut [Slot], word: &mut Word, place: usize, level: bool)
+    requires within { place < length slots.old }
+    requires few { length slots.old ≤ MOST_PINS }
+    requires is { word.old ≡ word_bits (map level_of slots.old) }
+    ensures slots { slots.new ≡ with_level slots.old place level }
+    ensures is { word.new ≡ word_bits (map level_of slots.new) }
+{
+    *word = with_bit(*word, place, slots[place].level, level);
+    slots[place].level = level;
+}
+
 // The level of a channel behind a change of a code.
 fn level_behind(codes: &[Vec<u8>], slot: Slot, code: &[u8]) -> bool
     ensures { result ≡ level_of (assigned codes.now code.now slot) }
@@ -65,12 +91,19 @@ fn level_behind(codes: &[Vec<u8>], slot: Slot, code: &[u8]) -> bool
     }
 }
 
-/// Gives the channels of a code the value that was noted.
-pub fn assign(codes: &[Vec<u8>], slots: &mut [Slot], code: &[u8])
-    ensures { slots.new ≡ map (assigned codes.now code.now) slots.old }
+/// Gives the channels of a code the value that was noted, and keeps the word of the levels.
+pub fn assign(codes: &[Vec<u8>], chains: &Chains, slots: &mut [Slot], word: &mut Word, code: &[u8])
+    requires few { length slots.old ≤ MOST_PINS }
+    requires linked { Linked chains.now (map (channel_of codes.now) slots.old) }
+    requires is { word.old ≡ word_bits (map level_of slots.old) }
+    ensures slots { slots.new ≡ map (assigned codes.now code.now) slots.old }
+    ensures is { word.new ≡ word_bits (map level_of slots.new) }
 {
-    for slot in slots.iter_mut() {
-        slot.level = level_behind(codes, *slot, code);
+    let mut place = chains.first(code);
+    while place < slots.len() {
+        let level = level_behind(codes, slots[place], code);
+        set_level(slots, word, place, level);
+        place = chains.behind(place);
     }
 }
 
@@ -86,18 +119,32 @@ fn level_changed(codes: &[Vec<u8>], slot: Slot, first: u8, code: &[u8]) -> bool
     }
 }
 
-/// Gives the channels of a code a value of one digit.
+/// Gives the channels of a code a value of one digit, and keeps the word of the levels.
 #[inline(always)]
-pub fn change(codes: &[Vec<u8>], slots: &mut [Slot], first: u8, code: &[u8])
-    ensures { slots.new ≡ map (changed codes.now first code.now) slots.old }
+pub fn change(
+    codes: &[Vec<u8>],
+    chains: &Chains,
+    slots: &mut [Slot],
+    word: &mut Word,
+    first: u8,
+    code: &[u8],
+)
+    requires few { length slots.old ≤ MOST_PINS }
+    requires linked { Linked chains.now (map (channel_of codes.now) slots.old) }
+    requires is { word.old ≡ word_bits (map level_of slots.old) }
+    ensures slots { slots.new ≡ map (changed codes.now first code.now) slots.old }
+    ensures is { word.new ≡ word_bits (map level_of slots.new) }
 {
-    for slot in slots.iter_mut() {
-        slot.level = level_changed(codes, *slot, first, code);
+    let mut place = chains.first(code);
+    while place < slots.len() {
+        let level = level_changed(codes, slots[place], first, code);
+        set_level(slots, word, place, level);
+        place = chains.behind(place);
     }
 }
 
 // A level as a number.
-fn level_bit(level: bool) -> u64
+fn level_bit(level: bool) -> Word
     ensures bit { result ≡ level_bit level }
     ensures small { result ≤ 1 }
 {
@@ -106,7 +153,7 @@ fn level_bit(level: bool) -> u64
 
 /// The word of the levels.
 pub fn word_of(slots: &[Slot]) -> Word
-    requires { length slots.now ≤ 64 }
+    requires { length slots.now ≤ MOST_PINS }
     ensures { result ≡ word_bits (map level_of slots.now) }
 {
     let mut word = 0;

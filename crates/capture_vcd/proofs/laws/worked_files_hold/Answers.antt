@@ -1,14 +1,14 @@
 use Rattle.std.proofs.Common.{refl, arith, [], ◌∷◌, ◌++◌, ◌^◌, codes}
 use Rattle.std.proofs.lemmas.Fmt.{decimal_digit}
 use Rattle.la_io.specs.Capture.{Good, Clean}
-use Rattle.byte_feed.specs.Tokens.{tokens_from}
+use Rattle.byte_feed.specs.Parts.{parts_from}
 use Rattle.capture_vcd.specs.Header.{bit_names}
 use Rattle.capture_vcd.specs.Body.{words_from}
 use Rattle.capture_vcd.specs.Vcd.{vcd_capture}
 use Rattle.capture_vcd.proofs.laws.worked_files_hold.Goals as goal
 
 pub returns : goal.returns
-unfolding vcd_capture tokens_from bit_names words_from
+unfolding vcd_capture parts_from bit_names words_from
 returns c =
     let zero_is = decimal_digit 0 (omega arith) in
     let one_is = decimal_digit 1 (omega arith) in

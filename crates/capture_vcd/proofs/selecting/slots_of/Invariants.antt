@@ -1,5 +1,5 @@
 use Rattle.std.proofs.Common.{◌≡◌, map, take}
-use Rattle.capture_vcd.specs.Reader.{slot_at}
+use Rattle.capture_vcd.specs.Slots.{slot_at}
 use Rattle.capture_vcd.proofs.selecting.slots_of.Given as goal
 
 abbrev pub invariant-loop-pin : goal.invariant-loop-pin

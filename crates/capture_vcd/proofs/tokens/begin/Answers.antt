@@ -2,7 +2,7 @@ use Rattle.std.proofs.Common.{◌≡◌, ◌∙◌, ◌==◌, ℕ, List, [], ◌
 use Rattle.std.proofs.lemmas.Bool.{cond-true, cond-false}
 use Rattle.la_base.specs.Naming.{same_name}
 use Rattle.text_parts.specs.Numbers.{is_number, number_after}
-use Rattle.capture_vcd.specs.Body.{begins, Free}
+use Rattle.capture_vcd.specs.Within.{begins, Free}
 use Rattle.capture_vcd.proofs.tokens.begin.Goals as goal
 
 pub returns-in-Some-2 : goal.returns-in-Some-2

@@ -1,11 +1,8 @@
-use Rattle.std.proofs.Common.{◌≡◌, ◌∙◌, ℕ, ◌-◌, ◌++◌, ap, arith, sym, subst, List, Option, map, replicate}
+use Rattle.std.proofs.Common.{◌≡◌, ◌∙◌, ℕ, ◌-◌, ◌++◌, ap, arith, sym, subst, List, Option, replicate}
 use Rattle.std.proofs.lemmas.List.{append-nil}
 use Rattle.la_io.specs.Capture.{Clean}
 use Rattle.capture_vcd.specs.Body.{samples_before, samples_to}
-use Rattle.capture_vcd.specs.Following.{word_bits}
-use Rattle.capture_vcd.specs.Slots.{level_of}
 use Rattle.capture_vcd.specs.Running.{BodyEnds, channels_in, held_by, held_in, last_of, start_of, word_in}
-use Rattle.capture_vcd.specs.declared.slots.Slot.{Slot}
 use Rattle.capture_vcd.specs.declared.body.Span.{Span}
 use Rattle.capture_vcd.proofs.Running.{parts_empty, parts_hang, samples_are}
 use Rattle.capture_vcd.proofs.Waiting.{all_given, same_run, parts_all}
@@ -35,7 +32,7 @@ returns-clause-gives c = λ items given st.
     let s = c.args.self.now in
     let span = c.in-Some-span.span in
     let count = samples_to (span.last - span.start) s.down - samples_before (span.given - span.start) s.down in
-    let value = c.word_of.ensures ∙ ap (λ (l : List Slot). word_bits (map level_of l)) c.deref.ensures.0 in
+    let value = s.word_is in
     let len = ap (λ (n : ℕ). samples_to (span.last - span.start) s.down - n) c.samples_before.ensures in
     subst (λ (l : List ℕ). BodyEnds s.down (channels_in s) items (given ++ l) Clean) (sym (samples_are _ ∙ same_run count (word_in s) _ _ len value))
     (parts_all s.down (omega (arith, s.down_fits.0)) _ s.slots.items _ _ _ items given (sym c.hanging.ensures ∙ c.in-None.is) span.start span.given span.last (held_in s) (ap start_of c.in-Some-span.is) (ap last_of c.in-Some-span.is) span.in_order

@@ -1,10 +1,7 @@
-use Rattle.std.proofs.Common.{◌∙◌, ◌-◌, ◌≤◌, ap, arith, refl, sym, List, Option, map}
+use Rattle.std.proofs.Common.{◌∙◌, ◌-◌, ◌≤◌, ap, arith, refl, sym, Option}
 use Rattle.la_io.specs.Capture.{Open}
 use Rattle.capture_vcd.specs.Body.{samples_before}
-use Rattle.capture_vcd.specs.Following.{word_bits}
-use Rattle.capture_vcd.specs.Slots.{level_of}
 use Rattle.capture_vcd.specs.Running.{given_by, held_by, last_of, start_of}
-use Rattle.capture_vcd.specs.declared.slots.Slot.{Slot}
 use Rattle.capture_vcd.specs.declared.body.Span.{Span}
 use Rattle.capture_vcd.proofs.Longer.{count_grows}
 use Rattle.capture_vcd.proofs.body.Body.flush.Goals as goal
@@ -28,7 +25,7 @@ returns c =
     let low : samples_before (span.given - span.start) s.down ≤ samples_before (span.last - span.start) s.down = count_grows s.down (omega (arith, s.down_fits.0)) Open (span.given - span.start) (span.last - span.start) (omega (arith, span.in_order)) in
     let some : 1 ≤ c.samples_before.result - c.samples_before-2.result = omega (arith, c.if-len-eq0.false) in
     record {
-      gave = ((λ i. c.samples_before.ensures i - c.samples_before-2.ensures i) ∙ sym (ap (λ (o : Option Span). held_by o s.down) c.in-Some.is), c.word_of.ensures ∙ ap (λ (l : List Slot). word_bits (map level_of l)) c.deref.ensures.0, some);
+      gave = ((λ i. c.samples_before.ensures i - c.samples_before-2.ensures i) ∙ sym (ap (λ (o : Option Span). held_by o s.down) c.in-Some.is), s.word_is, some);
       none = omega arith;
       counts = (omega (arith, low, c.samples_before.ensures, c.samples_before-2.ensures, ap (λ (o : Option Span). given_by o s.down) c.in-Some.is), some);
       codes = refl;

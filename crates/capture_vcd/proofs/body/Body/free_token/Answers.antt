@@ -3,13 +3,14 @@ use Rattle.std.proofs.lemmas.Bool.{cond-true, le-leb}
 use Rattle.text_parts.specs.Places.{Placed}
 use Rattle.la_io.specs.declared.fault.CaptureFault.TheVariants as fault
 use Rattle.capture_vcd.specs.Body.{Time, Wrong}
-use Rattle.capture_vcd.specs.Body as within
+use Rattle.capture_vcd.specs.Within as within
 use Rattle.capture_vcd.specs.Slots.{channel_of, level_of, valued}
 use Rattle.capture_vcd.specs.declared.slots.Slot.{Slot}
 use Rattle.capture_vcd.specs.declared.body.Pending.TheVariants.{Skip, Comment}
-use Rattle.capture_vcd.specs.Marks.{Marked}
+use Rattle.capture_vcd.specs.Body.{Channel}
+use Rattle.capture_vcd.specs.Following.{word_bits}
+use Rattle.capture_vcd.specs.Linked.{Linked}
 use Rattle.capture_vcd.specs.Running.{held_in}
-use Rattle.capture_vcd.proofs.Marking.{marked_valued}
 use Rattle.capture_vcd.proofs.Levels.{channels_valued, levels_keep, refilled}
 use Rattle.capture_vcd.proofs.Running.{parts_fault, parts_on, parts_open, parts_pass}
 use Rattle.capture_vcd.proofs.Waiting.{answers_run, parts_levels}
@@ -77,4 +78,8 @@ invariant_of-self c =
     let s = c.args.self.now in
     let value = c.deref_mut.ensures.value in
     let new_is = refilled _ s.slots.items c.set_values.new.slots (omega (arith, c.set_values.auto.slots, ap length value)) ∙ c.set_values.ensures ∙ ap (λ (l : List Slot). map (valued c.args.rest.now) l) value in
-    record { down_fits = s.down_fits; marked = subst (λ (l : List Slot). Marked s.marks s.codes.items l) (sym new_is) (marked_valued s.marks s.codes.items c.args.rest.now s.slots.items s.marked) }
+    record {
+      down_fits = s.down_fits;
+      linked = subst (λ (channels : List Channel). Linked s.chains channels) (sym (ap (λ (l : List Slot). map (channel_of s.codes.items) l) new_is ∙ channels_valued s.codes.items c.args.rest.now s.slots.items)) s.linked;
+      word_is = s.word_is ∙ sym (ap (λ (l : List Slot). word_bits (map level_of l)) new_is ∙ ap word_bits (levels_keep c.args.rest.now s.slots.items));
+    }

@@ -3,8 +3,9 @@ use Rattle.std.proofs.lemmas.Bool.{cond-true, cond-false, eqb-true}
 use Rattle.std.proofs.lemmas.List.{nil_from_length}
 use Rattle.la_base.specs.Naming.{same_name}
 use Rattle.la_io.specs.declared.fault.CaptureFault.TheVariants as fault
-use Rattle.capture_vcd.specs.Body.{Within, Wrong, begins}
-use Rattle.capture_vcd.specs.Body as within
+use Rattle.capture_vcd.specs.Body.{Wrong}
+use Rattle.capture_vcd.specs.Within.{Within, begins}
+use Rattle.capture_vcd.specs.Within as within
 use Rattle.capture_vcd.specs.Running.{OpenAt, TokenAnswers}
 use Rattle.capture_vcd.specs.declared.body.Pending.{Pending}
 use Rattle.capture_vcd.specs.declared.body.Pending.TheVariants.{Free}

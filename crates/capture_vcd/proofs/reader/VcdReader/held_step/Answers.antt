@@ -4,7 +4,8 @@ use Rattle.la_io.specs.Capture.{Ends, Faulty}
 use Rattle.byte_feed.specs.Reader.{Stands}
 use Rattle.byte_feed.specs.declared.tokens.Tokens.{Tokens}
 use Rattle.capture_vcd.specs.Vcd.{vcd_capture}
-use Rattle.capture_vcd.specs.Running.{channels_in, run_samples}
+use Rattle.capture_vcd.specs.Running.{channels_in}
+use Rattle.la_io.specs.Reading.{run_samples}
 use Rattle.capture_vcd.proofs.Waiting.{flush_form}
 use Rattle.capture_vcd.proofs.Stepping.{fault_ends, faulty_behind, flushed_stands, given_some, head_on, tokens_on}
 use Rattle.capture_vcd.proofs.reader.VcdReader.held_step.Goals as goal

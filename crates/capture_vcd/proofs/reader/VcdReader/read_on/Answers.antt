@@ -1,7 +1,8 @@
 use Rattle.std.proofs.Common.{ap, subst, ℕ, List, [], Ok, Err}
 use Rattle.la_io.specs.Capture.{Told}
 use Rattle.la_io.specs.declared.fault.CaptureError.TheVariants as error
-use Rattle.capture_vcd.specs.Reader.{StandsAs, StepAnswers, is_going}
+use Rattle.capture_vcd.specs.Reader.{StandsAs, StepAnswers}
+use Rattle.capture_vcd.specs.Stepping.{is_going}
 use Rattle.capture_vcd.specs.declared.reader.Phase.{Phase}
 use Rattle.capture_vcd.specs.declared.reader.Step.TheVariants.{Over}
 use Rattle.capture_vcd.proofs.Stepping.{behind_same, consumes_none, going_as}

@@ -2,7 +2,9 @@ use Rattle.std.proofs.Common.{◌≡◌, ℕ, List, true}
 use Rattle.std.specs.Io.KnownBytes.{Consumes, IsAtEnd}
 use Rattle.la_io.specs.Capture.{Told, AtEnd}
 use Rattle.byte_feed.specs.Reader.{left_of}
-use Rattle.capture_vcd.specs.Reader.{Behind, Going, SameReader, is_going, vcd_given, vcd_open}
+use Rattle.capture_vcd.specs.Reader.{Going, SameReader, vcd_given, vcd_open}
+use Rattle.la_io.specs.Reading.{Behind}
+use Rattle.capture_vcd.specs.Stepping.{is_going}
 use Rattle.capture_vcd.proofs.reader.VcdReader.run_on.Given as goal
 
 abbrev pub invariant-body : goal.invariant-body

@@ -1,7 +1,8 @@
 use Rattle.std.proofs.Common.{◌≡◌, ◌∙◌, ap, subst, refl, sym, map, length, List, [], ◌++◌, Option}
 use Rattle.text_parts.specs.Places.{Placed}
 use Rattle.byte_feed.specs.Reader.{Stands}
-use Rattle.capture_vcd.specs.Reader.{StandsAs, slot_at}
+use Rattle.capture_vcd.specs.Reader.{StandsAs}
+use Rattle.capture_vcd.specs.Slots.{slot_at}
 use Rattle.capture_vcd.specs.Slots.{channel_of, level_of}
 use Rattle.capture_vcd.specs.Following.{levels_now}
 use Rattle.capture_vcd.specs.Running.{channels_in, held_by}

@@ -4,7 +4,8 @@ use Rattle.std.proofs.lemmas.List.{append-nil}
 use Rattle.la_io.specs.Capture.{AtEnd, Ends, Faulty}
 use Rattle.byte_feed.specs.Reader.{ended_of}
 use Rattle.capture_vcd.specs.Vcd.{vcd_capture}
-use Rattle.capture_vcd.specs.Running.{channels_in, run_samples, waiting}
+use Rattle.capture_vcd.specs.Running.{channels_in, waiting}
+use Rattle.la_io.specs.Reading.{run_samples}
 use Rattle.capture_vcd.proofs.Waiting.{all_given, flush_form, no_waiting}
 use Rattle.capture_vcd.proofs.Stepping.{clean_ends, fault_ends, faulty_behind, feed_error, given_is, given_some, head_on, told_end, told_still, tokens_on}
 use Rattle.capture_vcd.proofs.reader.VcdReader.step.Goals as goal
