@@ -10,29 +10,33 @@ use Rattle.la_io.specs.declared.fault.CaptureError.TheVariants as error
 use Rattle.la_io.specs.declared.fault.CaptureFault.{CaptureFault}
 use Rattle.la_io.specs.declared.fault.CaptureFault.TheVariants as fault
 use Rattle.la_io.specs.Capture.{Told, AtEnd, Cut, Good, Ending, Clean, Faulty, Open, Captured, Ends}
-use Rattle.byte_feed.specs.Tokens.{Fed, behind}
+use Rattle.byte_feed.specs.Parts.{Fed, behind}
 use Rattle.byte_feed.specs.Lines.{lines_of}
 use Rattle.byte_feed.specs.LineReader.{Answers, Stands, ended_of, is_spent, taken_of, text_of}
-use Rattle.byte_feed.specs.Reader.{told_of}
+use Rattle.byte_feed.specs.Feeding.{told_of}
 use Rattle.byte_feed.specs.declared.fault.FeedFault.{FeedFault}
 use Rattle.byte_feed.specs.declared.fault.FeedFault.TheVariants.{Read, TooLong, Bytes, Spent}
 use Rattle.byte_feed.specs.declared.lines.Lines.{Lines}
-use Rattle.capture_csv.specs.Errors.{error_of}
+use Rattle.byte_feed.specs.Errors.{error_of}
 use Rattle.byte_feed.proofs.LineStanding.{lines_first}
 use Rattle.byte_feed.proofs.LinesCut.{lines_place}
-use Rattle.capture_csv.specs.Csv.{Taken, body_by, body_of, channel_fields, csv_capture, names_by, read_front, record_says, records_give, settled_by}
+use Rattle.capture_csv.specs.Csv.{Taken, body_by, body_of, channel_fields, csv_capture, names_by, record_says, records_give, settled_by}
+use Rattle.text_parts.specs.Reading.{read_front}
 use Rattle.capture_csv.specs.Modes.{skips}
-use Rattle.capture_csv.specs.Reader.{Behind, CsvCause, CsvStands, CsvWants, FirstIs, Going, LineSays, StandsAs, StepAnswers, csv_by, csv_header, csv_mode, csv_names, csv_pins, csv_rate, given_at}
+use Rattle.capture_csv.specs.Plain.{NeedsCsv}
+use Rattle.capture_csv.specs.Reader.{CsvStands, CsvWants, FirstIs, Going, LineSays, NextLine, StandsAs, StepAnswers, csv_by, csv_header, csv_mode, csv_names, csv_pins, csv_rate, given_at}
+use Rattle.la_io.specs.Reading.{Behind, CaptureCause, run_samples}
 use Rattle.capture_csv.specs.Records.{Record, is_passed, record_of, records_in, without_marks}
-use Rattle.capture_csv.specs.Running.{BodyFaulty, BodyStands, EndSays, Flushes, RecordAnswers, held_in, pins_in, row_of, run_samples, want_in}
-use Rattle.capture_csv.specs.declared.mode.CsvMode.{CsvMode}
-use Rattle.capture_csv.specs.declared.mode.CsvMode.TheVariants.{Rows, Times}
+use Rattle.capture_csv.specs.Running.{BodyFaulty, BodyStands, EndSays, FieldsAnswer, Flushes, held_in, pins_in, row_of, want_in}
+use Rattle.capture_csv.specs.declared.body.Body.{Body}
+use Rattle.la_base.specs.declared.modes.CsvMode.{CsvMode}
+use Rattle.la_base.specs.declared.modes.CsvMode.TheVariants.{Rows, Times}
 use Rattle.capture_csv.specs.declared.phase.Step.{Step}
 use Rattle.capture_csv.specs.declared.phase.Step.TheVariants.{Went, Gave, Over}
 use Rattle.capture_csv.specs.declared.phase.Phase.{Phase}
 use Rattle.capture_csv.specs.declared.phase.Phase.TheVariants.{Running}
 use Rattle.capture_csv.specs.declared.reader.CsvReader.{CsvReader}
-use Rattle.capture_csv.proofs.Fronts.{front_some}
+use Rattle.text_parts.proofs.FrontLemmas.{front_some}
 use Rattle.capture_csv.proofs.Longer.{records_more}
 use Rattle.capture_csv.proofs.Taking.{gave_before, gave_open}
 
@@ -119,26 +123,26 @@ module _ (reader new : CsvReader) (bytes : List ℕ) (told : Told) (given : List
       (ap (λ (h : Bool). read_front (record_says (csv_mode new) (csv_rate new).num (csv_rate new).den (want_in new.body)) [] (body_of h first rest ++ row ∷ [])) header ∙ faulty.read) faulty.gave
 
   -- memory is wanted for it
-  pub line_wants : new.body ≡ reader.body → csv_header new ≡ csv_header reader → BodyStands reader.body (body_of (csv_header reader) first rest) given → held_in reader.body ≡ false
+  pub line_wants : NeedsCsv (without_marks (text_of reader.lines)) → new.body ≡ reader.body → csv_header new ≡ csv_header reader → BodyStands reader.body (body_of (csv_header reader) first rest) given → held_in reader.body ≡ false
       → (count : ℕ) × (count < length bytes) × CsvWants bytes count × (given ≡ (csv_by new (take count bytes) Cut).settled)
-  line_wants body header stands held = by_items items refl where
+  line_wants needs body header stands held = by_items items refl where
     by_items : (l : List Placed) → items ≡ l → (count : ℕ) × (count < length bytes) × CsvWants bytes count × (given ≡ (csv_by new (take count bytes) Cut).settled)
     by_items [] is = let none = sym records ∙ ap records_in is in cc
     by_items (one ∷ others) is =
         let taken = lines.stands.taken in
-        let place = lines_place bytes told one others item after.0 (omega (arith, taken, few)) (after.1 ∙ ap (λ (l : List Placed). behind (l ++ item ∷ []) after.0) is) in
+        let all : lines_of bytes told ≡ behind ((one ∷ others) ++ item ∷ []) after.0 = after.1 ∙ ap (λ (l : List Placed). behind (l ++ item ∷ []) after.0) is in
+        let place = lines_place bytes told one others item after.0 (omega (arith, taken, few)) all in
         let ends = csv_ends (csv_mode reader) (csv_header reader) (csv_rate reader).num (csv_rate reader).den (csv_pins reader) (take place.0 bytes) Cut (one ∷ others) Open first rest (want_in reader.body) stands.taken given
         (ap records_in (sym is) ∙ records) head.few head.want_is place.4 stands.read (sym (gave_open (csv_mode reader) (csv_rate reader) (csv_pins reader) (held_in reader.body) stands.taken given stands.gave held)) in
         let same : csv_by new (take place.0 bytes) Cut ≡ csv_by reader (take place.0 bytes) Cut = λ i. csv_capture (body i).mode (header i) (body i).rate.num (body i).rate.den (pins_in (body i)) (take place.0 bytes) Cut in
-        (place.0, place.1, (place.2, place.3), sym (ap (λ (c : Captured). c.settled) same ∙ ends.settled))
+        let next : NextLine bytes place.0 item = record { some = place.2; feed = place.3; lines = one ∷ others; before = place.4; told = told; rest = after.0; all = all } in
+        (place.0, place.1, (item, next, needs), sym (ap (λ (c : Captured). c.settled) same ∙ ends.settled))
 
-  -- what an error of its record means
-  pub line_error : (why : CaptureError) → is_passed (without_marks (text_of reader.lines)) ≡ false → csv_mode new ≡ csv_mode reader → csv_header new ≡ csv_header reader → csv_rate new ≡ csv_rate reader → want_in new.body ≡ want_in reader.body
-      → BodyStands reader.body (body_of (csv_header reader) first rest) given → held_in reader.body ≡ false → (why ≡ error.NoMemory → new.body ≡ reader.body)
-      → RecordAnswers new.body (body_of (csv_header reader) first rest ++ row_of number (without_marks (text_of reader.lines)) ∷ []) given (Err why) → StepAnswers new bytes told given (Err why)
-  line_error (error.Fault f) passed mode header rate want stands held same said = line_faulty f passed mode header rate want said
-  line_error error.Read passed mode header rate want stands held same said = absurd said
-  line_error error.NoMemory passed mode header rate want stands held same said = line_wants (same refl) header stands held
+-- what a record gave, of the text of its line
+pub answer_of : (body : Body) (records : List Record) (given : List ℕ) (number : ℕ) (text line more : List ℕ) (said : Result (Option Run) CaptureFault) (run : Option Run) → text ≡ line → said ≡ Ok run
+    → FieldsAnswer body (records ++ row_of number text ∷ []) given said → given ++ run_samples run ≡ more → BodyStands body (records ++ row_of number line ∷ []) more
+answer_of body records given number text line more said run same is answer gave =
+    coe 0 1 (i. BodyStands body (records ++ row_of number (same i) ∷ []) (gave i)) (subst (λ (r : Result (Option Run) CaptureFault). FieldsAnswer body (records ++ row_of number text ∷ []) given r) is answer)
 
 -- it goes on behind one more line
 module _ (reader new : CsvReader) (bytes : List ℕ) (told : Told) (given : List ℕ) (items : List Placed) (number : ℕ) (first : Record) (rest : List Record) (records : records_in items ≡ first ∷ rest)
@@ -260,7 +264,7 @@ told_on lines bytes before early items st e = by_ended (ended_of lines) refl whe
   by_ended false is = let bad : AtEnd ≡ Cut = sym e ∙ st.told_is ∙ ap told_of is in cc
 
 -- an answer that isn't that the source failed, behind a call that didn't
-pub no_read : {T : Type 0} (before now : ℕ) (result : Result T CaptureError) → (result ≡ Err error.Read → ⊥) → now ≡ before → CsvCause before now result
+pub no_read : {T : Type 0} (before now : ℕ) (result : Result T CaptureError) → (result ≡ Err error.Read → ⊥) → now ≡ before → CaptureCause before now result
 no_read before now (Ok x) other same = same
 no_read before now (Err (error.Fault f)) other same = same
 no_read before now (Err error.Read) other same = absurd (other refl)

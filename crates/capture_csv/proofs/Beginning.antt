@@ -5,17 +5,17 @@ use Rattle.text_parts.specs.Places.{Placed}
 use Rattle.la_io.specs.declared.fault.CaptureError.{CaptureError}
 use Rattle.la_io.specs.Capture.{Told, Cut, Ending}
 use Rattle.byte_feed.specs.Lines.{lines_of}
-use Rattle.byte_feed.specs.Tokens.{Fed}
+use Rattle.byte_feed.specs.Parts.{Fed}
 use Rattle.byte_feed.specs.LineReader.{Answers, taken_of, text_of}
 use Rattle.byte_feed.specs.declared.fault.FeedFault.{FeedFault}
 use Rattle.byte_feed.specs.declared.fault.FeedFault.TheVariants.{Read, TooLong, Bytes, Spent}
 use Rattle.byte_feed.specs.declared.lines.Lines.{Lines}
 use Rattle.capture_csv.specs.Csv.{csv_capture, lines_give, no_record, records_give}
-use Rattle.capture_csv.specs.Errors.{error_of}
+use Rattle.byte_feed.specs.Errors.{error_of}
 use Rattle.capture_csv.specs.Opening.{Blank, FirstSays, HasFirst}
 use Rattle.capture_csv.specs.Records.{Record, is_passed, records_in, without_marks}
 use Rattle.capture_csv.specs.Running.{row_of}
-use Rattle.capture_csv.specs.declared.mode.CsvMode.{CsvMode}
+use Rattle.la_base.specs.declared.modes.CsvMode.{CsvMode}
 use Rattle.capture_csv.proofs.Longer.{records_more}
 
 -- one more line that is passed over

@@ -1,14 +1,14 @@
 -- The levels of fields, as a loop reads them.
-use Rattle.std.proofs.Common.{◌≡◌, ℕ, ◌+◌, ◌-◌, ◌≤◌, ◌<◌, ◌⊎◌, inl, inr, List, [], ◌∷◌, ◌++◌, take, drop, length, map, set, refl, sym, ◌∙◌, ap, subst, arith, append_assoc, min, get_or, length-drop, length-set, length-take-le, take-append-drop, slice_index, All, Bool, true, false, Option, Some, None, Result, Ok, Err, zero, suc}
-use Rattle.std.proofs.lemmas.List.{append-nil, drop-drop, drop_more, get_or-take, take_all, take_more_set}
-use Rattle.std.proofs.lemmas.List.Elements.{All-from_get_or}
-use Rattle.std.proofs.lemmas.List.Splits.{slice_split_at, slice_split_none}
-use Rattle.std.specs.List.{slice_split}
+use Rattle.std.proofs.Common.{◌≡◌, ℕ, ◌+◌, ◌≤◌, ◌<◌, List, [], ◌∷◌, ◌++◌, take, drop, length, map, set, refl, sym, ◌∙◌, ap, subst, arith, append_assoc, min, get_or, length-append, length-drop, length-set, Bool, Option, Some, None, Result, Ok, Err, zero, suc}
+use Rattle.std.proofs.lemmas.List.{append-nil, drop-drop, drop_at, drop_more, take_all, take_at, take_more_set}
 use Rattle.la_io.specs.declared.fault.CaptureFault.{CaptureFault}
-use Rattle.capture_csv.specs.Csv.{before_levels, levels_of}
 use Rattle.csv.specs.Records.{field_at}
+use Rattle.capture_csv.specs.Csv.{before_levels, levels_of}
+use Rattle.capture_csv.specs.Plain.{AllSimple, IsSimple, Written, line_of, texts_of, written}
 use Rattle.capture_csv.specs.Records.{trimmed}
-use Rattle.capture_csv.specs.Values.{AllWithin, LevelIs, LevelsRead, is_comma}
+use Rattle.capture_csv.specs.Simple.{BeginsSimply, FirstLen, IsSimpleLine}
+use Rattle.capture_csv.specs.Values.{LevelIs, LevelsRead}
+use Rattle.capture_csv.proofs.SimpleLines.{behind_of, line_begins}
 
 -- levels before those of more fields
 abbrev pub joined : List Bool → Result (List Bool) CaptureFault → Result (List Bool) CaptureFault
@@ -53,95 +53,72 @@ pub half_done : (column : ℕ) (all : List (List ℕ)) (levels : List Bool) (k :
 half_done column all levels k (field ∷ left) half done line = absurd (omega (arith, half.len, done))
 half_done column all levels k [] half done line = half.so_far line ∙ ap Ok (append-nil (take k levels) ∙ take_all k levels done)
 
--- the fields of a line from its first comma on
-pub split_first : (text : List ℕ) (n : ℕ) → n ≤ length text → AllWithin text n → (n < length text → is_comma (slice_index text n) ≡ true)
-    → ((n < length text) × (slice_split is_comma text ≡ take n text ∷ slice_split is_comma (drop (n + 1) text))) ⊎ ((n ≡ length text) × (slice_split is_comma text ≡ take n text ∷ []))
-split_first text n within before behind = by_place (search arith) where
-  word : List ℕ
-  word = take n text
+-- fields of a line of simple fields are read: what stands from `from` on are the others
+pub record ReadTo (text : List ℕ) (from column : ℕ) (fields : List (List ℕ)) (levels : List Bool) (k : ℕ) : Type 0 where
+  pub left : List Written
+  pub simple : AllSimple left
+  pub half : Half column fields levels k (texts_of left)
+  pub ahead : 0 < length left → drop from text ≡ line_of left
 
-  word_len : length word ≡ n
-  word_len = length-take-le n text within
+pub none_read : (text : List ℕ) (column : ℕ) (fields : List (List ℕ)) (levels : List Bool) → IsSimpleLine text fields → length fields ≡ length levels → ReadTo text 0 column fields levels 0
+none_read text column fields levels line same = record {
+  left = line.all;
+  simple = line.each;
+  half = subst (λ (l : List (List ℕ)). Half column fields levels 0 l) line.fields_are (half_begun column fields levels same);
+  ahead = λ some. line.line;
+}
 
-  word_in : All (λ (x : ℕ). is_comma x ≡ false) word
-  word_in = All-from_get_or (λ (x : ℕ). is_comma x ≡ false) word 0 (λ k less. let below : k < n = omega (arith, less, word_len) in ap is_comma (get_or-take n text k 0 below) ∙ before k below)
+-- one field more: what stands from `from` on is `rest`, whose first field takes so many bytes
+module _ (text rest : List ℕ) (from column k : ℕ) (fields : List (List ℕ)) (levels : List Bool) (rest_of : rest ≡ drop from text) (read : ReadTo text from column fields levels k) (less : k < length levels) where
+  by_left : (P : Type 0) → ((field : Written) (others : List Written) → IsSimple field → AllSimple others → Half column fields levels k (field.text ∷ texts_of others) → rest ≡ line_of (field ∷ others) → P) → P
+  by_left P says = by_fields read.left read.simple read.half read.ahead where
+    by_fields : (left : List Written) → AllSimple left → Half column fields levels k (texts_of left) → (0 < length left → drop from text ≡ line_of left) → P
+    by_fields [] simple half ahead = absurd (let len = half.len in omega (arith, len, less))
+    by_fields (field ∷ others) simple half ahead = says field others simple.0 simple.1 half (rest_of ∙ ahead (omega arith))
 
-  by_place : (n < length text) ⊎ (n ≡ length text)
-      → ((n < length text) × (slice_split is_comma text ≡ take n text ∷ slice_split is_comma (drop (n + 1) text))) ⊎ ((n ≡ length text) × (slice_split is_comma text ≡ take n text ∷ []))
-  by_place (inl less) =
-      let split : text ≡ word ++ slice_index text n ∷ drop (n + 1) text = sym (take-append-drop n text) ∙ ap (λ (l : List ℕ). word ++ l) (drop_more text n 0 less) in
-      inl (less, ap (λ (l : List ℕ). slice_split is_comma l) split ∙ slice_split_at is_comma word (slice_index text n) (drop (n + 1) text) word_in (behind less))
-  by_place (inr all) =
-      let same : text ≡ word = sym (take_all n text (omega (arith, all))) in
-      inr (all, ap (λ (l : List ℕ). slice_split is_comma l) same ∙ slice_split_none is_comma word word_in)
+  pub simple_begins : BeginsSimply rest
+  simple_begins = by_left (BeginsSimply rest) (λ field others simple all half is. (field, behind_of others, line_begins rest field others simple is))
 
--- what is left of a line behind its next field
-pub split_next : (text : List ℕ) (n : ℕ) (field : List ℕ) (left : List (List ℕ)) → n ≤ length text → AllWithin text n → (n < length text → is_comma (slice_index text n) ≡ true) → field ∷ left ≡ slice_split is_comma text
-    → (field ≡ take n text) × (0 < length left → (n < length text) × (left ≡ slice_split is_comma (drop (n + 1) text)))
-split_next text n field left within before behind is = by_case (split_first text n within before behind) where
-  heads : {x y : List ℕ} {xs ys : List (List ℕ)} → x ∷ xs ≡ y ∷ ys → x ≡ y
-  heads e = cc
+  module _ (n : ℕ) (first : FirstLen rest n) (bytes : List ℕ) (bytes_of : (w : Written) → IsSimple w → take n rest ≡ written w → bytes ≡ w.text) where
+    text_is : (field : Written) (others : List Written) → IsSimple field → rest ≡ line_of (field ∷ others) → bytes ≡ field.text
+    text_is field others simple is =
+        let b = line_begins rest field others simple is in
+        bytes_of field simple (ap (λ (l : List ℕ). take n l) b.is ∙ take_at (written field) (behind_of others) n (sym (first field (behind_of others) b)))
 
-  tails : {x y : List ℕ} {xs ys : List (List ℕ)} → x ∷ xs ≡ y ∷ ys → xs ≡ ys
-  tails e = cc
+    pub simple_fault : LevelIs (trimmed bytes) None → LevelsRead column (map trimmed fields) levels (Some (column + k))
+    simple_fault says = by_left (LevelsRead column (map trimmed fields) levels (Some (column + k))) (λ field others simple all half is.
+        half_fault column fields levels k field.text (texts_of others) half (subst (λ (l : List ℕ). LevelIs (trimmed l) None) (text_is field others simple is) says))
 
-  by_case : ((n < length text) × (slice_split is_comma text ≡ take n text ∷ slice_split is_comma (drop (n + 1) text))) ⊎ ((n ≡ length text) × (slice_split is_comma text ≡ take n text ∷ []))
-      → (field ≡ take n text) × (0 < length left → (n < length text) × (left ≡ slice_split is_comma (drop (n + 1) text)))
-  by_case (inl one) = (heads (is ∙ one.1), λ some. (one.0, tails (is ∙ one.1)))
-  by_case (inr one) = (heads (is ∙ one.1), λ some. absurd (omega (arith, some, ap length (tails (is ∙ one.1)))))
+    pub simple_next : (level : Bool) (next : ℕ) → LevelIs (trimmed bytes) (Some level) → next ≡ min (from + n + 1) (length text) → ReadTo text next column fields (set levels k level) (k + 1)
+    simple_next level next says next_is = by_left (ReadTo text next column fields (set levels k level) (k + 1)) (λ field others simple all half is. record {
+      left = others;
+      simple = all;
+      half = half_next column fields levels k field.text (texts_of others) level half (subst (λ (l : List ℕ). LevelIs (trimmed l) (Some level)) (text_is field others simple is) says);
+      ahead = λ some. by_others field others simple is some;
+    }) where
+      by_others : (field : Written) (others : List Written) → IsSimple field → rest ≡ line_of (field ∷ others) → 0 < length others → drop next text ≡ line_of others
+      by_others field [] simple is some = absurd (omega (arith, some))
+      by_others field (other ∷ others) simple is some =
+          let len = first field (behind_of (other ∷ others)) (line_begins rest field (other ∷ others) simple is) in
+          let on : drop (n + 1) rest ≡ line_of (other ∷ others) = ap (λ (l : List ℕ). drop (n + 1) l) (is ∙ sym (append_assoc (written field) (44 ∷ []) (line_of (other ∷ others)))) ∙ drop_at (written field ++ 44 ∷ []) (line_of (other ∷ others)) (n + 1) (omega (arith, len, length-append (written field) (44 ∷ []))) in
+          let place : next ≡ from + (n + 1) = omega (arith, next_is, len, ap length is, length-append (written field) (44 ∷ line_of (other ∷ others)), ap length rest_of, length-drop from text) in
+          ap (λ (m : ℕ). drop m text) place ∙ sym (drop-drop (n + 1) from text) ∙ ap (λ (l : List ℕ). drop (n + 1) l) (sym rest_of) ∙ on
 
--- a list that isn't empty has a first part
-pub some_left : {X : Type 0} (k : ℕ) (levels : List Bool) (left : List X) → k + length left ≡ length levels → k < length levels → (x : X) × (rest : List X) × (left ≡ x ∷ rest)
-some_left k levels [] is less = absurd (omega (arith, is, less))
-some_left k levels (x ∷ rest) is less = (x, rest, refl)
-
-pub rest_is : (xs : List ℕ) (n : ℕ) → take (length xs - n) (drop n xs) ≡ drop n xs
-rest_is xs n = take_all (length xs - n) (drop n xs) (omega (arith, length-drop n xs))
-
--- one field more of a line: what stands from `from` on is `rest`, and its first comma at n
-module _ (text rest : List ℕ) (from n column k : ℕ) (levels : List Bool) (left : List (List ℕ)) (rest_of : rest ≡ drop from text) (within : n ≤ length rest) (before : AllWithin rest n) (behind : n < length rest → is_comma (slice_index rest n) ≡ true)
-    (half : Half column (slice_split is_comma text) levels k left) (ahead : 0 < length left → left ≡ slice_split is_comma (drop from text)) (less : k < length levels) where
-  some : (x : List ℕ) × (others : List (List ℕ)) × (left ≡ x ∷ others)
-  some = some_left k levels left half.len less
-
-  split : some.0 ∷ some.1 ≡ slice_split is_comma rest
-  split = sym some.2 ∙ ahead (omega (arith, ap length some.2)) ∙ ap (λ (l : List ℕ). slice_split is_comma l) (sym rest_of)
-
-  first : (some.0 ≡ take n rest) × (0 < length some.1 → (n < length rest) × (some.1 ≡ slice_split is_comma (drop (n + 1) rest)))
-  first = split_next rest n some.0 some.1 within before behind split
-
-  here : Half column (slice_split is_comma text) levels k (take n rest ∷ some.1)
-  here = subst (λ (f : List ℕ). Half column (slice_split is_comma text) levels k (f ∷ some.1)) first.0 (subst (λ (l : List (List ℕ)). Half column (slice_split is_comma text) levels k l) some.2 half)
-
-  pub plain_next : (level : Bool) (next : ℕ) → LevelIs (trimmed (take n rest)) (Some level) → next ≡ min (from + n + 1) (length text)
-      → (left : List (List ℕ)) × Half column (slice_split is_comma text) (set levels k level) (k + 1) left × (0 < length left → left ≡ slice_split is_comma (drop next text))
-  plain_next level next is next_is = (
-    some.1,
-    half_next column (slice_split is_comma text) levels k (take n rest) some.1 level here is,
-    λ more.
-        let one = first.1 more in
-        let place : from + (n + 1) ≡ next = omega (arith, one.0, next_is, ap length rest_of, length-drop from text) in
-        one.1 ∙ ap (λ (l : List ℕ). slice_split is_comma (drop (n + 1) l)) rest_of ∙ ap (λ (l : List ℕ). slice_split is_comma l) (drop-drop (n + 1) from text) ∙ ap (λ (m : ℕ). slice_split is_comma (drop m text)) place,
-  )
-
-  pub plain_fault : LevelIs (trimmed (take n rest)) None → LevelsRead column (map trimmed (slice_split is_comma text)) levels (Some (column + k))
-  plain_fault is = half_fault column (slice_split is_comma text) levels k (take n rest) some.1 here is
-
--- one field more of a record
+-- one field more of a record that `csv` read
 module _ (fields : List (List ℕ)) (first column k : ℕ) (levels : List Bool) (half : Half column (drop first fields) levels k (drop (first + k) fields)) (less : first + k < length fields) where
   now : drop (first + k) fields ≡ get_or fields (first + k) [] ∷ drop (first + k + 1) fields
   now = drop_more fields (first + k) [] less
 
-  quoted_here : Half column (drop first fields) levels k (get_or fields (first + k) [] ∷ drop (first + k + 1) fields)
-  quoted_here = subst (λ (l : List (List ℕ)). Half column (drop first fields) levels k l) now half
+  csv_here : Half column (drop first fields) levels k (get_or fields (first + k) [] ∷ drop (first + k + 1) fields)
+  csv_here = subst (λ (l : List (List ℕ)). Half column (drop first fields) levels k l) now half
 
-  pub quoted_next : (level : Bool) → LevelIs (trimmed (get_or fields (first + k) [])) (Some level) → Half column (drop first fields) (set levels k level) (k + 1) (drop (first + (k + 1)) fields)
-  quoted_next level is =
+  pub csv_next : (level : Bool) → LevelIs (trimmed (get_or fields (first + k) [])) (Some level) → Half column (drop first fields) (set levels k level) (k + 1) (drop (first + (k + 1)) fields)
+  csv_next level is =
       let place : first + k + 1 ≡ first + (k + 1) = omega arith in
-      subst (λ (m : ℕ). Half column (drop first fields) (set levels k level) (k + 1) (drop m fields)) place (half_next column (drop first fields) levels k (get_or fields (first + k) []) (drop (first + k + 1) fields) level quoted_here is)
+      subst (λ (m : ℕ). Half column (drop first fields) (set levels k level) (k + 1) (drop m fields)) place (half_next column (drop first fields) levels k (get_or fields (first + k) []) (drop (first + k + 1) fields) level csv_here is)
 
-  pub quoted_fault : LevelIs (trimmed (get_or fields (first + k) [])) None → LevelsRead column (map trimmed (drop first fields)) levels (Some (column + k))
-  quoted_fault is = half_fault column (drop first fields) levels k (get_or fields (first + k) []) (drop (first + k + 1) fields) quoted_here is
+  pub csv_fault : LevelIs (trimmed (get_or fields (first + k) [])) None → LevelsRead column (map trimmed (drop first fields)) levels (Some (column + k))
+  csv_fault is = half_fault column (drop first fields) levels k (get_or fields (first + k) []) (drop (first + k + 1) fields) csv_here is
 
 -- a field of a record
 pub field_is : (fields : List (List ℕ)) (place : ℕ) → place < length fields → field_at fields place ≡ Some (get_or fields place [])

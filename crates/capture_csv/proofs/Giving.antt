@@ -4,17 +4,18 @@ use Rattle.std.proofs.lemmas.List.{append-nil, map-append}
 use Rattle.la_base.specs.declared.samples.Rate.{Rate}
 use Rattle.la_io.specs.declared.fault.CaptureFault.{CaptureFault}
 use Rattle.la_io.specs.Capture.{Told, Good, Open, Captured}
-use Rattle.capture_csv.specs.Csv.{Taken, body_by, body_ending, body_of, names_by, read_front, record_says, settled_by, word_of}
+use Rattle.capture_csv.specs.Csv.{Taken, body_by, body_ending, body_of, names_by, record_says, settled_by, word_of}
+use Rattle.text_parts.specs.Reading.{read_front}
 use Rattle.capture_csv.specs.Reader.{Going, GivenIsFront, StandsAs, csv_by, csv_header, csv_mode, csv_pins, csv_rate}
 use Rattle.capture_csv.specs.Records.{records_in}
 use Rattle.capture_csv.specs.Running.{Gave, held_in, want_in}
-use Rattle.capture_csv.specs.declared.mode.CsvMode.{CsvMode}
-use Rattle.capture_csv.specs.declared.mode.CsvMode.TheVariants.{Rows, Times}
+use Rattle.la_base.specs.declared.modes.CsvMode.{CsvMode}
+use Rattle.la_base.specs.declared.modes.CsvMode.TheVariants.{Rows, Times}
 use Rattle.capture_csv.specs.declared.phase.Phase.{Phase}
 use Rattle.capture_csv.specs.declared.phase.Phase.TheVariants.{Running, Ended, Empty, Refused}
 use Rattle.capture_csv.specs.declared.reader.CsvReader.{CsvReader}
 use Rattle.capture_csv.proofs.Answering.{body_more, csv_is, given_lines}
-use Rattle.capture_csv.proofs.Fronts.{front_none}
+use Rattle.text_parts.proofs.FrontLemmas.{front_none}
 use Rattle.capture_csv.proofs.Longer.{settled_more}
 
 -- the samples given are the first of those settled where the lines go on

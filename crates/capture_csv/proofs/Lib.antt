@@ -1,12 +1,12 @@
 pub mod FieldReading
 pub mod Plain
-pub mod Fronts
 pub mod Words
 pub mod Longer
 pub mod Trimming
 pub mod Numbers
 pub mod FieldLevels
-pub mod Digits
+pub mod DigitLines
+pub mod SimpleLines
 pub mod Taking
 pub mod Finding
 pub mod Lines

@@ -1,32 +1,20 @@
 -- The record of a line.
-use Rattle.std.proofs.Common.{◌≡◌, ℕ, ◌+◌, ◌≤◌, ◌<◌, List, [], ◌∷◌, ◌++◌, length, map, sym, ◌∙◌, ap, subst, arith, length-append, Option, Some, None, Result, Ok, Err, Bool, true, false, cond}
-use Rattle.std.proofs.lemmas.List.{length-map}
-use Rattle.std.proofs.lemmas.List.Splits.{length-slice_split}
-use Rattle.std.specs.List.{count_by}
+use Rattle.std.proofs.Common.{◌≡◌, ℕ, ◌+◌, ◌≤◌, List, [], ◌∷◌, ◌++◌, length, map, sym, ◌∙◌, ap, subst, arith, length-append, Option, Some, None, Bool, true, false, cond}
 use Rattle.csv.specs.Machine.{Read, field_after, fields_after, is_end, next_record, step, ends_at_end}
 use Rattle.csv.specs.Reading.{default_config}
 use Rattle.csv.specs.declared.parser.Action.{Action}
 use Rattle.csv.specs.declared.parser.Action.TheVariants as act
 use Rattle.csv.specs.declared.parser.State.{State}
 use Rattle.csv.specs.declared.parser.State.TheVariants as st
-use Rattle.la_base.specs.declared.samples.Run.{Run}
-use Rattle.la_io.specs.declared.fault.CaptureError.{CaptureError}
 use Rattle.la_io.specs.declared.fault.CaptureFault.{CaptureFault}
 use Rattle.la_io.specs.declared.fault.CaptureFault.TheVariants.{Columns}
 use Rattle.capture_csv.specs.Fields.{fields_in, record_fields}
-use Rattle.capture_csv.specs.Plain.{IsPlain}
 use Rattle.capture_csv.specs.Records.{Record, trimmed}
-use Rattle.capture_csv.specs.Running.{BodyAt, BodyFaulty, BodyStands, Counts, FieldsAnswer, FoundIs, RecordAnswers, SameButLevels, TakenCounts, as_error, held_in, pins_in, row_of}
-use Rattle.capture_csv.specs.Values.{is_comma}
+use Rattle.capture_csv.specs.Running.{BodyAt, BodyFaulty, BodyStands, FoundIs, SameButLevels, held_in, pins_in, row_of}
 use Rattle.capture_csv.specs.declared.body.Body.{Body}
-use Rattle.capture_csv.specs.declared.mode.CsvMode.{CsvMode}
+use Rattle.la_base.specs.declared.modes.CsvMode.{CsvMode}
 use Rattle.capture_csv.specs.declared.span.Found.{Found}
-use Rattle.capture_csv.proofs.Plain.{plain_is_split}
 use Rattle.capture_csv.proofs.Taking.{body_faulty, columns_said}
-
--- how many fields a line without quotes has
-pub plain_len : (text : List ℕ) → 0 < length text → IsPlain text → length (map trimmed (fields_in text)) ≡ count_by is_comma text + 1
-plain_len text some plain = length-map (fields_in text) trimmed ∙ ap length (plain_is_split text some plain) ∙ length-slice_split is_comma text
 
 -- a line has no more fields than bytes, and one more
 after_len : (a : Action) (fields : List (List ℕ)) (field : List ℕ) → length (fields_after a fields field) ≤ length fields + 1
@@ -72,11 +60,3 @@ still_stands old mid records given form stands =
 
 pub found_of : (mode other : CsvMode) (fields others : List (List ℕ)) (levels : List Bool) (found : Found) → other ≡ mode → fields ≡ others → FoundIs mode (map trimmed fields) levels found → FoundIs other (map trimmed others) levels found
 found_of mode other fields others levels found same is h = coe 0 1 (i. FoundIs (sym same i) (map trimmed (is i)) levels found) h
-
-pub as_record : (body : Body) (records : List Record) (given : List ℕ) (said : Result (Option Run) CaptureFault) (answer : Result (Option Run) CaptureError) → answer ≡ as_error said → FieldsAnswer body records given said → RecordAnswers body records given answer
-as_record body records given (Ok run) answer is h = subst (λ (r : Result (Option Run) CaptureError). RecordAnswers body records given r) (sym is) h
-as_record body records given (Err fault) answer is h = subst (λ (r : Result (Option Run) CaptureError). RecordAnswers body records given r) (sym is) h
-
-pub as_counts : (old new : Body) (said : Result (Option Run) CaptureFault) (answer : Result (Option Run) CaptureError) → answer ≡ as_error said → TakenCounts old new said → Counts old new answer
-as_counts old new (Ok run) answer is h = subst (λ (r : Result (Option Run) CaptureError). Counts old new r) (sym is) h
-as_counts old new (Err fault) answer is h = subst (λ (r : Result (Option Run) CaptureError). Counts old new r) (sym is) h

@@ -7,18 +7,19 @@ use Rattle.text_parts.specs.Places.{Placed}
 use Rattle.la_io.specs.declared.fault.CaptureFault.{CaptureFault}
 use Rattle.la_io.specs.declared.fault.CaptureFault.TheVariants as fault
 use Rattle.la_io.specs.Capture.{Cut, Head, Good, Bad, Ending, Clean, Faulty, Open, Captured}
-use Rattle.byte_feed.specs.Tokens.{Fed}
+use Rattle.byte_feed.specs.Parts.{Fed}
 use Rattle.byte_feed.specs.Lines.{lines_of}
 use Rattle.byte_feed.specs.Laws.{Extends}
 use Rattle.byte_feed.proofs.LinesLonger.{lines_extend}
 use Rattle.capture_csv.specs.Records.{Record, record_of, records_in}
 use Rattle.capture_csv.specs.Times.{from_zero, sample_at, time_in}
-use Rattle.capture_csv.specs.Csv.{Taken, after_one, body_by, body_ending, body_of, channel_fields, count_by, csv_capture, fields_say, first_time, last_time, levels_of, lines_give, names_by, read_front, record_says, records_give, settled_by, taken_at, timed, timed_words, word_of}
+use Rattle.capture_csv.specs.Csv.{Taken, body_by, body_ending, body_of, channel_fields, count_by, csv_capture, fields_say, first_time, last_time, levels_of, lines_give, names_by, record_says, records_give, settled_by, taken_at, timed, timed_words, word_of}
+use Rattle.text_parts.specs.Reading.{after_one, read_front}
 use Rattle.capture_csv.specs.Laws.{GoesOn, LongerGoesOn, PinsLeaveTheEnding, PinsLeaveTheHead}
 use Rattle.capture_csv.specs.Stretches.{LateFrom}
-use Rattle.capture_csv.specs.declared.mode.CsvMode.{CsvMode}
-use Rattle.capture_csv.specs.declared.mode.CsvMode.TheVariants.{Rows, Times}
-use Rattle.capture_csv.proofs.Fronts.{front_keeps, front_none, front_some}
+use Rattle.la_base.specs.declared.modes.CsvMode.{CsvMode}
+use Rattle.la_base.specs.declared.modes.CsvMode.TheVariants.{Rows, Times}
+use Rattle.text_parts.proofs.FrontLemmas.{front_keeps, front_none, front_some}
 use Rattle.capture_csv.proofs.Words.{sample_rises, words_longer}
 
 -- the records of more lines

@@ -10,22 +10,23 @@ use Rattle.la_io.specs.declared.fault.CaptureFault.TheVariants as fault
 use Rattle.la_io.specs.Capture.{Told, AtEnd, Cut, Good, Bad, Ending, Clean, Faulty, Open, Captured, Ends}
 use Rattle.byte_feed.specs.LineReader.{Stands, is_spent, taken_of, text_of}
 use Rattle.byte_feed.specs.Lines.{lines_of}
-use Rattle.byte_feed.specs.Tokens.{Fed, behind}
+use Rattle.byte_feed.specs.Parts.{Fed, behind}
 use Rattle.byte_feed.specs.declared.lines.Lines.{Lines}
-use Rattle.capture_csv.specs.Csv.{Taken, after_one, body_by, body_of, channel_fields, csv_capture, lines_give, names_by, read_front, record_says, records_give, settled_by}
+use Rattle.capture_csv.specs.Csv.{Taken, body_by, body_of, channel_fields, csv_capture, lines_give, names_by, record_says, records_give, settled_by}
+use Rattle.text_parts.specs.Reading.{after_one, read_front}
 use Rattle.capture_csv.specs.Modes.{skips}
 use Rattle.capture_csv.specs.Opening.{Blank, FirstSays, HasFirst, IsNew, Makes, MakesEmpty, Opened, StartsAs}
 use Rattle.capture_csv.specs.Reader.{NoRecord, StandsAs, csv_names}
 use Rattle.capture_csv.specs.Records.{Record, is_passed, records_in, without_marks}
 use Rattle.capture_csv.specs.Running.{BodyStands, row_of, want_in}
-use Rattle.capture_csv.specs.declared.mode.CsvMode.{CsvMode}
-use Rattle.capture_csv.specs.declared.mode.CsvMode.TheVariants.{Rows, Times}
+use Rattle.la_base.specs.declared.modes.CsvMode.{CsvMode}
+use Rattle.la_base.specs.declared.modes.CsvMode.TheVariants.{Rows, Times}
 use Rattle.capture_csv.specs.declared.phase.Phase.{Phase}
 use Rattle.capture_csv.specs.declared.phase.Phase.TheVariants.{Running, Ended, Empty, Refused}
 use Rattle.capture_csv.specs.declared.reader.CsvReader.{CsvReader}
 use Rattle.capture_csv.proofs.Answering.{csv_is, given_lines}
 use Rattle.capture_csv.proofs.Beginning.{no_record_is}
-use Rattle.capture_csv.proofs.Fronts.{front_some}
+use Rattle.text_parts.proofs.FrontLemmas.{front_some}
 use Rattle.capture_csv.proofs.Longer.{records_more}
 
 -- how many channels a record has

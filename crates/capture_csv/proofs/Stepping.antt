@@ -5,10 +5,11 @@ use Rattle.std.specs.Io.KnownBytes.{Consumes, IsAtEnd}
 use Rattle.la_io.specs.Capture.{Told, AtEnd}
 use Rattle.byte_feed.specs.LineReader.{number_of}
 use Rattle.capture_csv.specs.Modes.{at_of}
-use Rattle.capture_csv.specs.Reader.{Behind, Going, SameReader, csv_given, csv_mode, given_at}
+use Rattle.capture_csv.specs.Reader.{Going, SameReader, csv_given, csv_mode, given_at}
+use Rattle.la_io.specs.Reading.{Behind}
 use Rattle.capture_csv.specs.Running.{held_in}
-use Rattle.capture_csv.specs.declared.mode.CsvMode.{CsvMode}
-use Rattle.capture_csv.specs.declared.mode.CsvMode.TheVariants.{Rows, Times}
+use Rattle.la_base.specs.declared.modes.CsvMode.{CsvMode}
+use Rattle.la_base.specs.declared.modes.CsvMode.TheVariants.{Rows, Times}
 use Rattle.capture_csv.specs.declared.phase.Phase.{Phase}
 use Rattle.capture_csv.specs.declared.phase.Phase.TheVariants.{Running, Ended, Empty, Refused}
 use Rattle.capture_csv.specs.declared.reader.CsvReader.{CsvReader}

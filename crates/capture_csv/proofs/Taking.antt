@@ -11,7 +11,8 @@ use Rattle.la_base.specs.declared.samples.Run.{Run}
 use Rattle.la_io.specs.Capture.{Faulty, Open, Clean}
 use Rattle.la_io.specs.declared.fault.CaptureFault.{CaptureFault}
 use Rattle.la_io.specs.declared.fault.CaptureFault.TheVariants as fault
-use Rattle.capture_csv.specs.Csv.{Taken, after_one, fields_say, first_time, levels_at, last_time, levels_of, read_front, record_says, settled_by, taken_at, timed, timed_words, word_of, words_from}
+use Rattle.capture_csv.specs.Csv.{Taken, fields_say, first_time, levels_at, last_time, levels_of, record_says, settled_by, taken_at, timed, timed_words, word_of, words_from}
+use Rattle.text_parts.specs.Reading.{after_one, read_front}
 use Rattle.capture_csv.specs.Modes.{at_of, sample_of}
 use Rattle.capture_csv.specs.Records.{Record}
 use Rattle.capture_csv.specs.Running.{BodyAt, BodyFaulty, FoundIs, Gave, GaveRows, Keeps, SpanFrom, SpanIs, Spans, pins_in, words_of}
@@ -19,11 +20,11 @@ use Rattle.capture_csv.specs.Stretches.{TimesTo, levels_now}
 use Rattle.capture_csv.specs.Times.{from_zero, sample_at}
 use Rattle.capture_csv.specs.Values.{LevelsRead}
 use Rattle.capture_csv.specs.declared.body.Body.{Body}
-use Rattle.capture_csv.specs.declared.mode.CsvMode.{CsvMode}
-use Rattle.capture_csv.specs.declared.mode.CsvMode.TheVariants.{Rows, Times}
+use Rattle.la_base.specs.declared.modes.CsvMode.{CsvMode}
+use Rattle.la_base.specs.declared.modes.CsvMode.TheVariants.{Rows, Times}
 use Rattle.capture_csv.specs.declared.span.Found.{Found}
 use Rattle.capture_csv.specs.declared.span.Span.{Span}
-use Rattle.capture_csv.proofs.Fronts.{front_none}
+use Rattle.text_parts.proofs.FrontLemmas.{front_none}
 use Rattle.capture_csv.proofs.Longer.{last_on}
 use Rattle.capture_csv.proofs.Words.{last_is_run, sample_rises, stretch_is_run}
 

@@ -6,12 +6,13 @@ use Rattle.la_base.specs.Naming.{same_name}
 use Rattle.la_io.specs.declared.fault.CaptureFault.{CaptureFault}
 use Rattle.la_io.specs.declared.fault.CaptureFault.TheVariants as fault
 use Rattle.la_io.specs.Capture.{Told, Head, Good, Bad, Unread, Ending, Clean, Faulty, Open, Captured}
-use Rattle.byte_feed.specs.Tokens.{Fed}
+use Rattle.text_parts.specs.Reading.{read_front}
+use Rattle.byte_feed.specs.Parts.{Fed}
 use Rattle.byte_feed.specs.Lines.{lines_of}
 use Rattle.capture_csv.specs.Records.{Record, records_in}
 use Rattle.capture_csv.specs.Times.{from_zero, sample_at, time_in}
-use Rattle.capture_csv.specs.declared.mode.CsvMode.{CsvMode}
-use Rattle.capture_csv.specs.declared.mode.CsvMode.TheVariants.{Rows, Times}
+use Rattle.la_base.specs.declared.modes.CsvMode.{CsvMode}
+use Rattle.la_base.specs.declared.modes.CsvMode.TheVariants.{Rows, Times}
 
 -- the level of a field, which stands in this column of this line
 abbrev pub level_of : ℕ → ℕ → List ℕ → Result Bool CaptureFault
@@ -64,15 +65,6 @@ fields_say Times num den before line (field ∷ fields) = timed num den before l
 abbrev pub record_says : CsvMode → ℕ → ℕ → ℕ → List Taken → Record → Result Taken CaptureFault
 record_says mode num den want before row = if length row.1 == want then fields_say mode num den before row.0 row.1
     else Err (fault.Columns row.0 want (length row.1))
-
--- what records say up to the first fault, each judged behind those before it, and that fault
-abbrev pub after_one : {P V : Type 0} → (List V → List P → List V × Option CaptureFault) → List V → List P → Result V CaptureFault → List V × Option CaptureFault
-after_one more before parts (Ok value) = more (before ++ value ∷ []) parts
-after_one more before parts (Err fault) = (before, Some fault)
-
-abbrev pub read_front : {P V : Type 0} → (List V → P → Result V CaptureFault) → List V → List P → List V × Option CaptureFault
-read_front judge before [] = (before, None)
-read_front judge before (part ∷ parts) = after_one (λ values rest. read_front judge values parts) before parts (judge before part)
 
 -- a word of levels, the first as its lowest bit
 abbrev pub word_bits : List Bool → ℕ

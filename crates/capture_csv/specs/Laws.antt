@@ -3,7 +3,7 @@ use Rattle.std.specs.Prelude.{ℕ, ◌≡◌, Bool, List, ◌++◌}
 use Rattle.la_io.specs.declared.fault.CaptureFault.{CaptureFault}
 use Rattle.la_io.specs.Capture.{Told, Cut, Good, Bad, Faulty, Captured}
 use Rattle.capture_csv.specs.Csv.{csv_capture}
-use Rattle.capture_csv.specs.declared.mode.CsvMode.{CsvMode}
+use Rattle.la_base.specs.declared.modes.CsvMode.{CsvMode}
 
 -- what a longer input keeps of a front that is cut: its samples are the first; a fault of it is the fault with the same samples, and so is its head
 pub record GoesOn (front whole : Captured) : Type 0 where

@@ -1,5 +1,7 @@
 pub mod Fields
 pub mod Plain
+pub mod Simple
+pub mod Digits
 pub mod Records
 pub mod Times
 pub mod Csv
@@ -7,7 +9,6 @@ pub mod Values
 pub mod Stretches
 pub mod Modes
 pub mod Running
-pub mod Errors
 pub mod Reader
 pub mod Opening
 pub mod Worked

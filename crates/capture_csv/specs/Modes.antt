@@ -3,8 +3,8 @@ use Rattle.std.specs.Prelude.{ℕ, Option, Some, None}
 use Rattle.la_base.specs.declared.samples.Rate.{Rate}
 use Rattle.capture_csv.specs.Times.{sample_at}
 use Rattle.capture_csv.specs.declared.span.Span.{Span}
-use Rattle.capture_csv.specs.declared.mode.CsvMode.{CsvMode}
-use Rattle.capture_csv.specs.declared.mode.CsvMode.TheVariants.{Rows, Times}
+use Rattle.la_base.specs.declared.modes.CsvMode.{CsvMode}
+use Rattle.la_base.specs.declared.modes.CsvMode.TheVariants.{Rows, Times}
 
 -- how many fields stand before those of the channels
 abbrev pub skips : CsvMode → ℕ

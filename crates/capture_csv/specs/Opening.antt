@@ -2,6 +2,7 @@
 use Rattle.std.specs.Prelude.{ℕ, ◌≡◌, ◌^◌, ◌<◌, ◌≤◌, length, Bool, true, false, List, [], ◌∷◌, ◌++◌, Option, Some, None, Result, Ok, Err}
 use Rattle.std.specs.Io.KnownBytes.{Consumes, IsAtEnd}
 use Rattle.text_parts.specs.Places.{Placed}
+use Rattle.la_base.specs.declared.names.NoMemory.{NoMemory}
 use Rattle.la_base.specs.declared.samples.Rate.{Rate}
 use Rattle.la_io.specs.Capture.{Told, AtEnd, Cut, Good, Bad, Unread, Clean, Faulty, Open}
 use Rattle.la_io.specs.declared.fault.CaptureError.{CaptureError}
@@ -15,7 +16,7 @@ use Rattle.capture_csv.specs.Reader.{CsvStands, csv_header, csv_mode, csv_names,
 use Rattle.capture_csv.specs.Records.{Record, is_passed, records_in, without_marks}
 use Rattle.capture_csv.specs.Running.{BodyFaulty, BodyStands, row_of, want_in}
 use Rattle.capture_csv.specs.declared.body.Body.{Body}
-use Rattle.capture_csv.specs.declared.mode.CsvMode.{CsvMode}
+use Rattle.la_base.specs.declared.modes.CsvMode.{CsvMode}
 use Rattle.capture_csv.specs.declared.phase.Phase.{Phase}
 use Rattle.capture_csv.specs.declared.phase.Phase.TheVariants.{Running, Ended, Empty, Refused}
 use Rattle.capture_csv.specs.declared.reader.CsvReader.{CsvReader}
@@ -93,6 +94,6 @@ MakesEmpty mode header rate (Ok reader) = IsNew mode header rate reader × (csv_
 MakesEmpty mode header rate (Err why) = why ≡ error.NoMemory
 
 -- the first record, where it is one of the body: it is held, or it has a fault
-abbrev pub BeginSays : Bool → Body → Body → ℕ → List ℕ → Result Phase CaptureError → Type 0
+abbrev pub BeginSays : Bool → Body → Body → ℕ → List ℕ → Result Phase NoMemory → Type 0
 BeginSays header old new line text (Ok phase) = BodyStands old [] [] → StartsAs phase header new (row_of line text)
-BeginSays header old new line text (Err why) = why ≡ error.NoMemory
+BeginSays header old new line text (Err none) = Unit {0}

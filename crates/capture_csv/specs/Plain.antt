@@ -1,6 +1,6 @@
--- Lines without quotes.
-use Rattle.std.specs.Prelude.{ℕ, ◌≡◌, ◌<◌, ◌≤◌, ◌+◌, ◌-◌, ◌*◌, ◌==◌, Bool, false, if◌then◌else◌, List, [], ◌∷◌, length, slice_index}
-use Rattle.std.specs.List.{slice_split}
+-- Lines that are read without `csv`: each of their fields is plain or one quoted text.
+use Rattle.std.specs.Prelude.{ℕ, ◌≡◌, ◌<◌, ◌==◌, Bool, true, false, if◌then◌else◌, List, [], ◌∷◌, ◌++◌, length, map}
+use Rattle.std.specs.List.{All, join_with_byte, slice_split}
 use Rattle.capture_csv.specs.Fields.{fields_in}
 
 -- a byte is no quote and none of a line's end
@@ -16,25 +16,37 @@ IsPlain (byte ∷ bytes) = ((byte == 34) ≡ false) × ((byte == 10) ≡ false) 
 abbrev pub PlainIsSplit : Type 0
 PlainIsSplit = (line : List ℕ) → 0 < length line → IsPlain line → fields_in line ≡ slice_split (λ byte. byte == 44) line
 
--- a level as a digit
-abbrev pub digit_of : Bool → ℕ
-digit_of level = if level then 49 else 48
+-- a field as a line writes it: its text, or this between two quotes
+pub record Written : Type 0 where
+  pub quoted : Bool
+  pub text : List ℕ
 
--- levels as digits, with a comma between two
-abbrev pub digits_behind : List Bool → List ℕ
-digits_behind [] = []
-digits_behind (level ∷ levels) = 44 ∷ digit_of level ∷ digits_behind levels
+abbrev pub written : Written → List ℕ
+written field = if field.quoted then 34 ∷ (field.text ++ 34 ∷ []) else field.text
 
-abbrev pub digits_of : List Bool → List ℕ
-digits_of [] = []
-digits_of (level ∷ levels) = digit_of level ∷ digits_behind levels
+-- a text between quotes has none in it; any other has also no comma and no end of a line
+abbrev pub IsSimpleText : Bool → List ℕ → Type 0
+IsSimpleText true text = All (λ byte. (byte == 34) ≡ false) text
+IsSimpleText false text = IsPlain text × All (λ byte. (byte == 44) ≡ false) text
 
--- a digit, 0 or 1, stands in this place of a line of digits, and a comma before it where it isn't the first
-abbrev pub DigitAt : List ℕ → ℕ → Type 0
-DigitAt text k = (level : Bool) × (slice_index text (2 * k) ≡ digit_of level) × (1 ≤ k → slice_index text (2 * k - 1) ≡ 44)
+abbrev pub IsSimple : Written → Type 0
+IsSimple field = IsSimpleText field.quoted field.text
 
--- a line is so many digits with a comma between two
-pub record DigitsIn (text : List ℕ) (count : ℕ) : Type 0 where
-  pub some : 0 < count
-  pub len : length text + 1 ≡ 2 * count
-  pub each : (k : ℕ) → k < count → DigitAt text k
+abbrev pub AllSimple : List Written → Type 0
+AllSimple [] = Unit {0}
+AllSimple (field ∷ fields) = IsSimple field × AllSimple fields
+
+-- fields with a comma between two
+abbrev pub line_of : List Written → List ℕ
+line_of fields = join_with_byte 44 (map written fields)
+
+abbrev pub texts_of : List Written → List (List ℕ)
+texts_of fields = map (λ field. field.text) fields
+
+-- the fields of a line of such fields are their texts
+abbrev pub SimpleIsRead : Type 0
+SimpleIsRead = (fields : List Written) → AllSimple fields → 0 < length (line_of fields) → fields_in (line_of fields) ≡ texts_of fields
+
+-- any other line needs `csv`
+abbrev pub NeedsCsv : List ℕ → Type 0
+NeedsCsv line = (fields : List Written) → AllSimple fields → line ≡ line_of fields → ⊥

@@ -6,16 +6,19 @@ use Rattle.la_base.specs.Samples.{samples}
 use Rattle.la_base.specs.declared.samples.Rate.{Rate}
 use Rattle.la_base.specs.declared.samples.Run.{Run}
 use Rattle.la_io.specs.Capture.{Told, AtEnd, Cut, Clean, Faulty, Open, Captured, Ends}
-use Rattle.la_io.specs.Causes.{Rose}
+use Rattle.la_io.specs.Reading.{Behind}
 use Rattle.la_io.specs.declared.fault.CaptureError.{CaptureError}
 use Rattle.la_io.specs.declared.fault.CaptureError.TheVariants as error
 use Rattle.la_io.specs.declared.fault.CaptureFault.{CaptureFault}
+use Rattle.byte_feed.specs.Parts.{Fed, behind}
+use Rattle.byte_feed.specs.Lines.{lines_of}
 use Rattle.byte_feed.specs.LineReader.{Stands, is_spent, left_of, number_of, taken_of, text_of}
 use Rattle.capture_csv.specs.Csv.{body_of, channel_fields, csv_capture, names_by}
-use Rattle.capture_csv.specs.Records.{Record, records_in}
+use Rattle.capture_csv.specs.Plain.{NeedsCsv}
+use Rattle.capture_csv.specs.Records.{Record, records_in, without_marks}
 use Rattle.capture_csv.specs.Running.{BodyStands, at_in, held_in, mode_in, pins_in, rate_in, want_in}
-use Rattle.capture_csv.specs.declared.mode.CsvMode.{CsvMode}
-use Rattle.capture_csv.specs.declared.mode.CsvMode.TheVariants.{Rows, Times}
+use Rattle.la_base.specs.declared.modes.CsvMode.{CsvMode}
+use Rattle.la_base.specs.declared.modes.CsvMode.TheVariants.{Rows, Times}
 use Rattle.capture_csv.specs.declared.reader.CsvReader.{CsvReader}
 use Rattle.capture_csv.specs.declared.phase.Phase.{Phase}
 use Rattle.capture_csv.specs.declared.phase.Phase.TheVariants.{Running, Ended, Empty, Refused}
@@ -104,9 +107,19 @@ StandsAs (Refused fault) reader bytes told given = Stopped fault reader bytes to
 abbrev pub CsvStands : CsvReader → List ℕ → Told → List ℕ → Type 0
 CsvStands reader bytes told given = StandsAs reader.phase reader bytes told given
 
--- memory is wanted for a line behind one that ends at this place: what was given is what the bytes before it settle
+-- behind so many bytes, the last of which is a line feed, this line is the next
+pub record NextLine (bytes : List ℕ) (count : ℕ) (line : Placed) : Type 0 where
+  pub some : 0 < count
+  pub feed : slice_index bytes (count - 1) ≡ 10
+  pub lines : List Placed
+  pub before : lines_of (take count bytes) Cut ≡ record { items = lines; ending = Open }
+  pub told : Told
+  pub rest : Fed
+  pub all : lines_of bytes told ≡ behind (lines ++ line ∷ []) rest
+
+-- memory is wanted for the line behind so many bytes, one that needs `csv`: what was given is what the bytes before it settle
 abbrev pub CsvWants : List ℕ → ℕ → Type 0
-CsvWants bytes count = (0 < count) × (slice_index bytes (count - 1) ≡ 10)
+CsvWants bytes count = (line : Placed) × NextLine bytes count line × NeedsCsv (without_marks line.1)
 
 -- what an answer says of all bytes taken
 abbrev pub StepAnswers : CsvReader → List ℕ → Told → List ℕ → Result Step CaptureError → Type 0
@@ -117,27 +130,12 @@ StepAnswers reader bytes told given (Err (error.Fault fault)) = Ends (csv_by rea
 StepAnswers reader bytes told given (Err error.Read) = (told ≡ Cut) × Ends (csv_by reader bytes told) given Open
 StepAnswers reader bytes told given (Err error.NoMemory) = (count : ℕ) × (count < length bytes) × CsvWants bytes count × (given ≡ (csv_by reader (take count bytes) Cut).settled)
 
--- what is said behind bytes that were taken, none where the end was told before, and it stays told
-pub record Behind (left : Option (List ℕ)) (before : List ℕ) (early : Told) (bytes : List ℕ) (Says : List ℕ → Told → Type 0) : Type 0 where
-  pub told : Told
-  pub none : early ≡ AtEnd → bytes ≡ []
-  pub still : early ≡ AtEnd → told ≡ AtEnd
-  pub at_end : told ≡ AtEnd → IsAtEnd left
-  pub says : Says (before ++ bytes) told
-
 -- one line: the bytes that it took, and what the answer means behind them
 pub record Steps (old new : CsvReader) (left_old left_new : Option (List ℕ)) (result : Result Step CaptureError) : Type 0 where
   pub bytes : List ℕ
   pub consumed : Consumes left_old left_new bytes
   pub answers : (before : List ℕ) (early : Told) (given : List ℕ) → (early ≡ AtEnd → IsAtEnd left_old) → Going old before early given
       → Behind left_new before early bytes (λ all told. StepAnswers new all told given result)
-
--- the source failed where the answer is Read, and only there; nothing was read behind a failure
-abbrev pub CsvCause : {T : Type 0} → ℕ → ℕ → Result T CaptureError → Type 0
-CsvCause before now (Ok x) = now ≡ before
-CsvCause before now (Err (error.Fault fault)) = now ≡ before
-CsvCause before now (Err error.Read) = (before ≤ now) × Rose before now
-CsvCause before now (Err error.NoMemory) = now ≡ before
 
 -- its channels and its rate stay
 pub record SameReader (old new : CsvReader) : Type 0 where
@@ -159,12 +157,6 @@ abbrev pub step_of : Result (Option Run) CaptureError → Result Step CaptureErr
 step_of (Ok (Some run)) = Ok (Gave run)
 step_of (Ok None) = Ok Over
 step_of (Err why) = Err why
-
--- whether it is open behind an answer
-abbrev pub stays_open : Result (Option Run) CaptureError → Bool
-stays_open (Ok (Some run)) = true
-stays_open (Ok None) = false
-stays_open (Err why) = false
 
 -- the same for the lines up to a run, or the end
 abbrev pub Nexts : CsvReader → CsvReader → Option (List ℕ) → Option (List ℕ) → Result (Option Run) CaptureError → Type 0

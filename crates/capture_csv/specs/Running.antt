@@ -1,14 +1,15 @@
 -- What the reader of a body stands for, and what its answers mean.
-use Rattle.std.specs.Prelude.{ℕ, ◌≡◌, ◌+◌, Bool, true, false, List, [], ◌∷◌, ◌++◌, length, map, replicate, Option, Some, None, Result, Ok, Err}
-use Rattle.la_base.specs.Samples.{samples}
+use Rattle.std.specs.Prelude.{ℕ, ◌≡◌, ◌+◌, ◌-◌, ◌*◌, Bool, true, false, List, [], ◌∷◌, ◌++◌, length, map, replicate, Option, Some, None, Result, Ok, Err}
+use Rattle.la_base.specs.declared.names.NoMemory.{NoMemory}
 use Rattle.la_base.specs.declared.samples.Rate.{Rate}
 use Rattle.la_base.specs.declared.samples.Run.{Run}
 use Rattle.la_io.specs.Capture.{Clean, Faulty, Open}
-use Rattle.la_io.specs.declared.fault.CaptureError.{CaptureError}
-use Rattle.la_io.specs.declared.fault.CaptureError.TheVariants as error
+use Rattle.la_io.specs.Reading.{run_samples}
 use Rattle.la_io.specs.declared.fault.CaptureFault.{CaptureFault}
-use Rattle.capture_csv.specs.Csv.{Taken, last_time, read_front, record_says, settled_by, timed_words, word_of}
+use Rattle.capture_csv.specs.Csv.{Taken, last_time, record_says, settled_by, timed_words, word_of}
+use Rattle.text_parts.specs.Reading.{read_front}
 use Rattle.capture_csv.specs.Fields.{fields_in}
+use Rattle.capture_csv.specs.Plain.{NeedsCsv}
 use Rattle.capture_csv.specs.Records.{Record, trimmed}
 use Rattle.capture_csv.specs.Stretches.{TimesTo, levels_now}
 use Rattle.capture_csv.specs.Times.{time_in}
@@ -17,13 +18,8 @@ use Rattle.capture_csv.specs.Modes.{at_of}
 use Rattle.capture_csv.specs.declared.body.Body.{Body}
 use Rattle.capture_csv.specs.declared.span.Found.{Found}
 use Rattle.capture_csv.specs.declared.span.Span.{Span}
-use Rattle.capture_csv.specs.declared.mode.CsvMode.{CsvMode}
-use Rattle.capture_csv.specs.declared.mode.CsvMode.TheVariants.{Rows, Times}
-
--- so many samples of a value
-abbrev pub run_samples : Option Run → List ℕ
-run_samples None = []
-run_samples (Some run) = samples run
+use Rattle.la_base.specs.declared.modes.CsvMode.{CsvMode}
+use Rattle.la_base.specs.declared.modes.CsvMode.TheVariants.{Rows, Times}
 
 abbrev pub run_len : Option Run → ℕ
 run_len None = 0
@@ -118,17 +114,6 @@ abbrev pub FieldsAnswer : Body → List Record → List ℕ → Result (Option R
 FieldsAnswer body records given (Ok run) = BodyStands body records (given ++ run_samples run)
 FieldsAnswer body records given (Err fault) = BodyFaulty body records given fault
 
-abbrev pub RecordAnswers : Body → List Record → List ℕ → Result (Option Run) CaptureError → Type 0
-RecordAnswers body records given (Ok run) = BodyStands body records (given ++ run_samples run)
-RecordAnswers body records given (Err (error.Fault fault)) = BodyFaulty body records given fault
-RecordAnswers body records given (Err error.Read) = ⊥
-RecordAnswers body records given (Err error.NoMemory) = Unit {0}
-
--- a fault as an error of a capture
-abbrev pub as_error : Result (Option Run) CaptureFault → Result (Option Run) CaptureError
-as_error (Ok run) = Ok run
-as_error (Err fault) = Err (error.Fault fault)
-
 -- its settings stay
 pub record SameBody (old new : Body) : Type 0 where
   pub mode : new.mode ≡ old.mode
@@ -153,12 +138,15 @@ row_of line text = (line, map trimmed (fields_in text))
 abbrev pub LineSays : Body → Body → ℕ → List ℕ → Result (Option Run) CaptureFault → Type 0
 LineSays old new line text result = (records : List Record) (given : List ℕ) → BodyStands old records given → held_in old ≡ false → FieldsAnswer new (records ++ row_of line text ∷ []) given result
 
-abbrev pub RecordSays : Body → Body → ℕ → List ℕ → Result (Option Run) CaptureError → Type 0
-RecordSays old new line text result = (records : List Record) (given : List ℕ) → BodyStands old records given → held_in old ≡ false → RecordAnswers new (records ++ row_of line text ∷ []) given result
+-- what the reading of a line answers: it takes memory only where the line needs `csv`
+abbrev pub RecordSays : Body → Body → ℕ → List ℕ → Result (Result (Option Run) CaptureFault) NoMemory → Type 0
+RecordSays old new line text (Ok said) = LineSays old new line text said
+RecordSays old new line text (Err none) = (new ≡ old) × NeedsCsv text
 
-abbrev pub Counts : Body → Body → Result (Option Run) CaptureError → Type 0
-Counts old new (Ok run) = at_in old + run_len run ≡ at_in new
-Counts old new (Err why) = at_in new ≡ at_in old
+-- how many bytes a line has of one digit a field, with quotes or none
+abbrev pub RowLen : Body → Bool → ℕ → Type 0
+RowLen body true len = len ≡ 4 * length body.levels.items - 1
+RowLen body false len = len ≡ 2 * length body.levels.items - 1
 
 abbrev pub Flushes : Body → Body → Option Run → Type 0
 Flushes old new result = (records : List Record) (given : List ℕ) → BodyStands old records given → BodyStands new records (given ++ run_samples result)

@@ -1,14 +1,10 @@
 -- What the reader finds in a line, and what its fields say.
-use Rattle.std.specs.Prelude.{ℕ, ◌≡◌, ◌<◌, ◌==◌, Bool, false, if◌then◌else◌, List, get_or, slice_index, Option, Some, None, Ok, Err}
+use Rattle.std.specs.Prelude.{ℕ, ◌≡◌, ◌==◌, Bool, false, if◌then◌else◌, List, get_or, Option, Some, None, Ok, Err}
 use Rattle.la_io.specs.declared.fault.CaptureFault.TheVariants.{Field}
 use Rattle.capture_csv.specs.Csv.{level_of, levels_of}
 
 abbrev pub is_comma : ℕ → Bool
 is_comma byte = byte == 44
-
--- so many bytes at the front are no commas
-abbrev pub AllWithin : List ℕ → ℕ → Type 0
-AllWithin bytes count = (k : ℕ) → k < count → is_comma (slice_index bytes k) ≡ false
 
 -- the level that a field says, wherever it stands; or it says none
 abbrev pub LevelIs : List ℕ → Option Bool → Type 0

@@ -5,7 +5,7 @@ use Rattle.la_io.specs.Capture.{AtEnd, Cut, Good, Unread, Clean, Faulty, Open}
 use Rattle.byte_feed.specs.Lines.{mark}
 use Rattle.capture_csv.specs.Fields.{fields_in}
 use Rattle.capture_csv.specs.Csv.{csv_capture}
-use Rattle.capture_csv.specs.declared.mode.CsvMode.TheVariants.{Rows, Times}
+use Rattle.la_base.specs.declared.modes.CsvMode.TheVariants.{Rows, Times}
 
 pub record WorkedLines : Type 0 where
   pub plain : fields_in (codes "0, 1,") ≡ codes "0" ∷ codes " 1" ∷ [] ∷ []

@@ -2,18 +2,17 @@
 ghost use Rattle.std.specs.Prelude.{◌≡◌, ◌-◌, ◌*◌, ◌^◌, ◌≤◌, ◌<◌, length, true};
 ghost use Rattle.capture_csv.specs.Modes.{at_of, sample_of, skips};
 
-use crate::CsvMode;
+use crate::digits::{are_digits, are_quoted, put_digits, put_quoted};
 use crate::fields::fields_of_line;
+use crate::simple::{field_count, first_len, text_in};
 use crate::spaces::trimmed;
 use crate::span::{Found, Span};
-use crate::steps::{answer_of, columns, from_zero, quoted_time, run_of, skipped, span_from};
+use crate::steps::{columns, csv_time, from_zero, run_of, skipped, span_from};
 use crate::times::{sample_at, time_of};
-use crate::values::{
-    are_digits, comma_at, commas_in, is_plain, plain_levels, put_digits, quoted_levels, word_of,
-};
+use crate::values::{csv_levels, simple_levels, word_of};
 use csv::ByteRecord;
-use la_base::{NoMemory, Pins, Rate, Run, Word};
-use la_io::{CaptureError, CaptureFault};
+use la_base::{CsvMode, NoMemory, Pins, Rate, Run, Word};
+use la_io::CaptureFault;
 use std::alloc::Global;
 
 /// The most samples.
@@ -43,15 +42,15 @@ pub struct Body {
 }
 
 impl Body {
-    ghost use Rattle.std.specs.Prelude.{◌≢◌, ℕ, Bool, List, [], Ok, false, None, Some, Err, IfOk, IfSome, true, map};
-    ghost use Rattle.std.specs.List.{slice_split};
+    ghost use Rattle.std.specs.Bool.{MatchBool};
+    ghost use Rattle.std.specs.Prelude.{ℕ, Bool, List, [], Ok, false, None, Some, IfOk, IfErr, IfSome, true, map};
     ghost use Rattle.csv.specs.Reading.{strip_bom};
     ghost use Rattle.csv.specs.Records.{fields_of};
     ghost use Rattle.capture_csv.specs.Records.{Record, trimmed};
-    ghost use Rattle.capture_csv.specs.Values.{is_comma};
-    ghost use Rattle.capture_csv.specs.Plain.{IsPlain, digits_of};
-    ghost use Rattle.capture_csv.specs.Running.{BodyStands, Counts, EndSays, Flushes, FoundIs, LineSays, NewBody, RecordSays, SameBody, SameButLevels, TakenCounts, TakenSays, at_in, held_in, mode_in, pins_in, rate_in, want_in};
-    ghost use Rattle.capture_csv.specs.declared.mode.CsvMode.TheVariants.{Rows, Times};
+    ghost use Rattle.capture_csv.specs.Digits.{AreDigits, digits_of};
+    ghost use Rattle.capture_csv.specs.Simple.{HasFields, IsSimpleLine};
+    ghost use Rattle.capture_csv.specs.Running.{BodyStands, EndSays, Flushes, FoundIs, LineSays, NewBody, RecordSays, RowLen, SameBody, SameButLevels, TakenCounts, TakenSays, at_in, held_in, mode_in, pins_in, rate_in, want_in};
+    ghost use Rattle.la_base.specs.declared.modes.CsvMode.TheVariants.{Rows, Times};
     ghost use Rattle.capture_csv.specs.declared.span.Found.{Found};
 
     /// Nothing was read, and no channel is selected. A record has `want` fields.
@@ -75,35 +74,36 @@ impl Body {
         })
     }
 
-    // What the fields of a line without quotes say.
+    // What the fields of a line say, each of which is plain or one quoted text.
     #[inline(always)]
-    fn find_plain(&mut self, text: &[u8]) -> Found
-        requires { length (slice_split is_comma text.now) ≡ want_in self.old }
-        ensures found { FoundIs (mode_in self.old) (map trimmed (slice_split is_comma text.now)) self.new.levels.items result }
+    fn find_simple(&mut self, text: &[u8]) -> Found
+        requires some { 0 < length text.now }
+        requires fields { HasFields text.now (want_in self.old) }
+        ensures found { (fields : List (List ℕ)) → IsSimpleLine text.now fields → length fields ≡ want_in self.old → FoundIs (mode_in self.old) (map trimmed fields) self.new.levels.items result }
         ensures early { IfSome result.time (λ time. time < 2 * 10 ^ 22) }
         ensures form { SameButLevels self.old self.new }
     {
         match self.mode {
             CsvMode::Rows => Found {
                 time: None,
-                bad: plain_levels(text, 1, &mut self.levels),
+                bad: simple_levels(text, 1, &mut self.levels),
             },
             CsvMode::Times => {
-                let at = comma_at(text);
-                let time = time_of(trimmed(&text[..at]));
-                if at == text.len() {
+                let len = first_len(text);
+                let time = time_of(trimmed(text_in(&text[..len])));
+                if len == text.len() {
                     return Found { time, bad: None };
                 }
                 Found {
                     time,
-                    bad: plain_levels(&text[at + 1..], 2, &mut self.levels),
+                    bad: simple_levels(&text[len + 1..], 2, &mut self.levels),
                 }
             }
         }
     }
 
-    // What the fields of a record say.
-    fn find_quoted(&mut self, row: &ByteRecord) -> Found
+    // What the fields of a record say that `csv` read.
+    fn find_csv(&mut self, row: &ByteRecord) -> Found
         requires { length (fields_of row.now) ≡ want_in self.old }
         ensures found { FoundIs (mode_in self.old) (map trimmed (fields_of row.now)) self.new.levels.items result }
         ensures early { IfSome result.time (λ time. time < 2 * 10 ^ 22) }
@@ -112,11 +112,11 @@ impl Body {
         match self.mode {
             CsvMode::Rows => Found {
                 time: None,
-                bad: quoted_levels(row, 0, 1, &mut self.levels),
+                bad: csv_levels(row, 0, 1, &mut self.levels),
             },
             CsvMode::Times => Found {
-                time: quoted_time(row),
-                bad: quoted_levels(row, 1, 2, &mut self.levels),
+                time: csv_time(row),
+                bad: csv_levels(row, 1, 2, &mut self.levels),
             },
         }
     }
@@ -206,97 +206,139 @@ impl Body {
         }
     }
 
-    // A record of a line without quotes.
+    // A record of a line of `have` fields, each of which is plain or one quoted text.
     #[inline(always)]
-    fn plain_record(&mut self, line: u64, text: &[u8]) -> Result<Option<Run>, CaptureFault>
+    fn simple_record(
+        &mut self,
+        line: u64,
+        text: &[u8],
+        have: usize,
+    ) -> Result<Option<Run>, CaptureFault>
         requires some { 0 < length text.now }
         requires few { length text.now ≤ 65536 }
-        requires plain { IsPlain text.now }
+        requires fields { HasFields text.now have }
         ensures says { LineSays self.old self.new line text.now result }
         ensures form { SameBody self.old self.new }
         ensures counts { TakenCounts self.old self.new result }
         ensures rows { IfOk result (λ run. IfSome run (λ _. mode_in self.old ≡ Times)) }
     {
-        let have = commas_in(text) + 1;
         if have != self.want {
             return Err(columns(line, self.want, have));
         }
-        let found = self.find_plain(text);
+        let found = self.find_simple(text);
         self.take(line, found)
     }
 
-    // A record of any line.
+    // A record of any line, by `csv`.
     #[inline(never)]
-    fn quoted_record(&mut self, line: u64, text: &[u8]) -> Result<Option<Run>, CaptureError>
+    fn csv_record(
+        &mut self,
+        line: u64,
+        text: &[u8],
+    ) -> Result<Result<Option<Run>, CaptureFault>, NoMemory>
         requires few { length text.now ≤ 65536 }
         requires bare { strip_bom text.now ≡ text.now }
-        ensures says { RecordSays self.old self.new line text.now result }
+        ensures says { IfOk result (λ said. LineSays self.old self.new line text.now said) }
+        ensures same { IfErr result (λ _. self.new ≡ self.old) }
         ensures form { SameBody self.old self.new }
-        ensures counts { Counts self.old self.new result }
-        ensures rows { IfOk result (λ run. IfSome run (λ _. mode_in self.old ≡ Times)) }
-        ensures same { result ≡ Err CaptureError.NoMemory → self.new ≡ self.old }
-        ensures read { result ≢ Err CaptureError.Read }
+        ensures counts { IfOk result (λ said. TakenCounts self.old self.new said) }
+        ensures rows { IfOk result (λ said. IfOk said (λ run. IfSome run (λ _. mode_in self.old ≡ Times))) }
     {
         let row = match fields_of_line(self.alloc, text) {
             Ok(row) => row,
-            Err(NoMemory) => return Err(CaptureError::NoMemory),
+            Err(NoMemory) => return Err(NoMemory),
         };
         if row.len() != self.want {
-            return Err(CaptureError::Fault(columns(line, self.want, row.len())));
+            return Ok(Err(columns(line, self.want, row.len())));
         }
-        let found = self.find_quoted(&row);
-        answer_of(self.take(line, found))
+        let found = self.find_csv(&row);
+        Ok(self.take(line, found))
     }
 
     /// Reads the record of a line: `text` is what stands in it behind byte order marks. A record with a
-    /// time gives the samples before it; one that is a sample is held. A fault gives none.
+    /// time gives the samples before it; one that is a sample is held. A fault gives none. A line takes
+    /// memory only where one of its fields is neither plain nor one quoted text.
     #[inline(always)]
-    pub fn record(&mut self, line: u64, text: &[u8]) -> Result<Option<Run>, CaptureError>
+    pub fn record(
+        &mut self,
+        line: u64,
+        text: &[u8],
+    ) -> Result<Result<Option<Run>, CaptureFault>, NoMemory>
         requires some { 0 < length text.now }
         requires few { length text.now ≤ 65536 }
         requires bare { strip_bom text.now ≡ text.now }
         ensures says { RecordSays self.old self.new line text.now result }
         ensures form { SameBody self.old self.new }
-        ensures counts { Counts self.old self.new result }
-        ensures rows { IfOk result (λ run. IfSome run (λ _. mode_in self.old ≡ Times)) }
-        ensures same { result ≡ Err CaptureError.NoMemory → self.new ≡ self.old }
-        ensures read { result ≢ Err CaptureError.Read }
-        ensures plain { IsPlain text.now → result ≢ Err CaptureError.NoMemory }
+        ensures counts { IfOk result (λ said. TakenCounts self.old self.new said) }
+        ensures rows { IfOk result (λ said. IfOk said (λ run. IfSome run (λ _. mode_in self.old ≡ Times))) }
     {
-        if !is_plain(text) {
-            return self.quoted_record(line, text);
+        match field_count(text) {
+            Some(have) => Ok(self.simple_record(line, text, have)),
+            None => self.csv_record(line, text),
         }
-        answer_of(self.plain_record(line, text))
     }
 
-    /// How many bytes a line has that is a digit for each channel, with a comma between two.
+    /// How many bytes a line has that is a digit for each channel, with a comma between two, and with each
+    /// digit between quotes or none.
     #[inline(always)]
-    pub fn row_len(&self) -> usize {
-        (2 * self.levels.len()).saturating_sub(1)
-    }
-
-    /// Reads the record of such a line where a record is a sample: it is held. `false` comes for any other
-    /// line and where records have times, and nothing changes then.
-    #[inline(always)]
-    pub fn row(&mut self, text: &[u8]) -> bool
-        ensures says { result ≡ true → (line : ℕ) → LineSays self.old self.new line text.now (Ok None) }
-        ensures digits { result ≡ true → (levels : List Bool) × (0 < length levels) × (text.now ≡ digits_of levels) }
-        ensures rows { result ≡ true → mode_in self.old ≡ Rows }
-        ensures held { result ≡ true → held_in self.new ≡ true }
-        ensures kept { result ≡ false → self.new ≡ self.old }
-        ensures at { at_in self.new ≡ at_in self.old }
-        ensures form { SameBody self.old self.new }
+    pub fn row_len(&self, quoted: bool) -> usize
+        ensures { RowLen self.now quoted result }
     {
-        match self.mode {
-            CsvMode::Times => return false,
-            CsvMode::Rows => {}
+        let each = if quoted { 4 } else { 2 };
+        (each * self.levels.len()).saturating_sub(1)
+    }
+
+    // Reads such a line: the levels are those of its digits. `false` comes for any other line.
+    #[inline(always)]
+    fn put_line(&mut self, text: &[u8], quoted: bool) -> bool
+        ensures put { result ≡ true → (0 < length self.new.levels.items) × (text.now ≡ digits_of quoted self.new.levels.items) }
+        ensures kept { result ≡ false → self.new ≡ self.old }
+        ensures other { result ≡ false → AreDigits quoted text.now (length self.old.levels.items) → ⊥ }
+        ensures form { SameButLevels self.old self.new }
+    {
+        if quoted {
+            if !are_quoted(text, self.levels.len()) {
+                return false;
+            }
+            put_quoted(text, &mut self.levels);
+            return true;
         }
         if !are_digits(text, self.levels.len()) {
             return false;
         }
         put_digits(text, &mut self.levels);
+        true
+    }
+
+    /// Reads the record of such a line where a record is a sample: it is held. `false` comes for any other
+    /// line, and nothing changes then.
+    #[inline(always)]
+    pub fn row(&mut self, text: &[u8], quoted: bool) -> bool
+        requires { mode_in self.old ≡ Rows }
+        ensures says { result ≡ true → (line : ℕ) → LineSays self.old self.new line text.now (Ok None) }
+        ensures digits { result ≡ true → (levels : List Bool) × (0 < length levels) × (text.now ≡ digits_of quoted levels) }
+        ensures held { result ≡ true → held_in self.new ≡ true }
+        ensures kept { result ≡ false → self.new ≡ self.old }
+        ensures other { result ≡ false → AreDigits quoted text.now (want_in self.old) → ⊥ }
+        ensures at { at_in self.new ≡ at_in self.old }
+        ensures form { SameBody self.old self.new }
+    {
+        if !self.put_line(text, quoted) {
+            return false;
+        }
         self.put_row();
         true
+    }
+
+    /// Whether a record is one sample.
+    #[inline(always)]
+    pub fn is_rows(&self) -> bool
+        ensures { MatchBool result (mode_in self.now ≡ Rows) (mode_in self.now ≡ Times) }
+    {
+        match self.mode {
+            CsvMode::Rows => true,
+            CsvMode::Times => false,
+        }
     }
 
     /// Whether a record is a sample that wasn't given yet.
@@ -363,13 +405,6 @@ impl Body {
         let word = word_of(&pins, &self.levels);
         self.pins = pins;
         self.word = word;
-    }
-
-    /// What a record is.
-    pub fn mode(&self) -> CsvMode
-        ensures { result ≡ mode_in self.now }
-    {
-        self.mode
     }
 
     /// The rate of its samples.

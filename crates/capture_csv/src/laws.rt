@@ -1,6 +1,6 @@
 // Laws of CSV captures, each on a function that does nothing.
 ghost use Rattle.capture_csv.specs.Laws.{LongerGoesOn, PinsLeaveTheEnding, PinsLeaveTheHead};
-ghost use Rattle.capture_csv.specs.Plain.{PlainIsSplit};
+ghost use Rattle.capture_csv.specs.Plain.{PlainIsSplit, SimpleIsRead};
 ghost use Rattle.capture_csv.specs.Reader.{GivenIsFront};
 ghost use Rattle.capture_csv.specs.Worked.{WorkedLines, WorkedRows, WorkedTimes};
 
@@ -22,6 +22,11 @@ pub fn worked_times_hold()
 /// The fields of a line without quotes are its parts between commas.
 pub fn plain_is_split()
     ensures { PlainIsSplit }
+{}
+
+/// The fields of a line each of whose fields is plain or one quoted text are these texts.
+pub fn simple_is_read()
+    ensures { SimpleIsRead }
 {}
 
 /// A longer input keeps the samples, the fault and the head of a front that is cut.

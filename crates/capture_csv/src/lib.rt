@@ -1,14 +1,20 @@
 //! CSV captures: what their bytes give, and their reader.
+//!
+//! `specs/Records.antt` says which lines are records and which fields they have, `specs/Times.antt` what
+//! time a field tells, and `specs/Csv.antt` what a file gives: a head, the settled samples and an ending.
+//! `specs/Fields.antt` takes the fields of a line from the definition of `csv`; by `specs/Plain.antt` they
+//! are read without it where each is plain or one quoted text, and `specs/Reader.antt` says what the
+//! answers of the reader mean.
 #![tactic(auto)]
 
 mod body;
-mod errors;
+mod digits;
 mod fields;
 mod laws;
-mod mode;
 mod opening;
 mod phase;
 mod reader;
+mod simple;
 mod spaces;
 mod span;
 mod steps;
@@ -17,7 +23,6 @@ mod values;
 
 pub use laws::{
     given_is_front, longer_goes_on, pins_leave_the_ending, pins_leave_the_head, plain_is_split,
-    worked_lines_hold, worked_rows_hold, worked_times_hold,
+    simple_is_read, worked_lines_hold, worked_rows_hold, worked_times_hold,
 };
-pub use mode::CsvMode;
 pub use reader::CsvReader;

@@ -7,19 +7,17 @@ ghost use Rattle.byte_feed.specs.LineReader.{is_spent, number_of, taken_of, text
 ghost use Rattle.capture_csv.specs.Csv.{names_by, plain_names};
 ghost use Rattle.capture_csv.specs.Modes.{skips};
 ghost use Rattle.capture_csv.specs.Opening.{BeginSays, FirstReads};
-ghost use Rattle.capture_csv.specs.Reader.{CsvCause};
+ghost use Rattle.la_io.specs.Reading.{CaptureCause};
 ghost use Rattle.capture_csv.specs.Records.{is_passed, trimmed, without_marks};
 ghost use Rattle.capture_csv.specs.Running.{SameBody, held_in};
 
-use crate::CsvMode;
 use crate::body::Body;
-use crate::errors::error_of;
 use crate::phase::Phase;
 use crate::spaces::{is_passed, trimmed, without_marks};
 use crate::steps::skipped;
-use byte_feed::Lines;
+use byte_feed::{Lines, error_of};
 use csv::ByteRecord;
-use la_base::{Names, NoMemory};
+use la_base::{CsvMode, Names, NoMemory};
 use la_io::{CaptureError, Source};
 use line_text::LineBuf;
 use std::alloc::Global;
@@ -31,7 +29,7 @@ pub fn first_line<S: Source>(lines: &mut Lines, source: &mut S) -> Result<Option
     ensures fresh { IfOk result (λ _. is_spent lines.new ≡ false) }
     ensures counted { IfOk result (λ line. IfSome line (λ _. 1 ≤ number_of lines.new)) }
     ensures some { IfOk result (λ line. IfSome line (λ _. is_passed (without_marks (text_of lines.new)) ≡ false)) }
-    ensures cause { CsvCause (S.faults source.old) (S.faults source.new) result }
+    ensures cause { CaptureCause (S.faults source.old) (S.faults source.new) result }
 {
     'head: loop {
         match lines.next(source) {
@@ -76,7 +74,7 @@ fn push_name(names: &mut Names, row: &ByteRecord, place: usize) -> Result<(), No
 {
     match row.get(place) {
         Some(field) => names.push(trimmed(field)),
-        None => Err(NoMemory),
+        None => unreachable!(),
     }
 }
 
@@ -111,7 +109,7 @@ pub fn names_of(
 }
 
 /// Reads the first record, where it is one of the body.
-pub fn begin(body: &mut Body, header: bool, line: u64, text: &[u8]) -> Result<Phase, CaptureError>
+pub fn begin(body: &mut Body, header: bool, line: u64, text: &[u8]) -> Result<Phase, NoMemory>
     requires some { 0 < length text.now }
     requires few { length text.now ≤ 65536 }
     requires bare { strip_bom text.now ≡ text.now }
@@ -123,9 +121,8 @@ pub fn begin(body: &mut Body, header: bool, line: u64, text: &[u8]) -> Result<Ph
         return Ok(Phase::Running);
     }
     match body.record(line, text) {
-        Ok(_) => Ok(Phase::Running),
-        Err(CaptureError::Fault(fault)) => Ok(Phase::Refused(fault)),
-        Err(CaptureError::Read) => Err(CaptureError::NoMemory),
-        Err(CaptureError::NoMemory) => Err(CaptureError::NoMemory),
+        Ok(Ok(_)) => Ok(Phase::Running),
+        Ok(Err(fault)) => Ok(Phase::Refused(fault)),
+        Err(NoMemory) => Err(NoMemory),
     }
 }

@@ -2,16 +2,14 @@
 ghost use Rattle.std.specs.Prelude.{◌≡◌, ◌≤◌, true, false};
 ghost use Rattle.byte_feed.specs.LineReader.{is_spent, number_of};
 
-use crate::CsvMode;
 use crate::body::Body;
-use crate::errors::error_of;
 use crate::fields::fields_of_line;
 use crate::opening::{begin, first_line, names_of};
 use crate::phase::{Phase, Step};
 use crate::spaces::{is_passed, without_marks};
 use crate::steps::skipped;
-use byte_feed::Lines;
-use la_base::{Names, NoMemory, Pins, Rate, Run};
+use byte_feed::{Lines, error_of};
+use la_base::{CsvMode, Names, NoMemory, Pins, Rate, Run};
 use la_io::{CaptureError, CaptureFault, Source};
 use std::alloc::Global;
 
@@ -37,8 +35,10 @@ impl CsvReader {
     ghost use Rattle.byte_feed.specs.LineReader.{left_of, text_of};
     ghost use Rattle.capture_csv.specs.Opening.{IsNew, Makes, MakesEmpty, Opens};
     ghost use Rattle.capture_csv.specs.Records.{is_passed, without_marks};
-    ghost use Rattle.capture_csv.specs.Running.{held_in, run_len, run_samples};
-    ghost use Rattle.capture_csv.specs.Reader.{CsvCause, CsvStands, FlushedRun, GaveHeld, Gives, GoesHeld, LineAnswers, LineGoes, MoreGiven, Nexts, SameReader, Steps, WentOn, csv_given, csv_header, csv_mode, csv_names, csv_open, csv_pins, csv_rate, stays_open};
+    ghost use Rattle.capture_csv.specs.Running.{held_in, run_len};
+    ghost use Rattle.la_io.specs.Reading.{run_samples, CaptureCause, stays_open};
+    ghost use Rattle.capture_csv.specs.Reader.{CsvStands, FlushedRun, GaveHeld, Gives, GoesHeld, LineAnswers, LineGoes, MoreGiven, Nexts, SameReader, Steps, WentOn, csv_given, csv_header, csv_mode, csv_names, csv_open, csv_pins, csv_rate};
+    ghost use Rattle.la_base.specs.declared.modes.CsvMode.TheVariants.{Rows};
     ghost use Rattle.capture_csv.specs.declared.phase.Phase.TheVariants.{Running};
 
     /// Reads the first record of a capture: where `header` holds it names the channels, else it is one of
@@ -55,7 +55,7 @@ impl CsvReader {
         requires { rate.num ≤ 10 ^ 15 }
         ensures opens { Opens mode header rate (S.left source.old) (S.left source.new) result }
         ensures new { IfOk result (λ reader. IsNew mode header rate reader) }
-        ensures cause { CsvCause (S.faults source.old) (S.faults source.new) result }
+        ensures cause { CaptureCause (S.faults source.old) (S.faults source.new) result }
     {
         let mut lines = match Lines::new(alloc) {
             Ok(lines) => lines,
@@ -133,7 +133,7 @@ impl CsvReader {
                 phase,
                 is_open: true,
             }),
-            Err(error) => Err(error),
+            Err(NoMemory) => Err(CaptureError::NoMemory),
         }
     }
 
@@ -207,11 +207,15 @@ impl CsvReader {
             return Ok(Step::Went);
         }
         match self.body.record(number, text) {
-            Ok(None) => Ok(Step::Went),
-            Ok(Some(run)) => Ok(Step::Gave(run)),
-            Err(error) => {
+            Ok(Ok(None)) => Ok(Step::Went),
+            Ok(Ok(Some(run))) => Ok(Step::Gave(run)),
+            Ok(Err(fault)) => {
                 self.is_open = false;
-                Err(error)
+                Err(CaptureError::Fault(fault))
+            }
+            Err(NoMemory) => {
+                self.is_open = false;
+                Err(CaptureError::NoMemory)
             }
         }
     }
@@ -225,7 +229,7 @@ impl CsvReader {
         ensures steps { Steps self.old self.new (S.left source.old) (S.left source.new) result }
         ensures went { WentOn self.old self.new result }
         ensures form { SameReader self.old self.new }
-        ensures cause { CsvCause (S.faults source.old) (S.faults source.new) result }
+        ensures cause { CaptureCause (S.faults source.old) (S.faults source.new) result }
     {
         match self.lines.next(source) {
             Ok(Some(number)) => self.line(number),
@@ -254,7 +258,7 @@ impl CsvReader {
         ensures is_open { csv_open self.new ≡ stays_open result }
         ensures form { SameReader self.old self.new }
         ensures more { MoreGiven self.old self.new result }
-        ensures cause { CsvCause (S.faults source.old) (S.faults source.new) result }
+        ensures cause { CaptureCause (S.faults source.old) (S.faults source.new) result }
     {
         'body: loop {
             match self.flush() {
@@ -270,23 +274,25 @@ impl CsvReader {
         }
     }
 
-    // Whether it is open and reads the body.
+    // Whether it is open and reads a body of which each record is a sample.
     #[inline(always)]
-    fn is_running(&self) -> bool
-        ensures { result ≡ true → self.now.phase ≡ Running }
+    fn reads_rows(&self) -> bool
+        ensures going { result ≡ true → self.now.phase ≡ Running }
+        ensures rows { result ≡ true → csv_mode self.now ≡ Rows }
     {
         match self.phase {
-            Phase::Running => self.is_open,
+            Phase::Running => self.is_open && self.body.is_rows(),
             Phase::Ended => false,
             Phase::Empty => false,
             Phase::Refused(_) => false,
         }
     }
 
-    // Takes one line that is held, where it is a record of digits alone.
+    // Takes one line that is held, where it is a record of digits alone, with quotes round each or none.
     #[inline(always)]
-    fn row(&mut self) -> bool
-        requires { held_in self.old.body ≡ false }
+    fn row_of(&mut self, quoted: bool) -> bool
+        requires held { held_in self.old.body ≡ false }
+        requires rows { csv_mode self.old ≡ Rows }
         ensures goes { result ≡ true → GoesHeld self.old self.new [] }
         ensures kept { result ≡ false → self.new ≡ self.old }
         ensures held { result ≡ true → held_in self.new.body ≡ true }
@@ -296,22 +302,43 @@ impl CsvReader {
         ensures form { SameReader self.old self.new }
         ensures is_open { csv_open self.new ≡ csv_open self.old }
     {
-        let len = self.body.row_len();
+        let len = self.body.row_len(quoted);
         let text = match self.lines.ahead(len) {
             Some(text) => text,
             None => return false,
         };
-        if !self.body.row(text) {
+        if !self.body.row(text, quoted) {
             return false;
         }
         self.lines.pass(len);
         true
     }
 
+    // The same of either kind.
+    #[inline(always)]
+    fn row(&mut self) -> bool
+        requires held { held_in self.old.body ≡ false }
+        requires rows { csv_mode self.old ≡ Rows }
+        ensures goes { result ≡ true → GoesHeld self.old self.new [] }
+        ensures kept { result ≡ false → self.new ≡ self.old }
+        ensures held { result ≡ true → held_in self.new.body ≡ true }
+        ensures progress { result ≡ true → left_of self.new.lines < left_of self.old.lines }
+        ensures counts { result ≡ true → csv_given self.new ≡ csv_given self.old }
+        ensures phase { self.new.phase ≡ self.old.phase }
+        ensures form { SameReader self.old self.new }
+        ensures is_open { csv_open self.new ≡ csv_open self.old }
+    {
+        if self.row_of(false) {
+            return true;
+        }
+        self.row_of(true)
+    }
+
     // The next sample of those that are held.
     #[inline(always)]
     fn sample(&mut self) -> Option<Run>
-        requires { self.old.phase ≡ Running }
+        requires going { self.old.phase ≡ Running }
+        requires rows { csv_mode self.old ≡ Rows }
         ensures given { GoesHeld self.old self.new (run_samples result) }
         ensures held { held_in self.new.body ≡ false }
         ensures counts { csv_given self.old + run_len result ≤ csv_given self.new }
@@ -339,7 +366,7 @@ impl CsvReader {
         ensures form { SameReader self.old self.new }
         ensures is_open { csv_open self.new ≡ csv_open self.old }
     {
-        if !self.is_running() {
+        if !self.reads_rows() {
             return None;
         }
         let first = match self.sample() {
@@ -359,8 +386,8 @@ impl CsvReader {
 
     /// The next run, or `None` at a clean end. After every answer but a run it is closed. `Fault` comes
     /// exactly where the capture has one, and `Read` where the source failed, both after all samples that
-    /// came before. `NoMemory` comes where a line with quotes wants memory; what was given before are the
-    /// samples of the lines before it.
+    /// came before. `NoMemory` comes only where the next line needs `csv`: one of its fields is neither
+    /// plain nor one quoted text. What was given before are the samples of the lines before it.
     pub fn next<S: Source>(&mut self, source: &mut S) -> Result<Option<Run>, CaptureError>
         requires { csv_open self.old ≡ true }
         ensures next { Gives self.old self.new (S.left source.old) (S.left source.new) result }
@@ -368,7 +395,7 @@ impl CsvReader {
         ensures form { SameReader self.old self.new }
         ensures more { MoreGiven self.old self.new result }
         ensures few { csv_given self.new ≤ 2 ^ 60 }
-        ensures cause { CsvCause (S.faults source.old) (S.faults source.new) result }
+        ensures cause { CaptureCause (S.faults source.old) (S.faults source.new) result }
     {
         match self.phase {
             Phase::Running => self.run_on(source),

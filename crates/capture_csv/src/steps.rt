@@ -2,16 +2,15 @@
 ghost use Rattle.std.specs.Prelude.{◌≡◌, ◌*◌, ◌^◌, ◌≤◌, ◌<◌, IfSome};
 ghost use Rattle.csv.specs.Records.{fields_of};
 ghost use Rattle.capture_csv.specs.Modes.{skips};
-ghost use Rattle.capture_csv.specs.Running.{RunIs, SpanFrom, as_error, first_time_in};
+ghost use Rattle.capture_csv.specs.Running.{RunIs, SpanFrom, first_time_in};
 ghost use Rattle.capture_csv.specs.Times.{from_zero};
 
-use crate::CsvMode;
 use crate::spaces::trimmed;
 use crate::span::Span;
 use crate::times::{ZERO_TIME, time_of};
 use csv::ByteRecord;
-use la_base::{Run, Word};
-use la_io::{CaptureError, CaptureFault};
+use la_base::{CsvMode, Run, Word};
+use la_io::CaptureFault;
 
 /// How many fields stand before those of the channels.
 pub fn skipped(mode: CsvMode) -> usize
@@ -21,17 +20,6 @@ pub fn skipped(mode: CsvMode) -> usize
     match mode {
         CsvMode::Rows => 0,
         CsvMode::Times => 1,
-    }
-}
-
-/// What a record gives, and a fault as an error of a capture.
-#[inline(always)]
-pub fn answer_of(said: Result<Option<Run>, CaptureFault>) -> Result<Option<Run>, CaptureError>
-    ensures { result ≡ as_error said }
-{
-    match said {
-        Ok(run) => Ok(run),
-        Err(fault) => Err(CaptureError::Fault(fault)),
     }
 }
 
@@ -81,8 +69,8 @@ pub fn columns(line: u64, want: usize, have: usize) -> CaptureFault
     }
 }
 
-/// The time that the first field of a record tells.
-pub fn quoted_time(row: &ByteRecord) -> Option<u128>
+/// The time that the first field of a record tells that `csv` read.
+pub fn csv_time(row: &ByteRecord) -> Option<u128>
     ensures time { result ≡ first_time_in (fields_of row.now) }
     ensures early { IfSome result (λ time. time < 2 * 10 ^ 22) }
 {

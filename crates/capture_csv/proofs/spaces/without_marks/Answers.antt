@@ -1,5 +1,5 @@
 use Rattle.std.proofs.Common.{◌∙◌, sym, arith}
-use Rattle.capture_csv.proofs.FieldLevels.{rest_is}
+use Rattle.std.proofs.lemmas.List.{take_rest}
 use Rattle.capture_csv.proofs.Trimming.{marks_left, marks_all}
 use Rattle.capture_csv.proofs.spaces.without_marks.Goals as goal
 
@@ -14,4 +14,4 @@ loop-at-preserved c =
     record { within = more.0; same = more.1 ∙ c.loop-at.invariant.same }
 
 pub returns : goal.returns
-returns c = rest_is c.args.line.now c.loop-at.at ∙ marks_all c.args.line.now c.loop-at.at (sym c.starts_with.ensures.value ∙ c.loop-at-test.false) ∙ c.loop-at.invariant.same
+returns c = take_rest c.args.line.now c.loop-at.at ∙ marks_all c.args.line.now c.loop-at.at (sym c.starts_with.ensures.value ∙ c.loop-at-test.false) ∙ c.loop-at.invariant.same

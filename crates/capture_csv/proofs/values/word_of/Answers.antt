@@ -7,12 +7,12 @@ pub overflow_add-word : goal.overflow_add-word
 overflow_add-word c =
     let rest = drop c.loop-left.left c.args.pins.now in
     let level : ℕ → Bool = λ pin. get_or c.args.levels.now pin false in
-    let small = word_small 63 (map level rest) (omega (arith, length-map rest level, length-drop c.loop-left.left c.args.pins.now, c.requires, c.loop-left-test.true)) in
+    let small = word_small 127 (map level rest) (omega (arith, length-map rest level, length-drop c.loop-left.left c.args.pins.now, c.requires, c.loop-left-test.true)) in
     omega (arith, small, c.loop-left.invariant.word, c.level_bit.ensures.small)
 
 pub overflow_mul-word : goal.overflow_mul-word
 overflow_mul-word c =
     let rest = drop c.loop-left.left c.args.pins.now in
     let level : ℕ → Bool = λ pin. get_or c.args.levels.now pin false in
-    let small = word_small 63 (map level rest) (omega (arith, length-map rest level, length-drop c.loop-left.left c.args.pins.now, c.requires, c.loop-left-test.true)) in
+    let small = word_small 127 (map level rest) (omega (arith, length-map rest level, length-drop c.loop-left.left c.args.pins.now, c.requires, c.loop-left-test.true)) in
     omega (arith, small, c.loop-left.invariant.word)

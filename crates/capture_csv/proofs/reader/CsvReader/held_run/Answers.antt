@@ -11,7 +11,7 @@ held-init c =
     let run = c.in-Some.run' in
     let some = c.in-Some.ensures in
     record {
-      phase = some.phase ∙ c.is_running.ensures c.if-not-is_running.false;
+      phase = some.phase ∙ c.reads_rows.ensures.going c.if-not-reads_rows.false;
       none = some.held;
       some = run.not_empty;
       gave = subst (λ (l : List ℕ). GoesHeld c.args.self.now c.sample.new.self l) (run_is run) some.given;
@@ -26,7 +26,7 @@ returns-then-not-row-clause-given c =
     let i = c.held.invariant in
     let row = c.row.ensures in
     let all = replicate c.held.len c.in-Some.run'.value in
-    held_goes s c.row.new.self _ (c.is_running.ensures c.if-not-is_running.false) (row.phase ∙ i.phase)
+    held_goes s c.row.new.self _ (c.reads_rows.ensures.going c.if-not-reads_rows.false) (row.phase ∙ i.phase)
     (goes_on s c.held.self c.row.new.self all [] _ (append-nil all ∙ sym (run_is _)) i.gave (row_goes c.held.self c.row.new.self c.row.result row.goes row.kept))
 
 pub held-preserved : goal.held-preserved

@@ -2,7 +2,8 @@ use Rattle.std.proofs.Common.{◌≡◌, ◌≤◌, ℕ, List, true}
 use Rattle.std.specs.Io.KnownBytes.{Consumes, IsAtEnd}
 use Rattle.la_io.specs.Capture.{Told, AtEnd}
 use Rattle.byte_feed.specs.LineReader.{left_of}
-use Rattle.capture_csv.specs.Reader.{Behind, Going, SameReader, csv_given, csv_open}
+use Rattle.capture_csv.specs.Reader.{Going, SameReader, csv_given, csv_open}
+use Rattle.la_io.specs.Reading.{Behind}
 use Rattle.capture_csv.specs.declared.phase.Phase.TheVariants.{Running}
 use Rattle.capture_csv.proofs.reader.CsvReader.run_on.Given as goal
 

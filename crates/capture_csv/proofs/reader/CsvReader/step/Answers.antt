@@ -2,7 +2,7 @@ use Rattle.std.proofs.Common.{◌∙◌, ◌++◌, ap, sym, refl, Some, None, fa
 use Rattle.capture_csv.specs.declared.reader.CsvReader.{CsvReader}
 use Rattle.std.proofs.lemmas.List.{append-nil}
 use Rattle.la_io.specs.Capture.{AtEnd}
-use Rattle.byte_feed.specs.Reader.{told_of}
+use Rattle.byte_feed.specs.Feeding.{told_of}
 use Rattle.capture_csv.proofs.Answering.{end_is, few_of, line_step, no_read, some_samples, stop_says, told_on}
 use Rattle.capture_csv.proofs.reader.CsvReader.step.Goals as goal
 

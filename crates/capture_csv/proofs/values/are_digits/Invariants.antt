@@ -1,6 +1,0 @@
-use Rattle.std.proofs.Common.{◌<◌, ℕ}
-use Rattle.capture_csv.specs.Plain.{DigitAt}
-use Rattle.capture_csv.proofs.values.are_digits.Given as goal
-
-abbrev pub invariant-loop-k : goal.invariant-loop-k
-invariant-loop-k l = (k : ℕ) → k < l.k → DigitAt l.text k

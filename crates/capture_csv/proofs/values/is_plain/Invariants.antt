@@ -1,6 +1,0 @@
-use Rattle.std.proofs.Common.{take}
-use Rattle.capture_csv.specs.Plain.{IsPlain}
-use Rattle.capture_csv.proofs.values.is_plain.Given as goal
-
-abbrev pub invariant-loop-byte : goal.invariant-loop-byte
-invariant-loop-byte l = IsPlain (take l.byte-index l.text)
