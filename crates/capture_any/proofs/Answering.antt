@@ -16,7 +16,7 @@ use Rattle.capture_csv.proofs.Stepping.{reader_few}
 use Rattle.capture_csv.specs.Csv.{csv_capture}
 use Rattle.capture_csv.specs.Opening.{IsNew, Opens as CsvOpens}
 use Rattle.capture_csv.specs.Reader.{Gives as CsvGives, StepAnswers as CsvAnswers, step_of as csv_step, csv_given, csv_names, csv_rate}
-use Rattle.capture_csv.specs.declared.mode.CsvMode.{CsvMode}
+use Rattle.la_base.specs.declared.modes.CsvMode.{CsvMode}
 use Rattle.capture_csv.specs.declared.reader.CsvReader.{CsvReader}
 use Rattle.capture_raw.specs.declared.step.RawStep.{RawStep}
 use Rattle.capture_raw.specs.declared.step.RawStep.TheVariants.{Run as GaveRun, End, ShortUnit, Bytes}

@@ -1,6 +1,8 @@
 -- Runs that are given one behind another.
-use Rattle.std.proofs.Common.{◌≡◌, ◌≤◌, ◌+◌, ◌^◌, length, arith, length-append, ℕ, Option, Some, None, Ok, List, [], ◌∷◌, ◌++◌, refl, sym, ◌∙◌, ap, subst, append_assoc}
-use Rattle.std.proofs.lemmas.List.{append-nil}
+use Rattle.std.proofs.Common.{◌≡◌, ◌≤◌, ◌+◌, ◌^◌, length, arith, length-append, length-take-le, take, ℕ, Option, Some, None, Ok, List, [], ◌∷◌, ◌++◌, sym, ◌∙◌, ap, subst, append_assoc}
+use Rattle.std.proofs.lemmas.List.{append-nil, take-append-le}
+use Rattle.std.proofs.Math.Seq.{take-append-add}
+use borrow.Rule.Slice.PartMut.{put_mid, post_of}
 use Rattle.la_base.proofs.RunLemmas.{count_push, samples_len}
 use Rattle.la_base.specs.Runs.{samples_of}
 use Rattle.la_base.specs.Samples.{samples}
@@ -9,16 +11,17 @@ use Rattle.la_io.specs.Capture.{Cut}
 use Rattle.capture_raw.specs.Reader.{Stands as RawStands, raw_given}
 use Rattle.capture_raw.specs.declared.reader.RawReader.{RawReader}
 use Rattle.capture_vcd.specs.Reader.{GaveHeld as VcdGaveHeld, VcdStands, vcd_given}
-use Rattle.capture_vcd.specs.Running.{RunCounts, run_samples}
+use Rattle.capture_vcd.specs.Running.{RunCounts}
 use Rattle.capture_vcd.specs.declared.reader.VcdReader.{VcdReader}
 use Rattle.capture_csv.specs.Reader.{GaveHeld as CsvGaveHeld, CsvStands, csv_given}
-use Rattle.capture_csv.specs.Running.{run_len as csv_len, run_samples as csv_samples}
+use Rattle.capture_csv.specs.Running.{run_len as csv_len}
 use Rattle.capture_csv.specs.declared.reader.CsvReader.{CsvReader}
 use Rattle.capture_any.specs.Reading.{Next, Stands, StandsIn, given_in}
 use Rattle.capture_any.specs.declared.reader.NamedRaw.{NamedRaw}
 use Rattle.capture_any.specs.declared.reader.Reader.{Reader}
 use Rattle.capture_any.specs.declared.reader.Reader.TheVariants.{Raw as OfRaw, Vcd as OfVcd, Csv as OfCsv}
-use Rattle.capture_any.specs.Taking.{GaveHeld, GaveMore, RawGave, held_samples}
+use Rattle.capture_any.specs.Taking.{GaveHeld, GaveMore, RawGave}
+use Rattle.la_io.specs.Reading.{run_samples}
 use Rattle.capture_any.specs.declared.capture.Capture.{Capture}
 
 -- the count of what was given
@@ -32,10 +35,10 @@ counts_first run more runs old mid new is first second =
     omega (arith, whole, length-append (samples run) (samples_of more), len, first, second)
 
 -- one run, or none
-pub held_none : (old new : ℕ) → old ≤ new → old + length (held_samples None) ≤ new
+pub held_none : (old new : ℕ) → old ≤ new → old + length (run_samples None) ≤ new
 held_none old new rises = omega (arith, rises)
 
-pub held_some : (run : Run) (old new : ℕ) → old + run.len ≤ new → old + length (held_samples (Some run)) ≤ new
+pub held_some : (run : Run) (old new : ℕ) → old + run.len ≤ new → old + length (run_samples (Some run)) ≤ new
 held_some run old new rises =
     let len : length (samples run) ≡ run.len = samples_len run in
     omega (arith, len, rises)
@@ -58,12 +61,6 @@ gave_raw old new r s more gave few old_is new_is bytes told given st =
       few = subst (λ (x : Reader). given_in x ≤ 2 ^ 60) (sym new_is) (few (subst (λ (x : Reader). given_in x ≤ 2 ^ 60) old_is st.few));
     }
 
-pub raw_none : (reader : RawReader) → RawGave reader reader []
-raw_none reader bytes given st = subst (λ (l : List ℕ). RawStands reader bytes l) (sym (append-nil given)) st
-
-pub raw_further : (old mid new : RawReader) (before more : List ℕ) → RawGave old mid before → RawGave mid new more → RawGave old new (before ++ more)
-raw_further old mid new before more first second bytes given st = subst (λ (l : List ℕ). RawStands new bytes l) (append_assoc given before more) (second bytes (given ++ before) (first bytes given st))
-
 -- and none where it stays as it was
 pub gave_same : (r s : RawReader) → s ≡ r → (bytes given : List ℕ) → RawStands r bytes given → RawStands s bytes (given ++ [])
 gave_same r s same bytes given st = subst (λ (l : List ℕ). RawStands s bytes l) (sym (append-nil given)) (subst (λ (x : RawReader). RawStands x bytes given) (sym same) st)
@@ -75,10 +72,6 @@ gave_vcd old new r s more gave few old_is new_is bytes told given st = record {
   few = subst (λ (x : Reader). given_in x ≤ 2 ^ 60) (sym new_is) (few (subst (λ (x : Reader). given_in x ≤ 2 ^ 60) old_is st.few));
 }
 
-pub run_is_held : (run : Option Run) → run_samples run ≡ held_samples run
-run_is_held None = refl
-run_is_held (Some run) = refl
-
 pub vcd_none : (reader : VcdReader) → VcdGaveHeld reader reader []
 vcd_none reader bytes told given st = subst (λ (l : List ℕ). VcdStands reader bytes told l) (sym (append-nil given)) st
 
@@ -86,7 +79,7 @@ pub vcd_further : (old mid new : VcdReader) (before more : List ℕ) → VcdGave
 vcd_further old mid new before more first second bytes told given st = subst (λ (l : List ℕ). VcdStands new bytes told l) (append_assoc given before more) (second bytes told (given ++ before) (first bytes told given st))
 
 -- and it counts them
-pub held_counts : (run : Option Run) (old new : ℕ) → RunCounts old new run → old + length (held_samples run) ≤ new
+pub held_counts : (run : Option Run) (old new : ℕ) → RunCounts old new run → old + length (run_samples run) ≤ new
 held_counts None old new is = held_none old new (omega (arith, is))
 held_counts (Some run) old new is = held_some run old new (omega (arith, is.0))
 
@@ -97,17 +90,13 @@ gave_csv old new r s more gave few old_is new_is bytes told given st = record {
   few = subst (λ (x : Reader). given_in x ≤ 2 ^ 60) (sym new_is) (few (subst (λ (x : Reader). given_in x ≤ 2 ^ 60) old_is st.few));
 }
 
-pub csv_is_held : (run : Option Run) → csv_samples run ≡ held_samples run
-csv_is_held None = refl
-csv_is_held (Some run) = refl
-
 pub csv_none : (reader : CsvReader) → CsvGaveHeld reader reader []
 csv_none reader bytes told given st = subst (λ (l : List ℕ). CsvStands reader bytes told l) (sym (append-nil given)) st
 
 pub csv_further : (old mid new : CsvReader) (before more : List ℕ) → CsvGaveHeld old mid before → CsvGaveHeld mid new more → CsvGaveHeld old new (before ++ more)
 csv_further old mid new before more first second bytes told given st = subst (λ (l : List ℕ). CsvStands new bytes told l) (append_assoc given before more) (second bytes told (given ++ before) (first bytes told given st))
 
-pub csv_counts : (run : Option Run) (old new : ℕ) → old + csv_len run ≤ new → old + length (held_samples run) ≤ new
+pub csv_counts : (run : Option Run) (old new : ℕ) → old + csv_len run ≤ new → old + length (run_samples run) ≤ new
 csv_counts None old new less = held_none old new (omega (arith, less))
 csv_counts (Some run) old new less = held_some run old new less
 
@@ -125,3 +114,11 @@ gave_first old mid new l m run more runs next held is = record {
             (held (before ++ next.bytes) answer.told (given ++ samples run) answer.answers),
       );
 }
+
+-- those at the front of a part of a list, behind what stands before the part
+pub taken_behind : (room part : List Run) (at k count : ℕ) → at ≤ length room → count ≤ length part → take (at + count) (put_mid at k room part) ≡ take at room ++ take count part
+taken_behind room part at k count within few =
+    let front = take at room in
+    ap (λ (n : ℕ). take (n + count) (front ++ (part ++ post_of at k room))) (sym (length-take-le at room within))
+    ∙ take-append-add front (part ++ post_of at k room) count
+    ∙ ap (λ (l : List Run). front ++ l) (take-append-le count part (post_of at k room) few)

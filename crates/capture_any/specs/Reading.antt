@@ -1,5 +1,5 @@
 -- What a reader of a capture stands for, and what its answers mean.
-use Rattle.std.specs.Prelude.{ℕ, ◌≡◌, ◌≤◌, ◌<◌, ◌^◌, Bool, true, false, List, [], ◌++◌, length, take, Option, Some, None, Result, Ok, Err}
+use Rattle.std.specs.Prelude.{ℕ, ◌≡◌, ◌≤◌, ◌<◌, ◌^◌, Bool, List, [], ◌++◌, length, take, Option, Some, None, Result, Ok, Err}
 use Rattle.std.specs.Io.KnownBytes.{Consumes}
 use Rattle.la_base.specs.Samples.{samples}
 use Rattle.la_base.specs.declared.samples.Rate.{Rate}
@@ -7,7 +7,6 @@ use Rattle.la_base.specs.declared.samples.Run.{Run}
 use Rattle.la_io.specs.declared.fault.CaptureError.{CaptureError}
 use Rattle.la_io.specs.declared.fault.CaptureError.TheVariants.{Fault, Read, NoMemory}
 use Rattle.la_io.specs.Capture.{Told, AtEnd, Cut, Good, Bad, Unread, Clean, Faulty, Open, Captured, Ends}
-use Rattle.la_io.specs.Causes.{Rose}
 use Rattle.capture_raw.specs.Reader.{Stands as RawStands, raw_channels, raw_rate, raw_pins, raw_open, raw_given}
 use Rattle.capture_vcd.specs.Reader.{VcdStands, vcd_down, vcd_given, vcd_names, vcd_open, vcd_rate}
 use Rattle.capture_vcd.specs.Reader as vcd
@@ -115,12 +114,6 @@ pub record Next (old new : Capture) (left_old left_new : Option (List ℕ)) (res
   pub consumed : Consumes left_old left_new bytes
   pub answers : (before : List ℕ) (told : Told) (given : List ℕ) → ToldAt told left_old → Stands old before told given → Answered new left_new before told bytes given result
 
--- whether a capture is open behind an answer
-abbrev pub stays_open : Result (Option Run) CaptureError → Bool
-stays_open (Ok (Some run)) = true
-stays_open (Ok None) = false
-stays_open (Err error) = false
-
 -- what opening means, where these bytes were taken: the head is whole, or it has a fault, or the source failed in it
 abbrev pub Opened : Form → List ℕ → Option (List ℕ) → Result Capture CaptureError → Type 0
 Opened form bytes left (Ok capture) = (told : Told) × ToldAt told left × Stands capture bytes told [] × ((capture_of form [] bytes told).head ≡ Good (names_of capture) (rate_of capture).num (rate_of capture).den)
@@ -133,10 +126,3 @@ pub record Opens (form : Form) (left_old left_new : Option (List ℕ)) (result :
   pub bytes : List ℕ
   pub consumed : Consumes left_old left_new bytes
   pub opened : Opened form bytes left_new result
-
--- the source failed where the answer is Read, and only there; nothing was read behind a failure
-abbrev pub CaptureCause : {T : Type 0} → ℕ → ℕ → Result T CaptureError → Type 0
-CaptureCause before now (Ok x) = now ≡ before
-CaptureCause before now (Err (Fault fault)) = now ≡ before
-CaptureCause before now (Err Read) = (before ≤ now) × Rose before now
-CaptureCause before now (Err NoMemory) = now ≡ before

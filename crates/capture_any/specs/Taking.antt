@@ -1,8 +1,7 @@
 -- What a reader answers that gives several runs at once.
-use Rattle.std.specs.Prelude.{ℕ, Bool, true, false, List, [], ◌++◌, Option, Some, None, Result, Ok, Err}
+use Rattle.std.specs.Prelude.{ℕ, Bool, true, false, List, ◌++◌, Option, None, Result, Ok, Err}
 use Rattle.std.specs.Io.KnownBytes.{Consumes}
 use Rattle.la_base.specs.Runs.{samples_of}
-use Rattle.la_base.specs.Samples.{samples}
 use Rattle.la_base.specs.declared.samples.Run.{Run}
 use Rattle.la_io.specs.declared.fault.CaptureError.{CaptureError}
 use Rattle.la_io.specs.Capture.{Told}
@@ -11,11 +10,6 @@ use Rattle.capture_raw.specs.declared.reader.RawReader.{RawReader}
 use Rattle.capture_any.specs.Captures.{Later, ToldAt}
 use Rattle.capture_any.specs.Reading.{Stands, Next}
 use Rattle.capture_any.specs.declared.capture.Capture.{Capture}
-
--- the samples of a run, if there is one
-abbrev pub held_samples : Option Run → List ℕ
-held_samples None = []
-held_samples (Some run) = samples run
 
 -- these samples were given, and no byte was taken
 abbrev pub GaveHeld : Capture → Capture → List ℕ → Type 0

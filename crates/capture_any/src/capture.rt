@@ -1,7 +1,7 @@
 // A capture that is read.
 use crate::Form;
 use crate::answer::answer_of;
-use crate::held::{held_csv, held_of, take_csv, take_raw, take_vcd};
+use crate::held::{held_csv, held_of, take_csv, take_vcd};
 use crate::names::channel_names;
 use crate::reader::{NamedRaw, Reader};
 use crate::runs::Runs;
@@ -24,10 +24,11 @@ impl Capture {
     ghost use Rattle.la_base.specs.Samples.{samples};
     ghost use Rattle.la_base.specs.declared.samples.Run.{Run};
     ghost use Rattle.la_base.specs.Runs.{samples_of};
-    ghost use Rattle.capture_any.specs.Taking.{GaveHeld, Gives, held_samples, open_behind};
+    ghost use Rattle.capture_any.specs.Taking.{GaveHeld, Gives, open_behind};
     ghost use Rattle.la_io.specs.Capture.{Told};
     ghost use Rattle.capture_any.specs.Captures.{IsForm, HasNoHead, TakesNoMemory};
-    ghost use Rattle.capture_any.specs.Reading.{Stands, Next, Opens, CaptureCause, stays_open, form_of, pins_of, names_of, rate_of, is_open_of, given_by};
+    ghost use Rattle.capture_any.specs.Reading.{Stands, Next, Opens, form_of, pins_of, names_of, rate_of, is_open_of, given_by};
+    ghost use Rattle.la_io.specs.Reading.{CaptureCause, run_samples, stays_open};
 
     /// Opens a capture of this form: reads its head; nothing is read where the form's head takes no
     /// bytes. `Fault` comes exactly where the head has one, and `Read` where the source failed before
@@ -153,13 +154,13 @@ impl Capture {
     /// The next run of what was read already, if there is one. Nothing is read.
     #[inline(always)]
     pub fn held_run(&mut self) -> Option<Run>
-        ensures gave { GaveHeld self.old self.new (held_samples result) }
+        ensures gave { GaveHeld self.old self.new (run_samples result) }
         ensures is_open { is_open_of self.new ≡ is_open_of self.old }
         ensures form { form_of self.new ≡ form_of self.old }
         ensures pins { pins_of self.new ≡ pins_of self.old }
         ensures names { names_of self.new ≡ names_of self.old }
         ensures rate { rate_of self.new ≡ rate_of self.old }
-        ensures progress { given_by self.old + length (held_samples result) ≤ given_by self.new }
+        ensures progress { given_by self.old + length (run_samples result) ≤ given_by self.new }
         ensures few { given_by self.old ≤ 2 ^ 60 → given_by self.new ≤ 2 ^ 60 }
     {
         // A test of one form alone, since a choice of several is made anew for each run.
@@ -175,13 +176,13 @@ impl Capture {
     // The same of any form. It isn't inlined.
     #[inline(never)]
     fn held_other(&mut self) -> Option<Run>
-        ensures gave { GaveHeld self.old self.new (held_samples result) }
+        ensures gave { GaveHeld self.old self.new (run_samples result) }
         ensures is_open { is_open_of self.new ≡ is_open_of self.old }
         ensures form { form_of self.new ≡ form_of self.old }
         ensures pins { pins_of self.new ≡ pins_of self.old }
         ensures names { names_of self.new ≡ names_of self.old }
         ensures rate { rate_of self.new ≡ rate_of self.old }
-        ensures progress { given_by self.old + length (held_samples result) ≤ given_by self.new }
+        ensures progress { given_by self.old + length (run_samples result) ≤ given_by self.new }
         ensures few { given_by self.old ≤ 2 ^ 60 → given_by self.new ≤ 2 ^ 60 }
     {
         match &mut self.reader {
@@ -202,7 +203,7 @@ impl Capture {
         ensures few { given_by self.old ≤ 2 ^ 60 → given_by self.new ≤ 2 ^ 60 }
     {
         match &mut self.reader {
-            Reader::Raw(raw) => take_raw(&mut raw.reader, into),
+            Reader::Raw(raw) => into.take_raw(&mut raw.reader),
             Reader::Vcd(reader) => take_vcd(reader, into),
             Reader::Csv(reader) => take_csv(reader, into),
         }

@@ -1,9 +1,8 @@
 // The forms of captures.
-use capture_csv::CsvMode;
-use la_base::Rate;
+use la_base::{CsvMode, Rate};
 
 /// How a capture is written down.
-#[derive(Clone, Copy)]
+#[derive(Clone, Copy, Debug, PartialEq, Eq)]
 pub enum Form {
     /// Units of bytes, `channels` bits rounded up to whole bytes each, at this rate.
     Raw {

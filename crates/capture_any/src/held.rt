@@ -2,34 +2,16 @@
 ghost use Rattle.std.specs.Prelude.{◌≡◌, ◌+◌, ◌≤◌, ◌^◌, ◌++◌, List, ℕ, length};
 ghost use Rattle.la_base.specs.Runs.{samples_of};
 ghost use Rattle.la_base.specs.declared.samples.Run.{Run};
-ghost use Rattle.capture_raw.specs.Reader.{SameForm, raw_given, raw_open};
 ghost use Rattle.capture_vcd.specs.Reader.{GaveHeld, SameReader, vcd_given, vcd_open};
-ghost use Rattle.capture_vcd.specs.Running.{RunCounts, run_samples};
+ghost use Rattle.la_io.specs.Reading.{run_samples};
+ghost use Rattle.capture_vcd.specs.Running.{RunCounts};
 ghost use Rattle.capture_csv.specs.Reader.{GaveHeld as CsvGaveHeld, SameReader as SameCsv, csv_given, csv_open};
-ghost use Rattle.capture_csv.specs.Running.{run_len as csv_len, run_samples as csv_samples};
-ghost use Rattle.capture_any.specs.Taking.{RawGave};
+ghost use Rattle.capture_csv.specs.Running.{run_len as csv_len};
 
 use crate::runs::Runs;
 use capture_csv::CsvReader;
-use capture_raw::RawReader;
 use capture_vcd::VcdReader;
 use la_base::Run;
-
-/// Appends the runs that a raw reader has read already, as far as there is room.
-#[inline(always)]
-pub fn take_raw(reader: &mut RawReader, into: &mut Runs)
-    ensures gave { (new : List Run) × (into.new ≡ into.old ++ new) × RawGave reader.old reader.new (samples_of new) × (raw_given reader.old + length (samples_of new) ≤ raw_given reader.new) }
-    ensures form { SameForm reader.old reader.new }
-    ensures is_open { raw_open reader.new ≡ raw_open reader.old }
-    ensures few { raw_given reader.old ≤ 2 ^ 60 → raw_given reader.new ≤ 2 ^ 60 }
-{
-    while !into.is_full() {
-        match reader.held_run() {
-            Some(run) => into.push(run),
-            None => return,
-        }
-    }
-}
 
 /// Appends the runs that a VCD reader has read already, as far as there is room.
 #[inline(never)]
@@ -78,7 +60,7 @@ pub fn take_csv(reader: &mut CsvReader, into: &mut Runs)
 /// The next run that a CSV reader has read already.
 #[inline(never)]
 pub fn held_csv(reader: &mut CsvReader) -> Option<Run>
-    ensures given { CsvGaveHeld reader.old reader.new (csv_samples result) }
+    ensures given { CsvGaveHeld reader.old reader.new (run_samples result) }
     ensures is_open { csv_open reader.new ≡ csv_open reader.old }
     ensures form { SameCsv reader.old reader.new }
     ensures counts { csv_given reader.old + csv_len result ≤ csv_given reader.new }

@@ -12,7 +12,6 @@ mod reader;
 mod runs;
 
 pub use capture::Capture;
-pub use capture_csv::CsvMode;
 pub use end::ListingEnd;
 pub use form::Form;
 pub use laws::{

@@ -1,7 +1,11 @@
 // Several runs at once.
-ghost use Rattle.std.specs.Prelude.{◌≡◌, ◌≤◌, ◌<◌, ◌∷◌, ◌++◌, [], List, length, take, true, false};
+ghost use Rattle.std.specs.Prelude.{◌≡◌, ◌≤◌, ◌<◌, ◌+◌, ◌^◌, ◌∷◌, ◌++◌, [], List, length, take, true, false};
+ghost use Rattle.la_base.specs.Runs.{samples_of};
+ghost use Rattle.capture_raw.specs.Reader.{SameForm, raw_given, raw_open};
+ghost use Rattle.capture_any.specs.Taking.{RawGave};
 ghost use Rattle.la_base.specs.declared.samples.Run.{Run};
 
+use capture_raw::RawReader;
 use la_base::Run;
 use std::marker::Model;
 
@@ -65,5 +69,16 @@ impl Runs {
     {
         self.room[self.count] = run;
         self.count += 1;
+    }
+
+    /// Appends the runs that a raw reader has read already, as far as there is room.
+    #[inline(never)]
+    pub fn take_raw(&mut self, reader: &mut RawReader)
+        ensures gave { (new : List Run) × (self.new ≡ self.old ++ new) × RawGave reader.old reader.new (samples_of new) × (raw_given reader.old + length (samples_of new) ≤ raw_given reader.new) }
+        ensures form { SameForm reader.old reader.new }
+        ensures is_open { raw_open reader.new ≡ raw_open reader.old }
+        ensures few { raw_given reader.new ≤ 2 ^ 60 }
+    {
+        self.count += reader.held_runs(&mut self.room[self.count..]);
     }
 }

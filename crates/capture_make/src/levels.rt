@@ -4,7 +4,7 @@ ghost use Rattle.capture_make.specs.Made.{block};
 ghost use Rattle.capture_make.specs.Levels.{bus_bit, rx_at, sample_at, scl_at, sda_at};
 
 use crate::drawing::Sent;
-use la_base::pin;
+use la_base::{Word, pin};
 
 /// The samples of a transaction.
 pub const BLOCK: usize = 120;
@@ -21,7 +21,7 @@ fn bus_bit(sent: Sent, i: u32) -> bool
         1 => sent.first,
         _ => sent.second,
     };
-    i % 9 < 8 && pin(byte, 7 - i % 9)
+    i % 9 < 8 && pin(byte as Word, 7 - i % 9)
 }
 
 // The level of SCL at sample `k`.
@@ -58,7 +58,7 @@ fn rx_at(sent: Sent, k: u32) -> bool
     if k < 20 {
         return k < 10;
     }
-    k >= 100 || pin(sent.serial, (k - 20) / 10)
+    k >= 100 || pin(sent.serial as Word, (k - 20) / 10)
 }
 
 // Sample `k`.

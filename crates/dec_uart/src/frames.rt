@@ -4,7 +4,6 @@ ghost use Rattle.dec_uart.specs.laws.Machine.{with_level, word_data, word_parity
 
 use crate::points::{before_stop, parity_of};
 use crate::{Line, Parity};
-use la_base::pin;
 
 /// The levels at the points before point i, with that at point i.
 pub fn with_level(i: u64, word: u16, level: bool) -> u16
@@ -29,7 +28,7 @@ pub fn parity_wrong(line: Line, word: u16) -> bool
 {
     let word = word as u64;
     let bits = line.opts.bits;
-    let bit = pin(word, bits as u32 + 1);
+    let bit = word >> (bits + 1) & 1 == 1;
     let ones = (word / 2 % (1 << (bits + 1))).count_ones();
     match parity_of(line.opts.parity) {
         Parity::Without => false,

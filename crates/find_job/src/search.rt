@@ -1,11 +1,10 @@
 // The search for all stops of a capture.
-ghost use Rattle.std.specs.Prelude.{◌≡◌, ◌≢◌, List, ℕ, [], true};
+ghost use Rattle.std.specs.Prelude.{◌≡◌, ◌≢◌, true};
 ghost use Rattle.wait_cond.specs.Conds.{cond_alts};
-ghost use Rattle.la_io.specs.Capture.{Told};
-ghost use Rattle.capture_any.specs.Captures.{TakesNoMemory, ToldAt};
-ghost use Rattle.capture_any.specs.Listings.{Lists, ReadCause, WriteCause};
-ghost use Rattle.capture_any.specs.Reading.{Stands, form_of, is_open_of, pins_of};
-ghost use Rattle.find_job.specs.Finding.{WholeListing, ListingFront};
+ghost use Rattle.capture_any.specs.Captures.{TakesNoMemory};
+ghost use Rattle.capture_any.specs.Listings.{ReadCause, WriteCause};
+ghost use Rattle.capture_any.specs.Reading.{form_of, is_open_of, pins_of};
+ghost use Rattle.find_job.specs.Finding.{Finds};
 
 use crate::FindEnd;
 use crate::stops::{write_held, write_run};
@@ -24,9 +23,7 @@ pub fn find<S: Source, K: Sink>(
 ) -> FindEnd
     requires { is_open_of capture.old ≡ true }
     // What the end says of the bytes that were taken and of what was written.
-    ensures finds { (before : List ℕ) (told : Told) → ToldAt told (S.left source.old) → Stands capture.old before told []
-        → Lists (form_of capture.old) (pins_of capture.old) (λ samples. WholeListing samples (cond_alts cond) (K.written sink.old) (K.written sink.new))
-        (λ samples. ListingFront samples (cond_alts cond) (K.written sink.old) (K.written sink.new)) before told (S.left source.old) (S.left source.new) result }
+    ensures finds { Finds capture.old (cond_alts cond) (S.left source.old) (S.left source.new) (K.written sink.old) (K.written sink.new) result }
     // Read comes only where the source failed.
     ensures read { ReadCause (S.faults source.old) (S.faults source.new) result }
     // Write comes exactly where the sink failed.
@@ -63,9 +60,7 @@ pub fn find_buffered<S: Source, K: Sink>(
     sink: &mut K,
 ) -> FindEnd
     requires { is_open_of capture.old ≡ true }
-    ensures finds { (before : List ℕ) (told : Told) → ToldAt told (S.left source.old) → Stands capture.old before told []
-        → Lists (form_of capture.old) (pins_of capture.old) (λ samples. WholeListing samples (cond_alts cond) (K.written sink.old) (K.written sink.new))
-        (λ samples. ListingFront samples (cond_alts cond) (K.written sink.old) (K.written sink.new)) before told (S.left source.old) (S.left source.new) result }
+    ensures finds { Finds capture.old (cond_alts cond) (S.left source.old) (S.left source.new) (K.written sink.old) (K.written sink.new) result }
     ensures read { ReadCause (S.faults source.old) (S.faults source.new) result }
     ensures write { WriteCause (K.faults sink.old) (K.faults sink.new) result }
     ensures memory { TakesNoMemory (form_of capture.old) → result ≢ FindEnd.NoMemory }

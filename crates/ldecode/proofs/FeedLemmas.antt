@@ -11,7 +11,8 @@ use Rattle.la_io.specs.declared.fault.CaptureError.{CaptureError}
 use Rattle.la_io.specs.declared.fault.CaptureError.TheVariants.{Fault as FaultError, Read as ReadError, NoMemory as NoMemoryError}
 use Rattle.capture_any.specs.Captures.{ToldAt}
 use Rattle.capture_any.specs.Listings.{Lists, ReadCause}
-use Rattle.capture_any.specs.Reading.{CaptureCause, Stands, form_of, given_by, is_open_of, pins_of}
+use Rattle.capture_any.specs.Reading.{Stands, form_of, given_by, is_open_of, pins_of}
+use Rattle.la_io.specs.Reading.{CaptureCause}
 use Rattle.capture_any.specs.Taking.{GaveMore, Gives, open_behind}
 use Rattle.capture_any.specs.declared.capture.Capture.{Capture}
 use Rattle.capture_any.specs.declared.end.ListingEnd.{ListingEnd}

@@ -11,7 +11,8 @@ use Rattle.la_io.specs.declared.fault.CaptureError.TheVariants as error
 use Rattle.capture_any.specs.Captures.{HasNoHead, Later, capture_of}
 use Rattle.std.proofs.lemmas.List.{append-nil}
 use Rattle.capture_any.specs.Listings.{Lists, ReadCause, Says, WriteCause}
-use Rattle.capture_any.specs.Reading.{CaptureCause, Opens, form_of as capture_form, names_of, pins_of, rate_of}
+use Rattle.capture_any.specs.Reading.{Opens, form_of as capture_form, names_of, pins_of, rate_of}
+use Rattle.la_io.specs.Reading.{CaptureCause}
 use Rattle.capture_any.specs.declared.capture.Capture.{Capture}
 use Rattle.capture_any.specs.declared.end.ListingEnd.{ListingEnd}
 use Rattle.capture_any.specs.declared.end.ListingEnd.TheVariants as ends

@@ -15,10 +15,6 @@ use Rattle.wait_cond.specs.declared.alt.Alt.{Alt}
 use Rattle.wait_cond.specs.declared.faults.ItemFault.{ItemFault}
 use Rattle.words.specs.Rates.{numbers_of}
 use Rattle.words.specs.Settings.{Values}
-use Rattle.capture_csv.specs.declared.mode.CsvMode.{CsvMode}
-use Rattle.capture_csv.specs.declared.mode.CsvMode.TheVariants as mode
-use Rattle.words.specs.declared.kinds.CsvRecords.{CsvRecords}
-use Rattle.words.specs.declared.kinds.CsvRecords.TheVariants as records
 use Rattle.words.specs.declared.kinds.Format.TheVariants as format
 use Rattle.words.specs.declared.kinds.Job.TheVariants.{Decode, Find}
 use Rattle.stack_spec.specs.Accepting.{Accepted, stack_of}
@@ -30,16 +26,11 @@ use Rattle.stack_spec.specs.declared.faults.StackFault.{StackFault}
 use Rattle.decoder_core.specs.Trees.{Node}
 use Rattle.decoder_set.specs.declared.setup.Setup.{Setup}
 
--- the mode of a CSV capture by what its records are
-abbrev pub mode_of : CsvRecords → CsvMode
-mode_of records.Rows = mode.Rows
-mode_of records.Times = mode.Times
-
 -- the values name this form of capture
 abbrev pub IsFormOf : Values → Form → Type 0
 IsFormOf values (Raw channels rate) = (values.format ≡ format.Raw) × (channels ≡ values.channels) × (numbers_of rate ≡ values.rate)
 IsFormOf values (Vcd down) = (values.format ≡ format.Vcd) × (down ≡ values.down)
-IsFormOf values (Csv mode header rate) = (values.format ≡ format.Csv) × (mode ≡ mode_of values.csv) × (header ≡ values.header) × (numbers_of rate ≡ values.rate)
+IsFormOf values (Csv mode header rate) = (values.format ≡ format.Csv) × (mode ≡ values.csv) × (header ≡ values.header) × (numbers_of rate ≡ values.rate)
 
 -- in this form the bytes have a head, with these names of channels and this rate
 abbrev pub HasHead : Form → List ℕ → Told → List (List ℕ) → Rate → Type 0

@@ -2,20 +2,10 @@
 ghost use Rattle.std.specs.Prelude.{◌≡◌};
 ghost use Rattle.capture_any.specs.Captures.{IsForm};
 ghost use Rattle.words.specs.Settings.{meaning_of};
-ghost use Rattle.ldecode.specs.Asking.{IsFormOf, mode_of};
+ghost use Rattle.ldecode.specs.Asking.{IsFormOf};
 
-use capture_any::{CsvMode, Form};
-use words::{CsvRecords, Format, Settings};
-
-// The mode of a CSV capture by what its records are.
-fn mode_of(records: CsvRecords) -> CsvMode
-    ensures { result ≡ mode_of records }
-{
-    match records {
-        CsvRecords::Rows => CsvMode::Rows,
-        CsvRecords::Times => CsvMode::Times,
-    }
-}
+use capture_any::Form;
+use words::{Format, Settings};
 
 /// The form of the capture that the settings name.
 pub fn form_of(settings: &Settings) -> Form
@@ -31,7 +21,7 @@ pub fn form_of(settings: &Settings) -> Form
             down: settings.down,
         },
         Format::Csv => Form::Csv {
-            mode: mode_of(settings.csv),
+            mode: settings.csv,
             header: settings.header,
             rate: settings.rate,
         },

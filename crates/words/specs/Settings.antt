@@ -14,8 +14,8 @@ use Rattle.words.specs.Rates.{RateNumbers, numbers_of, rate_written}
 use Rattle.words.specs.Uses.{Used, chains_of, is_of, uses_of, why_value}
 use Rattle.words.specs.declared.kinds.Format.{Format}
 use Rattle.words.specs.declared.kinds.Format.TheVariants.{Raw, Vcd, Csv}
-use Rattle.words.specs.declared.kinds.CsvRecords.{CsvRecords}
-use Rattle.words.specs.declared.kinds.CsvRecords.TheVariants.{Rows, Times}
+use Rattle.la_base.specs.declared.modes.CsvMode.{CsvMode}
+use Rattle.la_base.specs.declared.modes.CsvMode.TheVariants.{Rows, Times}
 use Rattle.words.specs.declared.kinds.Job.{Job}
 use Rattle.words.specs.declared.kinds.Job.TheVariants.{Decode, Find, Make}
 use Rattle.words.specs.declared.kinds.WordCount.{WordCount}
@@ -33,7 +33,7 @@ pub record Values : Type 0 where
   pub channels : ℕ
   pub rate : RateNumbers
   pub down : ℕ
-  pub csv : CsvRecords
+  pub csv : CsvMode
   pub header : Bool
   pub threads : Bool
   pub ring : ℕ
@@ -72,7 +72,7 @@ abbrev pub format_named : Text → Format
 format_named text = if bytes_eq text (codes "vcd") then Vcd else if bytes_eq text (codes "csv") then Csv else Raw
 
 -- what the records of a CSV capture are that a good value names
-abbrev pub csv_named : Text → CsvRecords
+abbrev pub csv_named : Text → CsvMode
 csv_named text = if bytes_eq text (codes "times") then Times else Rows
 
 -- a good value is `yes` or `no`

@@ -30,15 +30,6 @@ pub enum Format {
     Csv,
 }
 
-/// What the records of a CSV file are.
-#[derive(Clone, Copy, Debug, PartialEq, Eq)]
-pub enum CsvRecords {
-    /// A sample each.
-    Rows,
-    /// Values from a time on, which the first column tells.
-    Times,
-}
-
 /// What is wrong with a word.
 #[derive(Clone, Copy, Debug, PartialEq, Eq, Error)]
 pub enum WordWhy {

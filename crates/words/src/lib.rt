@@ -15,7 +15,7 @@ mod settings;
 mod uses;
 mod values;
 
-pub use kinds::{CsvRecords, Format, Job, WordFault, WordWhy, WordsError};
+pub use kinds::{Format, Job, WordFault, WordWhy, WordsError};
 pub use laws::{clap_reads_the_uses, options_are_whole};
 pub use options::{MOST_COUNT, MOST_DOWN, MOST_RING, MOST_SEED, Name, OPTIONS, OptionRow, Takes};
 pub use read::read_words;

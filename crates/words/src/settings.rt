@@ -4,8 +4,8 @@ ghost use Rattle.words.specs.Options.{IsWithin, row};
 ghost use Rattle.words.specs.declared.options.Name.TheVariants.{Channels, Count, Down, Ring, Seed};
 ghost use Rattle.words.specs.declared.values.TheConstants.{MOST_RATE_NUM, MOST_RATE_DEN};
 
-use crate::{CsvRecords, Format, Job};
-use la_base::Rate;
+use crate::{Format, Job};
+use la_base::{CsvMode, Rate};
 use text_parts::ChainWord;
 
 /// The value of each option, and the words that are no options, in order.
@@ -20,7 +20,7 @@ pub struct Settings {
     /// The units of time for which a sample of a VCD capture stands.
     pub down: u64,
     /// What the records of a CSV capture are.
-    pub csv: CsvRecords,
+    pub csv: CsvMode,
     /// Whether the first record of a CSV capture names its columns.
     pub header: bool,
     /// Whether decoders run in threads of their own.

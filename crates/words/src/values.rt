@@ -12,8 +12,8 @@ ghost use Rattle.words.specs.Uses.{why_value};
 
 use crate::lexer::cut_at_slash;
 use crate::options::{Name, Takes};
-use crate::{CsvRecords, Format, Job, WordWhy};
-use la_base::Rate;
+use crate::{Format, Job, WordWhy};
+use la_base::{CsvMode, Rate};
 use text_parts::{NumberWhy, number_in};
 
 /// The most that stands before the `/` of a rate.
@@ -133,12 +133,12 @@ pub fn format_named(text: &str) -> Format
 }
 
 /// What the records of a CSV capture are that a good value names.
-pub fn csv_named(text: &str) -> CsvRecords
+pub fn csv_named(text: &str) -> CsvMode
     ensures { result ≡ csv_named text.now }
 {
     match text {
-        "times" => CsvRecords::Times,
-        _ => CsvRecords::Rows,
+        "times" => CsvMode::Times,
+        _ => CsvMode::Rows,
     }
 }
 

@@ -6,7 +6,8 @@ use Rattle.la_io.specs.declared.fault.CaptureError.{CaptureError}
 use Rattle.wait_cond.specs.Conds.{cond_alts}
 use Rattle.wait_cond.specs.Waiting.{alts_of}
 use Rattle.wait_cond.specs.declared.scan.Waiter.{Waiter}
-use Rattle.capture_any.specs.Reading.{Next, given_by, stays_open}
+use Rattle.capture_any.specs.Reading.{Next, given_by}
+use Rattle.la_io.specs.Reading.{stays_open}
 use Rattle.capture_any.specs.declared.capture.Capture.{Capture}
 use Rattle.capture_any.proofs.ListingLemmas.{gave_held, gave_run, same_still, same_on, lists_done, lists_fault, lists_no_memory, lists_read, lists_write}
 use Rattle.find_job.specs.Stopping.{WritesHeld}

@@ -1,30 +1,30 @@
-use Rattle.std.proofs.Common.{refl, sym, subst, List, ℕ, length, ◌+◌, ◌≤◌}
-use Rattle.capture_csv.specs.Reader.{GaveHeld as CsvGaveHeld, csv_given}
+use Rattle.std.proofs.Common.{refl, sym, subst, length, ◌+◌, ◌≤◌}
+use Rattle.capture_csv.specs.Reader.{csv_given}
 use Rattle.capture_any.specs.Reading.{given_in}
 use Rattle.capture_any.specs.declared.reader.Reader.{Reader}
-use Rattle.capture_vcd.specs.Reader.{GaveHeld, vcd_given}
-use Rattle.capture_any.specs.Taking.{held_samples}
-use Rattle.capture_any.proofs.Taking.{csv_counts, csv_is_held, gave_csv, gave_vcd, held_counts, run_is_held}
+use Rattle.capture_vcd.specs.Reader.{vcd_given}
+use Rattle.la_io.specs.Reading.{run_samples}
+use Rattle.capture_any.proofs.Taking.{csv_counts, gave_csv, gave_vcd, held_counts}
 use Rattle.capture_any.proofs.capture.Capture.held_other.Goals as goal
 
 pub returns-in-Vcd-clause-gave : goal.returns-in-Vcd-clause-gave
 returns-in-Vcd-clause-gave c =
     let run = c.held_of.result in
-    gave_vcd c.args.self.now _ c.in-Vcd.reader _ (held_samples run) (subst (λ (l : List ℕ). GaveHeld c.in-Vcd.reader c.held_of.new.reader l) (run_is_held run) c.held_of.ensures.given) (λ _. c.held_of.ensures.few) c.in-Vcd.is refl
+    gave_vcd c.args.self.now _ c.in-Vcd.reader _ (run_samples run) c.held_of.ensures.given (λ _. c.held_of.ensures.few) c.in-Vcd.is refl
 
 pub returns-in-Vcd-clause-progress : goal.returns-in-Vcd-clause-progress
 returns-in-Vcd-clause-progress c =
     let new = c.held_of.new.reader in
     let run = c.held_of.result in
-    subst (λ (x : Reader). given_in x + length (held_samples run) ≤ vcd_given new) (sym c.in-Vcd.is) (held_counts run _ (vcd_given new) c.held_of.ensures.counts)
+    subst (λ (x : Reader). given_in x + length (run_samples run) ≤ vcd_given new) (sym c.in-Vcd.is) (held_counts run _ (vcd_given new) c.held_of.ensures.counts)
 
 pub returns-in-Csv-clause-gave : goal.returns-in-Csv-clause-gave
 returns-in-Csv-clause-gave c =
     let run = c.held_csv.result in
-    gave_csv c.args.self.now _ c.in-Csv.reader _ (held_samples run) (subst (λ (l : List ℕ). CsvGaveHeld c.in-Csv.reader c.held_csv.new.reader l) (csv_is_held run) c.held_csv.ensures.given) (λ _. c.held_csv.ensures.few) c.in-Csv.is refl
+    gave_csv c.args.self.now _ c.in-Csv.reader _ (run_samples run) c.held_csv.ensures.given (λ _. c.held_csv.ensures.few) c.in-Csv.is refl
 
 pub returns-in-Csv-clause-progress : goal.returns-in-Csv-clause-progress
 returns-in-Csv-clause-progress c =
     let new = c.held_csv.new.reader in
     let run = c.held_csv.result in
-    subst (λ (x : Reader). given_in x + length (held_samples run) ≤ csv_given new) (sym c.in-Csv.is) (csv_counts run _ (csv_given new) c.held_csv.ensures.counts)
+    subst (λ (x : Reader). given_in x + length (run_samples run) ≤ csv_given new) (sym c.in-Csv.is) (csv_counts run _ (csv_given new) c.held_csv.ensures.counts)

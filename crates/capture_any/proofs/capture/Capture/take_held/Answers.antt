@@ -14,7 +14,7 @@ returns-in-Raw-clause-gave c =
     let more = samples_of taken.gave.0 in (
       taken.gave.0,
       taken.gave.1,
-      gave_raw c.args.self.now _ c.in-Raw.raw _ more taken.gave.2 taken.few c.in-Raw.is refl,
+      gave_raw c.args.self.now _ c.in-Raw.raw _ more taken.gave.2 (λ _. taken.few) c.in-Raw.is refl,
       subst (λ (x : Reader). given_in x + length more ≤ raw_given c.take_raw.new.reader) (sym c.in-Raw.is) taken.gave.3,
     )
 

@@ -1,6 +1,7 @@
 use Rattle.std.proofs.Common.{◌≡◌, Bool, true, Result, refl, sym, ◌∙◌, ap, subst}
 use Rattle.la_io.specs.declared.fault.CaptureError.{CaptureError}
-use Rattle.capture_any.specs.Reading.{CaptureCause, is_open_of}
+use Rattle.capture_any.specs.Reading.{is_open_of}
+use Rattle.la_io.specs.Reading.{CaptureCause}
 use Rattle.capture_any.specs.Taking.{Gives, open_behind}
 use Rattle.ldecode.proofs.FeedLemmas.{answer_closes, answer_more, feed_ends, feed_on}
 use Rattle.ldecode.proofs.capture_feed.CaptureFeedRunFeed.next_runs.Goals as goal
