@@ -61,10 +61,19 @@ fn samples_runs_and_wires(rt: HostRuntime) {
         (0b0101, 1, false),
         (0b0101, 2, true),
         (1 << 63, 63, true),
-        (u64::MAX >> 1, 63, false),
+        (Word::MAX >> 65, 63, false),
+        (1 << 63, 64, false),
+        (1 << 64, 64, true),
+        (1 << 64, 0, false),
+        (1 << 127, 127, true),
+        (Word::MAX >> 1, 127, false),
     ] {
         assert!(rt; channel < MOST_PINS && pin(sample, channel) == high);
     }
+    let halves = 5 << 64 | 3;
+    assert!(rt; low_half(halves) == 3 && high_half(halves) == 5);
+    assert!(rt; low_half(Word::MAX) == u64::MAX && high_half(Word::MAX) == u64::MAX);
+    assert!(rt; CsvMode::Rows != CsvMode::Times);
     let run = Run { value: 6, len: 5 };
     let two = (Run { value: 6, len: 2 }, Run { value: 6, len: 3 });
     let four = (Run { value: 6, len: 4 }, Run { value: 6, len: 1 });

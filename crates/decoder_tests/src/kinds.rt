@@ -139,32 +139,32 @@ fn kinds_have_their_names_wires_and_options(rt: HostRuntime) {
 // rate of 1 MHz.
 const OPENINGS: &str = "\
 i2c 0 1 > ok
-i2c 63 63 > ok
+i2c 127 127 > ok
 i2c - 1 > range
 i2c 0 - > range
-i2c 64 1 > range
+i2c 128 1 > range
 i2c 0 4294967296 > range
 spi 0 1 > ok
 spi 0 - 1 > ok
-spi 0 63 2 3 1 1 32 3 > ok
+spi 0 127 2 3 1 1 32 3 > ok
 spi - 1 2 > range
 spi 0 - - > range
 spi 0 - - 4 0 0 8 0 > range
-spi 0 64 > range
-spi 0 1 2 64 > range
+spi 0 128 > range
+spi 0 1 2 128 > range
 spi 0 1 2 3 2 > range
 spi 0 1 2 3 0 2 > range
 spi 0 1 2 3 0 0 0 > range
 spi 0 1 2 3 0 0 33 > range
 spi 0 1 2 3 0 0 8 4 > range
 uart 0 > ok
-uart 63 500000 9 4 2 99 > ok
+uart 127 500000 9 4 2 99 > ok
 uart 0 500001 > rate
 uart 0 1 5 0 1 1 > ok
 uart 0 10000 8 0 1 1 > ok
 uart 0 10001 8 0 1 1 > rate
 uart - 9600 > range
-uart 64 > range
+uart 128 > range
 uart 0 0 > range
 uart 0 10000001 > range
 uart 0 9600 4 > range
@@ -183,9 +183,9 @@ eeprom24 0 0 0 2 > range
 eeprom24 18446744073709551615 > range
 eeprom24 0 18446744073709551615 > range
 onewire_link 0 > ok
-onewire_link 63 3000 1000000000 2000 > ok
+onewire_link 127 3000 1000000000 2000 > ok
 onewire_link - > range
-onewire_link 64 > range
+onewire_link 128 > range
 onewire_link 0 0 > range
 onewire_link 0 480000 0 > range
 onewire_link 0 480000 100000 1000000001 > range

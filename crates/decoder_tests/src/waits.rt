@@ -228,7 +228,7 @@ fn stops_of_runs(rt: HostRuntime) -> Result<(), Fail> {
             let mut runs = Vec::new(alloc);
             let mut samples = Vec::new(alloc);
             for _ in 0..count {
-                let (value, len) = (rest % values, 1 + rest / values % 3);
+                let (value, len) = (Word::from(rest % values), 1 + rest / values % 3);
                 runs.push((value, len))?;
                 for _ in 0..len {
                     samples.push(value)?;
@@ -490,13 +490,28 @@ fn words_are_bound(rt: HostRuntime) -> Result<(), Fail> {
     }
     let mut pins = Pins::new();
     let _ = bind_alt(&words(alloc, SIXTY_THREE)?, &names, &mut pins);
+    let mut others = String::new(alloc);
+    for channel in 63..MOST_PINS - 1 {
+        let comma = if channel == 63 { "" } else { "," };
+        others.push_str(format!(in alloc; "{comma}{channel}=h")?.as_str())?;
+    }
+    assert!(rt; others.len() <= 4096);
+    let _ = bind_alt(&words(alloc, others.as_str())?, &names, &mut pins);
+    assert!(rt; pins.len() == 127);
     let many = ItemFault {
         item: 2,
         why: BindWhy::TooMany,
     };
-    let bound = bind_alt(&words(alloc, "63=h,skip=1,64=h")?, &names, &mut pins);
+    let bound = bind_alt(&words(alloc, "127=h,skip=1,128=h")?, &names, &mut pins);
     assert!(rt; bound == Err(many));
-    assert!(rt; pins.len() == 63);
+    assert!(rt; pins.len() == 127);
+    let bound = bind_alt(&words(alloc, "127=r,64=l")?, &names, &mut pins);
+    let last = Alt {
+        rise: 1 << 127,
+        low: 1 << 64,
+        ..NONE
+    };
+    assert!(rt; bound == Ok(last) && pins.len() == 128);
     let item = ItemFault { item: 1, ..unknown };
     let text = format!(in alloc; "{item}")?;
     assert!(rt; text.as_str() == "item 1: no such channel");

@@ -1,6 +1,7 @@
 // Captures through the public calls, of the raw reader and of the reader of any form.
 ghost use Rattle.std.specs.Prelude.{◌≡◌, ◌≤◌, ◌<◌, ℕ, [], ◌∷◌, codes, length, slice_index};
 ghost use Rattle.la_base.specs.declared.samples.Rate.{Rate as ItsRate};
+ghost use Rattle.la_base.specs.declared.samples.TheConstants.{MOST_PINS};
 ghost use Rattle.la_io.specs.Capture.{AtEnd, Ends, Faulty};
 ghost use Rattle.la_io.specs.declared.fault.CaptureFault.TheVariants.{ShortUnit};
 ghost use Rattle.capture_raw.specs.Raw.{raw_capture, raw_names};
@@ -33,6 +34,9 @@ const SAMPLES: &str = "\
 3 1 9 [0, 1, 2] f8ff05 > [0, 7, 5] > Some(Ok(End))
 8 1 9 [7, 0, 3] 880180 > [5, 2, 1] > Some(Ok(End))
 64 1 9 [63, 0, 40] 0100000000010080 > [7] > Some(Ok(End))
+# the highest channel is the highest bit of the sixteenth byte, the lowest one the lowest bit of the first
+128 1 17 [127, 0, 64] 00*15 80 01 00*15 00*8 01 00*7 > [1, 2, 4] > Some(Ok(End))
+121 1 17 [120, 63, 64, 1] 02 00*6 80 01 00*6 01 0200 > [15] > Some(Ok(ShortUnit { at: 16 }))
 # no pins
 8 1 9 [] aa5555 > [0, 0, 0] > Some(Ok(End))
 8 1 9 [0]  > [] > Some(Ok(End))
@@ -67,6 +71,7 @@ const ANY_FORM: &str = "\
 9 1 8 [8] 0000010102 > [0, 1] > Some(Fault(ShortUnit { at: 4 }))
 16 1 8 [0] 01 > [] > Some(Fault(ShortUnit { at: 0 }))
 64 1 8 [63] 0000000000000080 > [1] > None
+128 1 17 [127] 00*15 80 > [1] > None
 8 1 1 2 [0] 0100 > [1, 0] > Some(Read)";
 
 // The pins of these channels.
@@ -91,7 +96,7 @@ fn read_raw(
     size: usize,
     fails: &[u64],
 ) -> Result<(Vec<(Word, u64)>, Vec<Word>, Option<Result<RawStep, Failed>>), Fail> {
-    assert!(rt; 1 <= channels && channels <= 64 && 1 <= size);
+    assert!(rt; 1 <= channels && channels <= u64::from(MOST_PINS) && 1 <= size);
     let mut source = source_of(alloc, bytes, size, fails)?;
     let mut reader = RawReader::open(channels as u32, RATE);
     is_send(&reader);
@@ -128,7 +133,7 @@ fn read_any(
     size: usize,
     fails: &[u64],
 ) -> Result<String, Fail> {
-    assert!(rt; 1 <= channels && channels <= 64 && 1 <= size);
+    assert!(rt; 1 <= channels && channels <= u64::from(MOST_PINS) && 1 <= size);
     let mut source = source_of(alloc, bytes, size, fails)?;
     let form = Form::Raw {
         channels: channels as u32,
@@ -221,21 +226,21 @@ fn plain_samples(
 
 // Bytes of units whose neighbours differ in noise alone, but for one channel, that changes behind
 // stretches of 1, 2, 3 .. units. So changes lie at all places of the blocks that are compared at once.
-fn stretches(alloc: Global, channels: u64, noise: u64, most: u32) -> Result<Vec<u8>, Fail>
+fn stretches(alloc: Global, channels: u64, noise: Word, most: u32) -> Result<Vec<u8>, Fail>
     requires some { 1 ≤ channels }
-    requires few { channels ≤ 64 }
+    requires few { channels ≤ MOST_PINS }
 {
     let unit = channels.div_ceil(8) as usize;
     let mut bytes = Vec::new(alloc);
-    let mut random: u64 = 1;
-    let mut value: u64 = 0x1234_5678_9abc_def0;
+    let mut random: Word = 1;
+    let mut value: Word = 0x1234_5678_9abc_def0_0fed_cba9_8765_4321;
     for len in 1..most {
         value ^= 1 << (channels - 1);
         for _ in 0..len {
             // numbers that look like chance (xorshift)
-            random ^= random << 13;
-            random ^= random >> 7;
-            random ^= random << 17;
+            random ^= random << 23;
+            random ^= random >> 17;
+            random ^= random << 52;
             let number = (value ^ (random & noise)).to_le_bytes();
             bytes.extend_from_slice(&number[..unit])?;
         }
@@ -252,15 +257,15 @@ fn worked_captures()
 #[test]
 fn samples_and_head_of_a_raw_capture(rt: HostRuntime) -> Result<(), Fail> {
     let alloc = rt.alloc();
-    for channels in [1, 8, 9, 16, 17, 64] {
-        assert!(rt; 1 <= channels && channels <= 64);
+    for channels in [1, 8, 9, 16, 17, 24, 32, 40, 63, 64, 65, 127, 128] {
+        assert!(rt; 1 <= channels && channels <= u64::from(MOST_PINS));
         let high = channels - 1;
         // no noise, the lowest bit of each byte, the highest one, all
         for (noise, most) in [
             (0, 70),
-            (0x0101_0101_0101_0101, 35),
-            (0x8080_8080_8080_8080, 35),
-            (u64::MAX, 5),
+            (0x0101_0101_0101_0101_0101_0101_0101_0101, 35),
+            (0x8080_8080_8080_8080_8080_8080_8080_8080, 35),
+            (Word::MAX, 5),
         ] {
             let bytes = stretches(alloc, channels, noise, most)?;
             let lists: [&[u64]; 6] = [&[], &[0], &[high], &[0, high], &[high, 0], &[channels / 2]];

@@ -1,7 +1,7 @@
 // Value change dumps through their reader.
 use crate::rows::source_of;
 use capture_vcd::*;
-use la_base::{Pins, Run};
+use la_base::{MOST_PINS, Pins, Run};
 use std::alloc::Global;
 use std::process::Abort;
 use std::test::Fail;
@@ -131,7 +131,7 @@ fn read(
     size: usize,
     fails: &[u64],
 ) -> Result<String, Fail> {
-    assert!(rt; 1 <= down && down <= 1_000_000_000 && wide <= 64 && 1 <= size);
+    assert!(rt; 1 <= down && down <= 1_000_000_000 && wide <= MOST_PINS && 1 <= size);
     let mut source = source_of(alloc, text.as_bytes(), size, fails)?;
     let mut reader = match VcdReader::open(alloc, down, &mut source) {
         Ok(reader) => reader,

@@ -1,7 +1,8 @@
 use crate::rows::parts_of;
+use la_base::CsvMode;
 use std::alloc::Global;
 use std::test::Fail;
-use words::{CsvRecords, Format, Job, WordsError, read_words};
+use words::{Format, Job, WordsError, read_words};
 
 // A row has words between brackets, before them how many words `a` stand in front, and behind them what
 // they give. In a word a star stands before the number of bytes `x` that go on; a dot stands for no word.
@@ -72,7 +73,7 @@ pub const FAULTS: &str = "\
 [--show x  --x] 2 0 Empty
 # numbers
 [--channels 0] 1 0 Range
-[--channels 65] 1 0 Range
+[--channels 129] 1 0 Range
 [--channels=+5] 0 0 Value
 [--channels=-5] 0 0 Value
 [--channels=8x] 0 0 Value
@@ -157,7 +158,7 @@ pub const VALUES: &str = "\
 [a*4095] decode 8 1000000/1 yes 256
 [--format raw i2c] decode 8 1000000/1 yes 256
 [i2c --format=raw] decode 8 1000000/1 yes 256
-[--channels 64 i2c] decode 64 1000000/1 yes 256
+[--channels 128 i2c] decode 128 1000000/1 yes 256
 [--channels=1 i2c] decode 1 1000000/1 yes 256
 [i2c --channels=0000000000000000007] decode 7 1000000/1 yes 256
 [--rate 1 i2c] decode 8 1/1 yes 256
@@ -248,7 +249,7 @@ pub fn holds(alloc: Global, row: &str) -> Result<bool, Fail> {
         write!(values, " vcd {}", settings.down)?;
     }
     if settings.format == Format::Csv {
-        let records = if settings.csv == CsvRecords::Times {
+        let records = if settings.csv == CsvMode::Times {
             "times"
         } else {
             "rows"
@@ -276,7 +277,7 @@ pub fn holds(alloc: Global, row: &str) -> Result<bool, Fail> {
 pub const OPTIONS_TOLD: &str = "\
 job (decode, find, make) decode
 format (raw, vcd, csv) raw
-channels (1 to 64) 8
+channels (1 to 128) 8
 rate (N or N/D, N 1 to 1000000000000000, D 1 to 1000000000) 1000000
 down (1 to 1000000000) 1
 csv (rows, times) rows

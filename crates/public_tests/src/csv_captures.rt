@@ -4,9 +4,9 @@ ghost use Rattle.std.specs.Prelude.{◌≤◌, ◌<◌, ℕ, length, slice_index
 use crate::dumps::add_text;
 use crate::rows::{is_send, numbers_of, parts_of, source_of};
 use crate::runs::run_over;
-use capture_any::{Capture, CsvMode, Form, Runs};
+use capture_any::{Capture, Form, Runs};
 use capture_csv::CsvReader;
-use la_base::{Pins, Rate};
+use la_base::{CsvMode, Pins, Rate};
 use std::alloc::Global;
 use std::test::Fail;
 
@@ -162,6 +162,7 @@ fn rows_of_csv_captures(rt: HostRuntime) -> Result<(), Fail> {
     capture_csv::pins_leave_the_ending();
     capture_csv::pins_leave_the_head();
     capture_csv::plain_is_split();
+    capture_csv::simple_is_read();
     capture_csv::worked_lines_hold();
     capture_csv::worked_rows_hold();
     capture_csv::worked_times_hold();

@@ -34,3 +34,5 @@ mod streams;
 mod tables;
 #[cfg(test)]
 mod tokens;
+#[cfg(test)]
+mod wide;

@@ -11,8 +11,8 @@ use std::test::Fail;
 // serial line falls with the eleventh sample.
 const FIRST: [u8; 12] = [7, 7, 5, 5, 6, 6, 7, 7, 6, 6, 3, 3];
 
-// All bytes of a source, read so many at once, at most 500.
-fn bytes_of(alloc: Global, source: &mut MadeSource, most: usize) -> Result<Vec<u8>, Fail> {
+/// All bytes of a source, read so many at once, at most 500.
+pub fn bytes_of(alloc: Global, source: &mut MadeSource, most: usize) -> Result<Vec<u8>, Fail> {
     let mut bytes = Vec::new(alloc);
     let mut buf = [0; 500];
     let most = most.min(500);

@@ -22,7 +22,7 @@ const HELP: &str = "  --job
   --format
       values: raw, vcd, csv; usual: raw
   --channels
-      values: 1 to 64; usual: 8
+      values: 1 to 128; usual: 8
   --rate
   --down
       values: 1 to 1000000000; usual: 1

@@ -69,6 +69,8 @@ pub const SEARCHES: &str = "\
 [--job=find D7=e] 0080807f > 0 >  > 1: 0|3: 0|
 [--job find 3=r] 0008 > 0 >  > 1: 0|
 [--job find D0=r D1=h skip=2] 0001030302 > 0 >  > 1: 0,2|2: 1|3: 1|4: 1|
+[--job find --channels 128 D127=r] 00*31 80 > 0 >  > 1: 0|
+[--job find --channels 65 D0=l,D1=l,D2=l,D3=l,D4=l,D5=l,D6=l,D7=l,D8=l,D9=l,D10=l,D11=l,D12=l,D13=l,D14=l,D15=l,D16=l,D17=l,D18=l,D19=l,D20=l,D21=l,D22=l,D23=l,D24=l,D25=l,D26=l,D27=l,D28=l,D29=l,D30=l,D31=l,D32=l,D33=l,D34=l,D35=l,D36=l,D37=l,D38=l,D39=l,D40=l,D41=l,D42=l,D43=l,D44=l,D45=l,D46=l,D47=l,D48=l,D49=l,D50=l,D51=l,D52=l,D53=l,D54=l,D55=l,D56=l,D57=l,D58=l,D59=l,D60=l,D61=l,D62=l,D63=l D64=h] 00*17 01 > 0 >  > 0: 0|1: 0,1|
 [--job find --channels 9 D8=r] 0000010102 > 3 > ldecode: capture at 4: ShortUnit| > 1: 0|";
 
 // The second capture has a start again after seven bits, which give nothing; the next ones have a second

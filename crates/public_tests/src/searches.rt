@@ -1,4 +1,5 @@
 // Searches through the public calls, worked out by hand.
+ghost use Rattle.la_base.specs.declared.samples.TheConstants.{MOST_PINS};
 ghost use Rattle.std.specs.Prelude.{◌≤◌, length};
 ghost use Rattle.wait_cond.specs.Binding.{AllBelow, Distinct};
 
@@ -77,7 +78,7 @@ fn search(
     write_fails: &[u64],
     buffered: bool,
 ) -> Result<String, Fail>
-    requires channels { (1 ≤ channels) × (channels ≤ 64) }
+    requires channels { (1 ≤ channels) × (channels ≤ MOST_PINS) }
     requires parts { (1 ≤ length) × (1 ≤ most) }
 {
     let mut source = source_of(alloc, &SAMPLES, length, read_fails)?;

@@ -23,9 +23,9 @@ fn lines_and_floors(rt: HostRuntime) {
     // lines are bits of a sample
     for (scl, sda, opens) in [
         (0, 1, true),
-        (63, 63, true),
-        (64, 1, false),
-        (1, 64, false),
+        (127, 127, true),
+        (128, 1, false),
+        (1, 128, false),
         (u32::MAX, u32::MAX, false),
     ] {
         match I2c::open(I2cOpts { scl, sda }, RATE) {

@@ -56,18 +56,18 @@ const ROWS: &str = "\
 # MISO alone, the least significant bit first: 1, then 0
 0 - 1 2 0 0 2 3 [46745] 0-0 Select 0-0 #S 0/0 2-4 MISO 01 2-4 .1 01 2-4 #W 0/1 @5
 # the highest that each option may be, and the lowest number of bits; then each is one too high, bits too low, and no data line given
-63 - 63 63 1 1 32 3 [] @0
+127 - 127 127 1 1 32 3 [] @0
 0 1 - - 1 1 1 0 [] @0
-64 - 63 63 1 1 32 3 [] Range
-63 64 63 63 1 1 32 3 [] Range
-0 1 64 2 1 1 8 0 [] Range
-63 - 63 64 1 1 32 3 [] Range
-63 - 63 63 2 1 32 3 [] Range
-63 - 63 63 1 2 32 3 [] Range
-63 - 63 63 1 1 0 3 [] Range
-63 - 63 63 1 1 33 3 [] Range
-63 - 63 63 1 1 32 4 [] Range
-63 - - 63 1 1 32 3 [] Range";
+128 - 127 127 1 1 32 3 [] Range
+127 128 127 127 1 1 32 3 [] Range
+0 1 128 2 1 1 8 0 [] Range
+127 - 127 128 1 1 32 3 [] Range
+127 - 127 127 2 1 32 3 [] Range
+127 - 127 127 1 2 32 3 [] Range
+127 - 127 127 1 1 0 3 [] Range
+127 - 127 127 1 1 33 3 [] Range
+127 - 127 127 1 1 32 4 [] Range
+127 - - 127 1 1 32 3 [] Range";
 
 fn opts_of(settings: &str) -> SpiOpts {
     let mut words = settings.split(' ');
@@ -187,7 +187,7 @@ fn lists_by_the_plain_program(rt: HostRuntime) -> Result<(), Fail> {
         if (number >> 56) % 64 == 0 {
             steady ^= 4;
         }
-        samples.push(steady | (number >> 50) & 10)?;
+        samples.push(Word::from(steady | (number >> 50) & 10))?;
     }
     for row in LINES.split('\n') {
         for bits in [1, 7, 8, 17, 32] {

@@ -12,9 +12,9 @@ use std::test::Fail;
 const KILOHERTZ: Rate = Rate { num: 1000, den: 1 };
 
 // Samples in which line 0 has a level and the other lines are high.
-const HIGH: Word = u64::MAX;
+const HIGH: Word = Word::MAX;
 
-const LOW: Word = u64::MAX - 1;
+const LOW: Word = Word::MAX - 1;
 
 // Line 0, read in the middle of a bit.
 const LINE: UartOpts = UartOpts {
@@ -171,8 +171,8 @@ fn lines_worked_by_hand(rt: HostRuntime) -> Result<(), Fail> {
 // the two numbers of the rate. First each option at the ends of its range and behind them; then rates that are just high
 // enough and just not, among them a million samples a second as a fraction whose parts are as large as they can be.
 pub const SETTINGS: &str = "\
-63 500 9 4 2 50 1000 1 opens
-64 500 8 0 1 50 1000 1 Range
+127 500 9 4 2 50 1000 1 opens
+128 500 8 0 1 50 1000 1 Range
 0 0 8 0 1 50 1000 1 Range
 0 10000001 8 0 1 50 1000 1 Range
 0 500 4 0 1 50 1000 1 Range
