@@ -3,7 +3,7 @@ use Rattle.std.proofs.Common.{◌≡◌, ℕ, ◌+◌, ◌-◌, ◌*◌, ◌/◌
 use Rattle.std.specs.Prelude.{nat_eq}
 use Rattle.std.specs.Int.{bit_at}
 use Rattle.std.specs.Int.Bits.{bit_and}
-use Rattle.std.proofs.lemmas.Nat.Bits.{bit_at_cat_low, bit_at_cat_high, shr_and_one}
+use Rattle.std.proofs.lemmas.Nat.Bits.{bit_at_cat_low, bit_at_cat_high, bit_at-zero, shr_and_one}
 use Rattle.la_base.specs.Samples.{is_high}
 
 parted : (word k : ℕ) → word ≡ word / 2 ^ k * 2 ^ k + word % 2 ^ k
@@ -14,6 +14,13 @@ low_bit word j below = sym (ap (λ (n : ℕ). bit_at n j) (parted word 64) ∙ b
 
 pub high_bit : (word j : ℕ) → 64 ≤ j → bit_at (word / 2 ^ 64) (j - 64) ≡ bit_at word j
 high_bit word j above = sym (ap (λ (n : ℕ). bit_at n j) (parted word 64) ∙ bit_at_cat_high (word / 2 ^ 64) 64 (word % 2 ^ 64) j (omega arith) above)
+
+-- above a half has none
+pub no_bit : (word j : ℕ) → 64 ≤ j → bit_at (word % 2 ^ 64) j ≡ 0
+no_bit word j above = sym (high_bit (word % 2 ^ 64) j above) ∙ (ap (λ (n : ℕ). bit_at n (j - 64)) (none word) ∙ bit_at-zero (j - 64))
+  where
+    none : (n : ℕ) → n % 2 ^ 64 / 2 ^ 64 ≡ 0
+    none n = omega arith
 
 -- as a test of one bit has it
 tested : (half j : ℕ) → nat_eq (bit_and (half / 2 ^ j) 1) 1 ≡ nat_eq (bit_at half j) 1

@@ -2,10 +2,7 @@
 ghost use Rattle.std.specs.Prelude.{◌≡◌, ◌+◌, ◌<◌, ◌++◌, ◌%◌, ◌/◌, ◌^◌};
 ghost use Rattle.la_base.specs.Samples.{samples, is_high};
 
-use crate::{MOST_PINS, Run, Word};
-
-// How many bits half a word has.
-const HALF: u32 = 64;
+use crate::{HALF_BITS, MOST_PINS, Run, Word};
 
 /// The bits of a word that pins 0 to 63 have.
 #[inline(always)]
@@ -20,7 +17,7 @@ pub fn low_half(word: Word) -> u64
 pub fn high_half(word: Word) -> u64
     ensures { result ≡ word / 2 ^ 64 }
 {
-    (word >> HALF) as u64
+    (word >> HALF_BITS) as u64
 }
 
 /// Whether the channel that is bound as pin `channel` is high in a sample: bit `channel` of it.
@@ -30,11 +27,20 @@ pub fn pin(value: Word, channel: u32) -> bool
     ensures { result ≡ is_high value channel }
 {
     // A shift of one half takes less than one of the whole.
-    if channel < HALF {
+    if channel < HALF_BITS {
         (low_half(value) >> channel) & 1 == 1
     } else {
-        (high_half(value) >> (channel - HALF)) & 1 == 1
+        (high_half(value) >> (channel - HALF_BITS)) & 1 == 1
     }
+}
+
+/// The mask of a pin: the sample in which it alone is high.
+#[inline]
+pub fn mask(channel: u32) -> Word
+    requires { channel < MOST_PINS }
+    ensures { result ≡ 2 ^ channel }
+{
+    1 << channel
 }
 
 /// The first `n` samples of a run, and the others, of which there is at least one.

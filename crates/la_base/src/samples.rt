@@ -9,6 +9,12 @@ pub type Word = u128;
 /// How many channels can be bound: the bits of a `Word`.
 pub const MOST_PINS: u32 = 128;
 
+/// How many bits half a `Word` has.
+pub const HALF_BITS: u32 = MOST_PINS / 2;
+
+/// How many bytes a `Word` has.
+pub const WORD_BYTES: usize = MOST_PINS as usize / 8;
+
 const PLACES: usize = MOST_PINS as usize;
 
 /// The channels that are bound, by number, in the order of their bits.

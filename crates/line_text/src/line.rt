@@ -121,6 +121,20 @@ impl LineBuf {
         self.push_padded(&places[start..], digits);
     }
 
+    /// Appends a label, and a number in upper case hexadecimal with leading zeros up to `digits` digits, where
+    /// there is room for any.
+    #[tactic(auto, using(crate::proofs::Widths::hex_room))]
+    #[inline(never)]
+    pub fn push_labelled(&mut self, label: &[u8], n: u64, digits: u32)
+        requires digits { (1 ≤ digits) × (digits ≤ 16) }
+        requires room { length self.old + length label.now + 16 ≤ 256 }
+        ensures text { self.new ≡ self.old ++ (label.now ++ hex digits n) }
+        ensures short { length self.new ≤ length self.old + length label.now + 16 }
+    {
+        self.push_bytes(label);
+        self.push_hex(n, digits);
+    }
+
     /// Appends `-` where `negative`, then `whole` in decimal, a point, and `part` in decimal with
     /// leading zeros up to `digits` digits: `part` counts units of the last of these places.
     pub fn push_fixed(&mut self, negative: bool, whole: u64, part: u64, digits: u32)
