@@ -3,23 +3,19 @@ use Rattle.std.proofs.Common.{◌≡◌, ◌≤◌, ◌+◌, ◌^◌, length, ar
 use Rattle.std.proofs.lemmas.List.{append-nil, take-append-le}
 use Rattle.std.proofs.Math.Seq.{take-append-add}
 use borrow.Rule.Slice.PartMut.{put_mid, post_of}
-use Rattle.la_base.proofs.RunLemmas.{count_push, samples_len}
+use Rattle.la_base.proofs.RunLemmas.{count_push, samples_len, samples_push}
 use Rattle.la_base.specs.Runs.{samples_of}
 use Rattle.la_base.specs.Samples.{samples}
 use Rattle.la_base.specs.declared.samples.Run.{Run}
-use Rattle.la_io.specs.Capture.{Cut}
+use Rattle.la_io.specs.Capture.{Told}
 use Rattle.capture_raw.specs.Reader.{Stands as RawStands, raw_given}
 use Rattle.capture_raw.specs.declared.reader.RawReader.{RawReader}
-use Rattle.capture_vcd.specs.Reader.{GaveHeld as VcdGaveHeld, VcdStands, vcd_given}
 use Rattle.capture_vcd.specs.Running.{RunCounts}
-use Rattle.capture_vcd.specs.declared.reader.VcdReader.{VcdReader}
-use Rattle.capture_csv.specs.Reader.{GaveHeld as CsvGaveHeld, CsvStands, csv_given}
 use Rattle.capture_csv.specs.Running.{run_len as csv_len}
-use Rattle.capture_csv.specs.declared.reader.CsvReader.{CsvReader}
 use Rattle.capture_any.specs.Reading.{Next, Stands, StandsIn, given_in}
 use Rattle.capture_any.specs.declared.reader.NamedRaw.{NamedRaw}
 use Rattle.capture_any.specs.declared.reader.Reader.{Reader}
-use Rattle.capture_any.specs.declared.reader.Reader.TheVariants.{Raw as OfRaw, Vcd as OfVcd, Csv as OfCsv}
+use Rattle.capture_any.specs.declared.reader.Reader.TheVariants.{Raw as OfRaw}
 use Rattle.capture_any.specs.Taking.{GaveHeld, GaveMore, RawGave}
 use Rattle.la_io.specs.Reading.{run_samples}
 use Rattle.capture_any.specs.declared.capture.Capture.{Capture}
@@ -43,59 +39,49 @@ held_some run old new rises =
     let len : length (samples run) ≡ run.len = samples_len run in
     omega (arith, len, rises)
 
+-- these samples were given, and no byte was taken
+abbrev Handed : (Stood Stands : List ℕ → Told → List ℕ → Type 0) → List ℕ → Type 0
+Handed Stood Stands more = (bytes : List ℕ) (told : Told) (given : List ℕ) → Stood bytes told given → Stands bytes told (given ++ more)
+
 -- no run
+pub handed_none : (Stands : List ℕ → Told → List ℕ → Type 0) → Handed Stands Stands []
+handed_none Stands bytes told given st = subst (λ (l : List ℕ). Stands bytes told l) (sym (append-nil given)) st
+
 pub gave_none : (capture : Capture) → GaveHeld capture capture []
-gave_none capture bytes told given st = subst (λ l. Stands capture bytes told l) (sym (append-nil given)) st
+gave_none capture = handed_none (Stands capture)
 
 -- samples behind others
-pub gave_further : (old mid new : Capture) (before more : List ℕ) → GaveHeld old mid before → GaveHeld mid new more → GaveHeld old new (before ++ more)
-gave_further old mid new before more first second bytes told given st = subst (λ l. Stands new bytes told l) (append_assoc given before more) (second bytes told (given ++ before) (first bytes told given st))
+pub handed_on : (First Mid Last : List ℕ → Told → List ℕ → Type 0) (before more : List ℕ) → Handed First Mid before → Handed Mid Last more → Handed First Last (before ++ more)
+handed_on First Mid Last before more first second bytes told given st = subst (λ (l : List ℕ). Last bytes told l) (append_assoc given before more) (second bytes told (given ++ before) (first bytes told given st))
 
--- a raw reader gave samples of what it held
-pub gave_raw : (old new : Capture) (r s : NamedRaw) (more : List ℕ) → RawGave r.reader s.reader more → (raw_given r.reader ≤ 2 ^ 60 → raw_given s.reader ≤ 2 ^ 60)
-    → old.reader ≡ OfRaw r → new.reader ≡ OfRaw s → GaveHeld old new more
-gave_raw old new r s more gave few old_is new_is bytes told given st =
-    let stands : (told ≡ Cut) × RawStands r.reader bytes given = subst (λ (x : Reader). StandsIn x bytes told given) old_is st.stands in
-    record {
-      stands = subst (λ (x : Reader). StandsIn x bytes told (given ++ more)) (sym new_is) (stands.0, gave bytes given stands.1);
-      few = subst (λ (x : Reader). given_in x ≤ 2 ^ 60) (sym new_is) (few (subst (λ (x : Reader). given_in x ≤ 2 ^ 60) old_is st.few));
-    }
+pub gave_further : (old mid new : Capture) (before more : List ℕ) → GaveHeld old mid before → GaveHeld mid new more → GaveHeld old new (before ++ more)
+gave_further old mid new before more first second = handed_on (Stands old) (Stands mid) (Stands new) before more first second
+
+-- and one run behind others
+pub handed_more : (First Mid Last : List ℕ → Told → List ℕ → Type 0) (runs : List Run) (run : Run) → Handed First Mid (samples_of runs) → Handed Mid Last (samples run) → Handed First Last (samples_of (runs ++ run ∷ []))
+handed_more First Mid Last runs run first second = subst (λ (l : List ℕ). Handed First Last l) (sym (samples_push runs run)) (handed_on First Mid Last (samples_of runs) (samples run) first second)
+
+-- a capture gave what its reader gave of what it held
+pub gave_by : (old : Capture) (r s : Reader) (more : List ℕ) → Handed (StandsIn r) (StandsIn s) more → (given_in r ≤ 2 ^ 60 → given_in s ≤ 2 ^ 60) → old.reader ≡ r → GaveHeld old (record { reader = s }) more
+gave_by old r s more gave few is bytes told given st = record {
+  stands = gave bytes told given (subst (λ (x : Reader). StandsIn x bytes told given) is st.stands);
+  few = few (subst (λ (x : Reader). given_in x ≤ 2 ^ 60) is st.few);
+}
+
+-- a raw reader is told of no end
+pub gave_raw : (old : Capture) (r s : NamedRaw) (more : List ℕ) → RawGave r.reader s.reader more → (raw_given r.reader ≤ 2 ^ 60 → raw_given s.reader ≤ 2 ^ 60) → old.reader ≡ OfRaw r → GaveHeld old (record { reader = OfRaw s }) more
+gave_raw old r s more gave few is = gave_by old (OfRaw r) (OfRaw s) more (λ bytes told given st. (st.0, gave bytes given st.1)) few is
 
 -- and none where it stays as it was
 pub gave_same : (r s : RawReader) → s ≡ r → (bytes given : List ℕ) → RawStands r bytes given → RawStands s bytes (given ++ [])
 gave_same r s same bytes given st = subst (λ (l : List ℕ). RawStands s bytes l) (sym (append-nil given)) (subst (λ (x : RawReader). RawStands x bytes given) (sym same) st)
 
--- a VCD reader gave samples of what it held
-pub gave_vcd : (old new : Capture) (r s : VcdReader) (more : List ℕ) → VcdGaveHeld r s more → (vcd_given r ≤ 2 ^ 60 → vcd_given s ≤ 2 ^ 60) → old.reader ≡ OfVcd r → new.reader ≡ OfVcd s → GaveHeld old new more
-gave_vcd old new r s more gave few old_is new_is bytes told given st = record {
-  stands = subst (λ (x : Reader). StandsIn x bytes told (given ++ more)) (sym new_is) (gave bytes told given (subst (λ (x : Reader). StandsIn x bytes told given) old_is st.stands));
-  few = subst (λ (x : Reader). given_in x ≤ 2 ^ 60) (sym new_is) (few (subst (λ (x : Reader). given_in x ≤ 2 ^ 60) old_is st.few));
-}
-
-pub vcd_none : (reader : VcdReader) → VcdGaveHeld reader reader []
-vcd_none reader bytes told given st = subst (λ (l : List ℕ). VcdStands reader bytes told l) (sym (append-nil given)) st
-
-pub vcd_further : (old mid new : VcdReader) (before more : List ℕ) → VcdGaveHeld old mid before → VcdGaveHeld mid new more → VcdGaveHeld old new (before ++ more)
-vcd_further old mid new before more first second bytes told given st = subst (λ (l : List ℕ). VcdStands new bytes told l) (append_assoc given before more) (second bytes told (given ++ before) (first bytes told given st))
-
--- and it counts them
+-- a VCD reader counts them
 pub held_counts : (run : Option Run) (old new : ℕ) → RunCounts old new run → old + length (run_samples run) ≤ new
 held_counts None old new is = held_none old new (omega (arith, is))
 held_counts (Some run) old new is = held_some run old new (omega (arith, is.0))
 
--- a CSV reader gave samples of what it held
-pub gave_csv : (old new : Capture) (r s : CsvReader) (more : List ℕ) → CsvGaveHeld r s more → (csv_given r ≤ 2 ^ 60 → csv_given s ≤ 2 ^ 60) → old.reader ≡ OfCsv r → new.reader ≡ OfCsv s → GaveHeld old new more
-gave_csv old new r s more gave few old_is new_is bytes told given st = record {
-  stands = subst (λ (x : Reader). StandsIn x bytes told (given ++ more)) (sym new_is) (gave bytes told given (subst (λ (x : Reader). StandsIn x bytes told given) old_is st.stands));
-  few = subst (λ (x : Reader). given_in x ≤ 2 ^ 60) (sym new_is) (few (subst (λ (x : Reader). given_in x ≤ 2 ^ 60) old_is st.few));
-}
-
-pub csv_none : (reader : CsvReader) → CsvGaveHeld reader reader []
-csv_none reader bytes told given st = subst (λ (l : List ℕ). CsvStands reader bytes told l) (sym (append-nil given)) st
-
-pub csv_further : (old mid new : CsvReader) (before more : List ℕ) → CsvGaveHeld old mid before → CsvGaveHeld mid new more → CsvGaveHeld old new (before ++ more)
-csv_further old mid new before more first second bytes told given st = subst (λ (l : List ℕ). CsvStands new bytes told l) (append_assoc given before more) (second bytes told (given ++ before) (first bytes told given st))
-
+-- and so does a CSV reader
 pub csv_counts : (run : Option Run) (old new : ℕ) → old + csv_len run ≤ new → old + length (run_samples run) ≤ new
 csv_counts None old new less = held_none old new (omega (arith, less))
 csv_counts (Some run) old new less = held_some run old new less

@@ -24,15 +24,15 @@ use Rattle.capture_csv.specs.Csv.{Taken, body_by, body_of, channel_fields, csv_c
 use Rattle.text_parts.specs.Reading.{read_front}
 use Rattle.capture_csv.specs.Modes.{skips}
 use Rattle.capture_csv.specs.Plain.{NeedsCsv}
-use Rattle.capture_csv.specs.Reader.{CsvStands, CsvWants, FirstIs, Going, LineSays, NextLine, StandsAs, StepAnswers, csv_by, csv_header, csv_mode, csv_names, csv_pins, csv_rate, given_at}
+use Rattle.capture_csv.specs.Reader.{CsvStands, FirstIs, Going, LineSays, NextLine, StandsAs, StepAnswers, WantsAt, csv_by, csv_header, csv_lines, csv_mode, csv_names, csv_pins, csv_rate, given_at}
 use Rattle.la_io.specs.Reading.{Behind, CaptureCause, run_samples}
 use Rattle.capture_csv.specs.Records.{Record, is_passed, record_of, records_in, without_marks}
 use Rattle.capture_csv.specs.Running.{BodyFaulty, BodyStands, EndSays, FieldsAnswer, Flushes, held_in, pins_in, row_of, want_in}
 use Rattle.capture_csv.specs.declared.body.Body.{Body}
 use Rattle.la_base.specs.declared.modes.CsvMode.{CsvMode}
 use Rattle.la_base.specs.declared.modes.CsvMode.TheVariants.{Rows, Times}
-use Rattle.capture_csv.specs.declared.phase.Step.{Step}
-use Rattle.capture_csv.specs.declared.phase.Step.TheVariants.{Went, Gave, Over}
+use Rattle.la_io.specs.declared.answer.Step.{Step}
+use Rattle.la_io.specs.declared.answer.Step.TheVariants.{Went, Gave, Over}
 use Rattle.capture_csv.specs.declared.phase.Phase.{Phase}
 use Rattle.capture_csv.specs.declared.phase.Phase.TheVariants.{Running}
 use Rattle.capture_csv.specs.declared.reader.CsvReader.{CsvReader}
@@ -123,10 +123,10 @@ module _ (reader new : CsvReader) (bytes : List ℕ) (told : Told) (given : List
       (ap (λ (h : Bool). read_front (record_says (csv_mode new) (csv_rate new).num (csv_rate new).den (want_in new.body)) [] (body_of h first rest ++ row ∷ [])) header ∙ faulty.read) faulty.gave
 
   -- memory is wanted for it
-  pub line_wants : NeedsCsv (without_marks (text_of reader.lines)) → new.body ≡ reader.body → csv_header new ≡ csv_header reader → BodyStands reader.body (body_of (csv_header reader) first rest) given → held_in reader.body ≡ false
-      → (count : ℕ) × (count < length bytes) × CsvWants bytes count × (given ≡ (csv_by new (take count bytes) Cut).settled)
-  line_wants needs body header stands held = by_items items refl where
-    by_items : (l : List Placed) → items ≡ l → (count : ℕ) × (count < length bytes) × CsvWants bytes count × (given ≡ (csv_by new (take count bytes) Cut).settled)
+  pub line_wants : NeedsCsv (without_marks (text_of reader.lines)) → number ≡ csv_lines reader → new.lines ≡ reader.lines → new.body ≡ reader.body → csv_header new ≡ csv_header reader → BodyStands reader.body (body_of (csv_header reader) first rest) given → held_in reader.body ≡ false
+      → (count : ℕ) × (count < length bytes) × WantsAt new.lines bytes count × (given ≡ (csv_by new (take count bytes) Cut).settled)
+  line_wants needs last lines_are body header stands held = by_items items refl where
+    by_items : (l : List Placed) → items ≡ l → (count : ℕ) × (count < length bytes) × WantsAt new.lines bytes count × (given ≡ (csv_by new (take count bytes) Cut).settled)
     by_items [] is = let none = sym records ∙ ap records_in is in cc
     by_items (one ∷ others) is =
         let taken = lines.stands.taken in
@@ -136,7 +136,8 @@ module _ (reader new : CsvReader) (bytes : List ℕ) (told : Told) (given : List
         (ap records_in (sym is) ∙ records) head.few head.want_is place.4 stands.read (sym (gave_open (csv_mode reader) (csv_rate reader) (csv_pins reader) (held_in reader.body) stands.taken given stands.gave held)) in
         let same : csv_by new (take place.0 bytes) Cut ≡ csv_by reader (take place.0 bytes) Cut = λ i. csv_capture (body i).mode (header i) (body i).rate.num (body i).rate.den (pins_in (body i)) (take place.0 bytes) Cut in
         let next : NextLine bytes place.0 item = record { some = place.2; feed = place.3; lines = one ∷ others; before = place.4; told = told; rest = after.0; all = all } in
-        (place.0, place.1, (item, next, needs), sym (ap (λ (c : Captured). c.settled) same ∙ ends.settled))
+        let wants : WantsAt reader.lines bytes place.0 = record { next = subst (λ (n : ℕ). NextLine bytes place.0 (n, text_of reader.lines)) last next; needs = needs } in
+        (place.0, place.1, subst (λ (l : Lines). WantsAt l bytes place.0) (sym lines_are) wants, sym (ap (λ (c : Captured). c.settled) same ∙ ends.settled))
 
 -- what a record gave, of the text of its line
 pub answer_of : (body : Body) (records : List Record) (given : List ℕ) (number : ℕ) (text line more : List ℕ) (said : Result (Option Run) CaptureFault) (run : Option Run) → text ≡ line → said ≡ Ok run

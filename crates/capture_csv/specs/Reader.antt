@@ -1,17 +1,17 @@
 -- What a reader of CSV captures stands for behind its first record, and what its answers mean.
 use Rattle.std.specs.Prelude.{ℕ, ◌≡◌, ◌+◌, ◌-◌, ◌^◌, ◌<◌, ◌≤◌, nat_lt, Bool, true, false, if◌then◌else◌, List, [], ◌∷◌, ◌++◌, length, slice_index, take, Option, Some, None, Result, Ok, Err}
-use Rattle.std.specs.Io.KnownBytes.{Consumes, IsAtEnd}
 use Rattle.text_parts.specs.Places.{Placed}
 use Rattle.la_base.specs.Samples.{samples}
 use Rattle.la_base.specs.declared.samples.Rate.{Rate}
 use Rattle.la_base.specs.declared.samples.Run.{Run}
 use Rattle.la_io.specs.Capture.{Told, AtEnd, Cut, Clean, Faulty, Open, Captured, Ends}
-use Rattle.la_io.specs.Reading.{Behind}
+use Rattle.la_io.specs.Reading.{Reads, step_of}
 use Rattle.la_io.specs.declared.fault.CaptureError.{CaptureError}
 use Rattle.la_io.specs.declared.fault.CaptureError.TheVariants as error
 use Rattle.la_io.specs.declared.fault.CaptureFault.{CaptureFault}
 use Rattle.byte_feed.specs.Parts.{Fed, behind}
 use Rattle.byte_feed.specs.Lines.{lines_of}
+use Rattle.byte_feed.specs.declared.lines.Lines.{Lines}
 use Rattle.byte_feed.specs.LineReader.{Stands, is_spent, left_of, number_of, taken_of, text_of}
 use Rattle.capture_csv.specs.Csv.{body_of, channel_fields, csv_capture, names_by}
 use Rattle.capture_csv.specs.Plain.{NeedsCsv}
@@ -22,8 +22,8 @@ use Rattle.la_base.specs.declared.modes.CsvMode.TheVariants.{Rows, Times}
 use Rattle.capture_csv.specs.declared.reader.CsvReader.{CsvReader}
 use Rattle.capture_csv.specs.declared.phase.Phase.{Phase}
 use Rattle.capture_csv.specs.declared.phase.Phase.TheVariants.{Running, Ended, Empty, Refused}
-use Rattle.capture_csv.specs.declared.phase.Step.{Step}
-use Rattle.capture_csv.specs.declared.phase.Step.TheVariants.{Went, Gave, Over}
+use Rattle.la_io.specs.declared.answer.Step.{Step}
+use Rattle.la_io.specs.declared.answer.Step.TheVariants.{Went, Gave, Over}
 
 -- what a record is, whether the first one gives names, and the rate
 abbrev pub csv_mode : CsvReader → CsvMode
@@ -117,9 +117,22 @@ pub record NextLine (bytes : List ℕ) (count : ℕ) (line : Placed) : Type 0 wh
   pub rest : Fed
   pub all : lines_of bytes told ≡ behind (lines ++ line ∷ []) rest
 
--- memory is wanted for the line behind so many bytes, one that needs `csv`: what was given is what the bytes before it settle
+-- the line behind so many bytes needs `csv`
 abbrev pub CsvWants : List ℕ → ℕ → Type 0
 CsvWants bytes count = (line : Placed) × NextLine bytes count line × NeedsCsv (without_marks line.1)
+
+-- how many lines it took
+abbrev pub csv_lines : CsvReader → ℕ
+csv_lines reader = number_of reader.lines
+
+-- memory is wanted for the line that was taken last: that stands behind so many bytes, and needs `csv`
+pub record WantsAt (lines : Lines) (bytes : List ℕ) (count : ℕ) : Type 0 where
+  pub next : NextLine bytes count (number_of lines, text_of lines)
+  pub needs : NeedsCsv (without_marks (text_of lines))
+
+-- and this call took it
+abbrev pub WantsLater : {T : Type 0} → CsvReader → CsvReader → Result T CaptureError → Type 0
+WantsLater old new result = result ≡ Err error.NoMemory → csv_lines old < csv_lines new
 
 -- what an answer says of all bytes taken
 abbrev pub StepAnswers : CsvReader → List ℕ → Told → List ℕ → Result Step CaptureError → Type 0
@@ -128,14 +141,11 @@ StepAnswers reader bytes told given (Ok (Gave run)) = CsvStands reader bytes tol
 StepAnswers reader bytes told given (Ok Over) = (told ≡ AtEnd) × Ends (csv_by reader bytes told) given Clean
 StepAnswers reader bytes told given (Err (error.Fault fault)) = Ends (csv_by reader bytes told) given (Faulty fault)
 StepAnswers reader bytes told given (Err error.Read) = (told ≡ Cut) × Ends (csv_by reader bytes told) given Open
-StepAnswers reader bytes told given (Err error.NoMemory) = (count : ℕ) × (count < length bytes) × CsvWants bytes count × (given ≡ (csv_by reader (take count bytes) Cut).settled)
+StepAnswers reader bytes told given (Err error.NoMemory) = (count : ℕ) × (count < length bytes) × WantsAt reader.lines bytes count × (given ≡ (csv_by reader (take count bytes) Cut).settled)
 
 -- one line: the bytes that it took, and what the answer means behind them
-pub record Steps (old new : CsvReader) (left_old left_new : Option (List ℕ)) (result : Result Step CaptureError) : Type 0 where
-  pub bytes : List ℕ
-  pub consumed : Consumes left_old left_new bytes
-  pub answers : (before : List ℕ) (early : Told) (given : List ℕ) → (early ≡ AtEnd → IsAtEnd left_old) → Going old before early given
-      → Behind left_new before early bytes (λ all told. StepAnswers new all told given result)
+abbrev pub Steps : CsvReader → CsvReader → Option (List ℕ) → Option (List ℕ) → Result Step CaptureError → Type 0
+Steps old new left_old left_new result = Reads left_old left_new (Going old) (λ all told given. StepAnswers new all told given result)
 
 -- its channels and its rate stay
 pub record SameReader (old new : CsvReader) : Type 0 where
@@ -152,22 +162,13 @@ WentOn old new (Ok (Gave run)) = (csv_open new ≡ true) × (csv_given old + run
 WentOn old new (Ok Over) = csv_open new ≡ false
 WentOn old new (Err why) = csv_open new ≡ false
 
--- an answer as that of a step
-abbrev pub step_of : Result (Option Run) CaptureError → Result Step CaptureError
-step_of (Ok (Some run)) = Ok (Gave run)
-step_of (Ok None) = Ok Over
-step_of (Err why) = Err why
-
 -- the same for the lines up to a run, or the end
 abbrev pub Nexts : CsvReader → CsvReader → Option (List ℕ) → Option (List ℕ) → Result (Option Run) CaptureError → Type 0
 Nexts old new left_old left_new result = Steps old new left_old left_new (step_of result)
 
 -- one call: the bytes that it took, and what its answer means behind them
-pub record Gives (old new : CsvReader) (left_old left_new : Option (List ℕ)) (result : Result (Option Run) CaptureError) : Type 0 where
-  pub bytes : List ℕ
-  pub consumed : Consumes left_old left_new bytes
-  pub answers : (before : List ℕ) (early : Told) (given : List ℕ) → (early ≡ AtEnd → IsAtEnd left_old) → CsvStands old before early given
-      → Behind left_new before early bytes (λ all told. StepAnswers new all told given (step_of result))
+abbrev pub Gives : CsvReader → CsvReader → Option (List ℕ) → Option (List ℕ) → Result (Option Run) CaptureError → Type 0
+Gives old new left_old left_new result = Reads left_old left_new (CsvStands old) (λ all told given. StepAnswers new all told given (step_of result))
 
 -- a run more
 abbrev pub MoreGiven : CsvReader → CsvReader → Result (Option Run) CaptureError → Type 0

@@ -1,17 +1,5 @@
 // How far a reader is.
-use la_base::Run;
 use la_io::CaptureFault;
-
-/// What one line gave.
-#[derive(Clone, Copy, Debug, PartialEq, Eq)]
-pub enum Step {
-    /// No samples.
-    Went,
-    /// A run.
-    Gave(Run),
-    /// The end.
-    Over,
-}
 
 /// How far the samples of a capture were given.
 #[derive(Clone, Copy, Debug, PartialEq, Eq)]

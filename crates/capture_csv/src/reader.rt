@@ -5,12 +5,12 @@ ghost use Rattle.byte_feed.specs.LineReader.{is_spent, number_of};
 use crate::body::Body;
 use crate::fields::fields_of_line;
 use crate::opening::{begin, first_line, names_of};
-use crate::phase::{Phase, Step};
+use crate::phase::Phase;
 use crate::spaces::{is_passed, without_marks};
 use crate::steps::skipped;
 use byte_feed::{Lines, error_of};
 use la_base::{CsvMode, Names, NoMemory, Pins, Rate, Run};
-use la_io::{CaptureError, CaptureFault, Source};
+use la_io::{CaptureError, CaptureFault, Source, Step};
 use std::alloc::Global;
 
 /// The most channels.
@@ -37,7 +37,7 @@ impl CsvReader {
     ghost use Rattle.capture_csv.specs.Records.{is_passed, without_marks};
     ghost use Rattle.capture_csv.specs.Running.{held_in, run_len};
     ghost use Rattle.la_io.specs.Reading.{run_samples, CaptureCause, stays_open};
-    ghost use Rattle.capture_csv.specs.Reader.{CsvStands, FlushedRun, GaveHeld, Gives, GoesHeld, LineAnswers, LineGoes, MoreGiven, Nexts, SameReader, Steps, WentOn, csv_given, csv_header, csv_mode, csv_names, csv_open, csv_pins, csv_rate};
+    ghost use Rattle.capture_csv.specs.Reader.{CsvStands, FlushedRun, GaveHeld, Gives, GoesHeld, LineAnswers, LineGoes, MoreGiven, Nexts, SameReader, Steps, WantsLater, WentOn, csv_given, csv_header, csv_lines, csv_mode, csv_names, csv_open, csv_pins, csv_rate};
     ghost use Rattle.la_base.specs.declared.modes.CsvMode.TheVariants.{Rows};
     ghost use Rattle.capture_csv.specs.declared.phase.Phase.TheVariants.{Running};
 
@@ -196,8 +196,10 @@ impl CsvReader {
         requires going { self.old.phase ≡ Running }
         requires held { held_in self.old.body ≡ false }
         requires counted { 1 ≤ number_of self.old.lines }
+        requires last { number ≡ csv_lines self.old }
         ensures says { LineAnswers self.old self.new number result }
         ensures goes { LineGoes self.old self.new result }
+        ensures lines { csv_lines self.new ≡ csv_lines self.old }
         ensures phase { self.new.phase ≡ self.old.phase }
         ensures read { result ≢ Err CaptureError.Read }
         ensures form { SameReader self.old self.new }
@@ -228,6 +230,8 @@ impl CsvReader {
         requires held { held_in self.old.body ≡ false }
         ensures steps { Steps self.old self.new (S.left source.old) (S.left source.new) result }
         ensures went { WentOn self.old self.new result }
+        ensures lines { csv_lines self.old ≤ csv_lines self.new }
+        ensures later { WantsLater self.old self.new result }
         ensures form { SameReader self.old self.new }
         ensures cause { CaptureCause (S.faults source.old) (S.faults source.new) result }
     {
@@ -255,6 +259,7 @@ impl CsvReader {
         requires open { csv_open self.old ≡ true }
         requires going { self.old.phase ≡ Running }
         ensures next { Nexts self.old self.new (S.left source.old) (S.left source.new) result }
+        ensures later { WantsLater self.old self.new result }
         ensures is_open { csv_open self.new ≡ stays_open result }
         ensures form { SameReader self.old self.new }
         ensures more { MoreGiven self.old self.new result }
@@ -386,11 +391,13 @@ impl CsvReader {
 
     /// The next run, or `None` at a clean end. After every answer but a run it is closed. `Fault` comes
     /// exactly where the capture has one, and `Read` where the source failed, both after all samples that
-    /// came before. `NoMemory` comes only where the next line needs `csv`: one of its fields is neither
-    /// plain nor one quoted text. What was given before are the samples of the lines before it.
+    /// came before. `NoMemory` comes only at a line that needs `csv`: one of its fields is neither
+    /// plain nor one quoted text. It is the line that was taken last, in this call; what was given are
+    /// the samples of the lines before it.
     pub fn next<S: Source>(&mut self, source: &mut S) -> Result<Option<Run>, CaptureError>
         requires { csv_open self.old ≡ true }
         ensures next { Gives self.old self.new (S.left source.old) (S.left source.new) result }
+        ensures later { WantsLater self.old self.new result }
         ensures is_open { csv_open self.new ≡ stays_open result }
         ensures form { SameReader self.old self.new }
         ensures more { MoreGiven self.old self.new result }

@@ -1,9 +1,9 @@
 -- Bytes that are taken from a source, one read after another.
-use Rattle.std.proofs.Common.{ℕ, List, [], ◌++◌, refl, sym, ◌∙◌, ap, arith, length-append, append_assoc, Option, Some, None}
+use Rattle.std.proofs.Common.{ℕ, List, [], ◌++◌, sym, ◌∙◌, ap, arith, length-append, append_assoc, Option}
 use Rattle.std.proofs.lemmas.List.{append-nil}
-use Rattle.std.specs.Io.KnownBytes.{Consumes}
 use Rattle.la_io.specs.Intake.{Front, Takes}
 use Rattle.la_io.proofs.Bytes.{consumes_on}
+use Rattle.la_io.proofs.Calls.{consumes_none}
 
 -- nothing was taken
 pub takes_none : (a : Front) (l : Option (List ℕ)) → Takes a a l l []
@@ -12,10 +12,6 @@ takes_none a l = record {
   held = sym (append-nil a.bytes);
   taken = omega arith;
 }
-  where
-    consumes_none : (l : Option (List ℕ)) → Consumes l l []
-    consumes_none None = tt
-    consumes_none (Some xs) = refl
 
 -- one taking after another
 pub takes_on : (a b c : Front) (l m n : Option (List ℕ)) (x y : List ℕ) → Takes a b l m x → Takes b c m n y → Takes a c l n (x ++ y)

@@ -2,6 +2,7 @@
 use Rattle.std.proofs.Common.{◌≡◌, ℕ, zero, suc, ◌+◌, ◌-◌, ◌*◌, ◌/◌, ◌%◌, ◌^◌, ◌≤◌, ◌<◌, ◌⊎◌, inl, inr, List, [], ◌∷◌, length, take, drop, get_or, sym, ◌∙◌, ap, arith, min, bit_and}
 use Rattle.std.specs.Int.{bit_at}
 use Rattle.std.proofs.lemmas.Nat.Bits.{bit_at-zero, bit_at_above, bit_at_cat_low, bit_at_cat_high, bit_at_and, bit_at_ones, bit_at_ones_above, bit_at-lt, same_from_bits, shr_and_one}
+use Rattle.la_base.specs.declared.samples.TheConstants.{HALF_BITS, MOST_PINS}
 use Rattle.la_base.proofs.Halves.{low_bit, high_bit}
 use Rattle.std.proofs.Math.Nat.{pow-succ', pow-le-pow_right, div-div-eq-div-mul}
 use Rattle.std.proofs.lemmas.Nat.{pow-add}
@@ -22,13 +23,13 @@ picked_split (suc count) (pin ∷ pins) n within =
     omega (arith, twice, picked_split count pins n (omega (arith, within)))
 
 -- a bit of a number as a half of it has it
-pub low_shifted : (n place half : ℕ) → place < 64 → half ≡ n % 2 ^ 64 → bit_and (half / 2 ^ (place % 64)) 1 ≡ bit_at n place
+pub low_shifted : (n place half : ℕ) → place < HALF_BITS → half ≡ n % 2 ^ HALF_BITS → bit_and (half / 2 ^ (place % HALF_BITS)) 1 ≡ bit_at n place
 low_shifted n place half below is =
-    let at : place % 64 ≡ place = omega (arith, below) in shr_and_one half (place % 64) ∙ (λ i. bit_at (is i) (at i)) ∙ low_bit n place below
+    let at : place % HALF_BITS ≡ place = omega (arith, below) in shr_and_one half (place % HALF_BITS) ∙ (λ i. bit_at (is i) (at i)) ∙ low_bit n place below
 
-pub high_shifted : (n place half : ℕ) → 64 ≤ place → place < 128 → half ≡ n / 2 ^ 64 → bit_and (half / 2 ^ (place % 64)) 1 ≡ bit_at n place
+pub high_shifted : (n place half : ℕ) → HALF_BITS ≤ place → place < MOST_PINS → half ≡ n / 2 ^ HALF_BITS → bit_and (half / 2 ^ (place % HALF_BITS)) 1 ≡ bit_at n place
 high_shifted n place half above below is =
-    let at : place % 64 ≡ place - 64 = omega (arith, above, below) in shr_and_one half (place % 64) ∙ (λ i. bit_at (is i) (at i)) ∙ high_bit n place above
+    let at : place % HALF_BITS ≡ place - HALF_BITS = omega (arith, above, below) in shr_and_one half (place % HALF_BITS) ∙ (λ i. bit_at (is i) (at i)) ∙ high_bit n place above
 
 -- a byte, and what stands behind it
 bit_of_sum : (a b i : ℕ) → a < 256 → bit_at (a + 256 * b) i ≡ bit_at a i + bit_at (256 * b) i

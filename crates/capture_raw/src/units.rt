@@ -6,7 +6,7 @@ ghost use Rattle.capture_raw.specs.Masks.{Covers, OfBytes};
 ghost use Rattle.capture_raw.specs.Stretches.{Picks};
 
 use crate::stretch::Stretch;
-use la_base::{MOST_PINS, Word, high_half, low_half};
+use la_base::{HALF_BITS, MOST_PINS, WORD_BYTES, Word, high_half, low_half};
 
 /// How many bytes there are.
 pub const BYTES: usize = 256;
@@ -14,14 +14,11 @@ pub const BYTES: usize = 256;
 /// The most bytes that a unit has.
 pub const MOST_UNIT: usize = (MOST_PINS as usize + 7) / 8;
 
-// How many bits half a word has.
-const HALF: usize = 64;
+// How many pins half a sample has.
+const HALF: usize = HALF_BITS as usize;
 
-/// How many bytes 64 bits are.
+/// How many bytes a `u64` has.
 pub const WORD: usize = 8;
-
-/// How many bytes 128 bits are.
-pub const BROAD: usize = 16;
 
 /// The number of eight bytes behind the first `at`, the lowest first.
 #[inline(always)]
@@ -33,13 +30,13 @@ pub fn word_at(bytes: &[u8], at: usize) -> u64
     u64::from_le_bytes(words[0])
 }
 
-/// The number of sixteen bytes behind the first `at`, the lowest first.
+/// The number of as many bytes as a sample has, behind the first `at`, the lowest first.
 #[inline(always)]
 pub fn broad_at(bytes: &[u8], at: usize) -> Word
-    requires { at + 16 ≤ length bytes.now }
-    ensures { result ≡ number (take 16 (drop at bytes.now)) }
+    requires { at + WORD_BYTES ≤ length bytes.now }
+    ensures { result ≡ number (take WORD_BYTES (drop at bytes.now)) }
 {
-    let (all, _) = bytes[at..at + 16].as_chunks::<16>();
+    let (all, _) = bytes[at..at + WORD_BYTES].as_chunks::<WORD_BYTES>();
     Word::from_le_bytes(all[0])
 }
 
@@ -67,7 +64,7 @@ pub fn picked_of(pins: &[u32], stretch: Stretch, bytes: &[u8], unit: usize) -> W
     requires whole { unit ≤ length bytes.now }
     ensures { result ≡ word_of pins.now (take unit bytes.now) }
 {
-    if stretch.holds && bytes.len() >= BROAD {
+    if stretch.holds && bytes.len() >= WORD_BYTES {
         // What stands behind the unit has no pin.
         return stretch.of(broad_at(bytes, 0));
     }
@@ -83,7 +80,7 @@ fn picked_singly(pins: &[u32], bytes: &[u8], unit: usize) -> Word
     requires whole { unit ≤ length bytes.now }
     ensures { result ≡ word_of pins.now (take unit bytes.now) }
 {
-    if bytes.len() < BROAD {
+    if bytes.len() < WORD_BYTES {
         return picked(pins, number(&bytes[..unit]));
     }
     picked(pins, broad_at(bytes, 0))
@@ -105,7 +102,7 @@ fn picked(pins: &[u32], n: Word) -> Word
 // The same for at most as many pins as half a word has bits.
 #[inline(always)]
 fn picked_few(pins: &[u32], n: Word) -> u64
-    requires few { length pins.now ≤ 64 }
+    requires few { length pins.now ≤ HALF_BITS }
     requires within { (k : ℕ) → k < length pins.now → slice_index pins.now k < MOST_PINS }
     ensures { result ≡ picked pins.now n }
 {
@@ -124,12 +121,12 @@ fn bit_of(n: Word, place: u32) -> u64
     requires { place < MOST_PINS }
     ensures { result ≡ bit_at n place }
 {
-    let half = if place < 64 {
+    let half = if place < HALF_BITS {
         low_half(n)
     } else {
         high_half(n)
     };
-    (half >> (place % 64)) & 1
+    (half >> (place % HALF_BITS)) & 1
 }
 
 /// A number that has the bit of each pin.

@@ -2,8 +2,8 @@
 ghost use Rattle.std.specs.Prelude.{◌≡◌, ◌<◌, ◌≤◌, ◌*◌, length, take};
 ghost use Rattle.capture_raw.specs.Masks.{SameSamples};
 
-use crate::units::{BROAD, MOST_UNIT, WORD, broad_at, number, word_at};
-use la_base::{Word, low_half};
+use crate::units::{MOST_UNIT, WORD, broad_at, number, word_at};
+use la_base::{WORD_BYTES, Word, low_half};
 
 // How many bytes are compared at once, one unit against the next.
 const BLOCK: usize = 64;
@@ -24,7 +24,7 @@ pub fn alike_wide(bytes: &[u8], unit: usize, mask: Word) -> usize
     let near = bytes.len().min(NEAR);
     let count = alike_within(bytes, unit, mask, 1, near);
     // Most runs end here.
-    if near - count * unit >= BROAD {
+    if near - count * unit >= WORD_BYTES {
         return count;
     }
     alike_far(bytes, unit, mask, count)
@@ -61,7 +61,7 @@ fn alike_on(bytes: &[u8], unit: usize, mask: Word, known: usize) -> usize
     ensures same { SameSamples unit mask bytes.now result }
 {
     let count = alike_within(bytes, unit, mask, known, bytes.len());
-    if bytes.len() - count * unit >= BROAD {
+    if bytes.len() - count * unit >= WORD_BYTES {
         return count;
     }
     more_units(bytes, unit, mask, count)
@@ -87,7 +87,7 @@ fn alike_within(bytes: &[u8], unit: usize, mask: Word, known: usize, end: usize)
     broad_units(bytes, unit, mask, known, end)
 }
 
-// The same for units of up to 8 bytes.
+// The same for units of up to as many bytes as a `u64` has.
 #[inline(always)]
 fn narrow_units(bytes: &[u8], unit: usize, mask: Word, known: usize, end: usize) -> usize
     requires some { 1 ≤ known }
@@ -130,13 +130,13 @@ fn broad_units(bytes: &[u8], unit: usize, mask: Word, known: usize, end: usize) 
     ensures within { result * unit ≤ end }
     ensures same { SameSamples unit mask bytes.now result }
 {
-    if end < BROAD {
+    if end < WORD_BYTES {
         return known;
     }
     let first = broad_at(bytes, 0);
     let mut count = known;
     let mut at = known * unit;
-    while end - at >= BROAD {
+    while end - at >= WORD_BYTES {
         if (broad_at(bytes, at) ^ first) & mask != 0 {
             return count;
         }

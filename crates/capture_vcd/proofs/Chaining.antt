@@ -11,6 +11,7 @@ use Rattle.std.proofs.lemmas.Nat.Bits.{and_pow, bit_at-suc, bit_at-zero}
 use Rattle.std.specs.declared.vec.Vec.{Vec}
 use Rattle.std.specs.declared.alloc.Global.{Global}
 use Rattle.la_base.specs.Naming.{same_name}
+use Rattle.la_base.specs.declared.samples.TheConstants.{MOST_PINS}
 use Rattle.capture_vcd.specs.Chains.{ChainedFrom, Leads, NoneHas, keys_of, key_of}
 use Rattle.capture_vcd.specs.Following.{is_one, level_bit, word_bits}
 use Rattle.capture_vcd.specs.Slots.{assigned, changed, channel_of, code_at, level_of, slot_in, valued, with_level}
@@ -85,19 +86,19 @@ word_bit (l ∷ ls) (suc k) =
 pub level_at : (slots : List Slot) (n : ℕ) → n < length slots → bit_at (word_bits (map level_of slots)) n ≡ level_bit (level_of (slot_in slots n))
 level_at slots n less = word_bit (map level_of slots) n ∙ ap level_bit (get_or-map level_of slots n _ false less)
 
-zeros : (k : ℕ) → 0 * 2 ^ k % 2 ^ 128 ≡ 0
+zeros : (k : ℕ) → 0 * 2 ^ k % 2 ^ MOST_PINS ≡ 0
 zeros k = omega arith
 
 -- a bit that is exchanged
-pub flipped : (was now : Bool) (word k : ℕ) → k < 128 → bit_at word k ≡ level_bit was → bit_xor word (bit_xor (level_bit was) (level_bit now) * 2 ^ k % 2 ^ 128) + level_bit was * 2 ^ k ≡ word + level_bit now * 2 ^ k
-flipped true true word k small is = let none : bit_xor word (0 * 2 ^ k % 2 ^ 128) ≡ word = ap (λ (n : ℕ). bit_xor word n) (zeros k) ∙ xor_zero_r word in omega (arith, none)
-flipped false false word k small is = let none : bit_xor word (0 * 2 ^ k % 2 ^ 128) ≡ word = ap (λ (n : ℕ). bit_xor word n) (zeros k) ∙ xor_zero_r word in omega (arith, none)
+pub flipped : (was now : Bool) (word k : ℕ) → k < MOST_PINS → bit_at word k ≡ level_bit was → bit_xor word (bit_xor (level_bit was) (level_bit now) * 2 ^ k % 2 ^ MOST_PINS) + level_bit was * 2 ^ k ≡ word + level_bit now * 2 ^ k
+flipped true true word k small is = let none : bit_xor word (0 * 2 ^ k % 2 ^ MOST_PINS) ≡ word = ap (λ (n : ℕ). bit_xor word n) (zeros k) ∙ xor_zero_r word in omega (arith, none)
+flipped false false word k small is = let none : bit_xor word (0 * 2 ^ k % 2 ^ MOST_PINS) ≡ word = ap (λ (n : ℕ). bit_xor word n) (zeros k) ∙ xor_zero_r word in omega (arith, none)
 flipped true false word k small is =
-    let one : bit_xor word (1 * 2 ^ k % 2 ^ 128) ≡ bit_xor word (2 ^ k) = ap (λ (n : ℕ). bit_xor word n) (one_shl k 128 small) in
+    let one : bit_xor word (1 * 2 ^ k % 2 ^ MOST_PINS) ≡ bit_xor word (2 ^ k) = ap (λ (n : ℕ). bit_xor word n) (one_shl k MOST_PINS small) in
     let bit : bit_and word (2 ^ k) ≡ 1 * 2 ^ k = and_pow word k ∙ ap (λ (n : ℕ). n * 2 ^ k) is in
     omega (arith, one, bit, xor_add_and word (2 ^ k))
 flipped false true word k small is =
-    let one : bit_xor word (1 * 2 ^ k % 2 ^ 128) ≡ bit_xor word (2 ^ k) = ap (λ (n : ℕ). bit_xor word n) (one_shl k 128 small) in
+    let one : bit_xor word (1 * 2 ^ k % 2 ^ MOST_PINS) ≡ bit_xor word (2 ^ k) = ap (λ (n : ℕ). bit_xor word n) (one_shl k MOST_PINS small) in
     let bit : bit_and word (2 ^ k) ≡ 0 * 2 ^ k = and_pow word k ∙ ap (λ (n : ℕ). n * 2 ^ k) is in
     omega (arith, one, bit, xor_add_and word (2 ^ k))
 

@@ -3,8 +3,7 @@ use Rattle.la_base.specs.Samples.{samples}
 use Rattle.la_base.specs.declared.samples.Run.{Run}
 use Rattle.capture_vcd.proofs.Running.{samples_are}
 use Rattle.std.proofs.lemmas.List.{length-replicate}
-use Rattle.std.proofs.Common.{◌≡◌, arith, length, length-append, ℕ, ◌^◌, ◌≤◌, ◌<◌, List, [], ◌∷◌, ◌++◌, map, refl, sym, ◌∙◌, ap, subst, append_assoc, Option, Some, None, Err, Bool, true, false}
-use Rattle.std.specs.Io.KnownBytes.{Consumes, IsAtEnd}
+use Rattle.std.proofs.Common.{◌≡◌, arith, length, length-append, ℕ, ◌^◌, ◌≤◌, ◌<◌, List, [], ◌∷◌, ◌++◌, map, refl, sym, ◌∙◌, ap, subst, append_assoc, Option, Err, Bool, true, false}
 use Rattle.text_parts.specs.Places.{Placed}
 use Rattle.la_io.specs.declared.fault.CaptureFault.{CaptureFault}
 use Rattle.la_io.specs.Capture.{Told, AtEnd, Cut, Ending, Clean, Faulty, Open, Captured, Ends}
@@ -28,7 +27,6 @@ use Rattle.la_base.specs.declared.samples.Rate.{Rate}
 use Rattle.std.specs.declared.vec.Vec.{Vec}
 use Rattle.std.specs.declared.alloc.Global.{Global}
 use Rattle.std.proofs.lemmas.Bool.{false≢true}
-use Rattle.std.proofs.lemmas.List.{append-nil}
 use Rattle.capture_vcd.specs.declared.reader.Phase.{Phase}
 use Rattle.capture_vcd.specs.declared.reader.Phase.TheVariants.{Fresh, Running, Ended, Refused}
 use Rattle.capture_vcd.proofs.Waiting.{flush_form, none_waits, run_is, settles}
@@ -117,21 +115,6 @@ module _ (new : VcdReader) (some : 0 < vcd_down new) (left : Option (List ℕ)) 
   pub feed_error : (why : FeedFault) (e : CaptureError) → e ≡ error_of why → Answers new.tokens left (bytes ++ more) (head ++ items) (Err why) → FaultSays e
   feed_error why e is r = subst FaultSays (sym is) (feed_ends why r)
 
--- one step behind others
-pub chained : (m n : Option (List ℕ)) (before bytes more : List ℕ) (early : Told) (given : List ℕ) (mid : VcdReader) (Q : List ℕ → Told → List ℕ → Type 0)
-    → Behind m before early bytes (λ all told. Going mid all told given)
-    → ((before : List ℕ) (early : Told) (given : List ℕ) → (early ≡ AtEnd → IsAtEnd m) → Going mid before early given → Behind n before early more (λ all told. Q all told given))
-    → Behind n before early (bytes ++ more) (λ all told. Q all told given)
-chained m n before bytes more early given mid Q a two =
-    let b = two (before ++ bytes) a.told given a.at_end a.says in
-    record {
-      told = b.told;
-      none = λ e. (λ i. a.none e i ++ b.none (a.still e) i);
-      still = λ e. b.still (a.still e);
-      at_end = b.at_end;
-      says = subst (λ (x : List ℕ). Q x b.told given) (append_assoc before bytes more) b.says;
-    }
-
 -- a run has a sample
 pub given_some : (given : List ℕ) (run : Run) → 1 ≤ run.len → 0 < length (given ++ samples run)
 given_some given run some = omega (arith, some, length-append given (samples run), ap length (samples_are run), length-replicate run.len run.value)
@@ -162,31 +145,6 @@ faulty_behind old new run items given fault flush faulty =
 -- the samples that were held back were given
 pub flushed_stands : (old new : Body) (run : Option Run) (items : List Placed) (given : List ℕ) → Flushes old new run → BodyStands old items given → BodyStands new items (given ++ run_samples run)
 flushed_stands old new run items given flush st = none_waits new items (given ++ run_samples run) flush.none (settles old new run items given flush st)
-
--- what is said of the same bytes
-pub behind_on : (left : Option (List ℕ)) (before : List ℕ) (early : Told) (bytes : List ℕ) (P Q : List ℕ → Told → Type 0) → ((all : List ℕ) (told : Told) → P all told → Q all told) → Behind left before early bytes P → Behind left before early bytes Q
-behind_on left before early bytes P Q on b = record {
-  told = b.told;
-  none = b.none;
-  still = b.still;
-  at_end = b.at_end;
-  says = on (before ++ bytes) b.told b.says;
-}
-
--- no byte was taken
-pub behind_same : (left : Option (List ℕ)) (before : List ℕ) (early : Told) (Q : List ℕ → Told → Type 0) → (early ≡ AtEnd → IsAtEnd left) → Q before early → Behind left before early [] Q
-behind_same left before early Q at q = record {
-  told = early;
-  none = λ e. refl;
-  still = λ e. e;
-  at_end = at;
-  says = subst (λ (b : List ℕ). Q b early) (sym (append-nil before)) q;
-}
-
--- nothing was taken
-pub consumes_none : (a : Option (List ℕ)) → Consumes a a []
-consumes_none None = tt
-consumes_none (Some xs) = refl
 
 -- what stays, stays
 pub same_on : (old mid new : VcdReader) → SameReader old mid → SameReader mid new → SameReader old new

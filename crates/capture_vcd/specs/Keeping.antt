@@ -1,9 +1,11 @@
 -- What is kept of the words of a section: as much as tells what they declare.
-use Rattle.std.specs.Prelude.{ℕ, ◌++◌, ◌==◌, ◌&&◌, ◌≤◌, not, Bool, if◌then◌else◌, List, [], ◌∷◌, length, map, take}
+use Rattle.std.specs.Prelude.{ℕ, ◌≡◌, ◌++◌, ◌==◌, ◌&&◌, ◌<◌, ◌≤◌, not, Bool, true, if◌then◌else◌, List, [], ◌∷◌, length, map, take}
 use Rattle.text_parts.specs.Numbers.{is_number, number_after}
 use Rattle.text_parts.specs.Places.{Placed}
 use Rattle.capture_vcd.specs.Header.{has_no_channel, joined}
-use Rattle.capture_vcd.specs.Gathered.{placed}
+use Rattle.capture_vcd.specs.Gathered.{placed, text_at}
+use Rattle.capture_vcd.specs.declared.section.Kind.{Kind}
+use Rattle.capture_vcd.specs.declared.section.Kind.TheVariants as kind
 use Rattle.capture_vcd.specs.declared.section.Word.{Word}
 
 -- of a time scale the place of its first word, and the first six bytes of its text: a good one has five at most
@@ -43,3 +45,15 @@ variable_step (type ∷ size ∷ code ∷ []) word = type ∷ size ∷ code ∷ 
 variable_step (type ∷ size ∷ code ∷ reference ∷ []) word = if joins type.1 size.1 then type ∷ size ∷ code ∷ reference ∷ word ∷ [] else type ∷ size ∷ code ∷ reference ∷ []
 variable_step (type ∷ size ∷ code ∷ reference ∷ more ∷ rest) word =
     if joins type.1 size.1 then type ∷ size ∷ code ∷ reference ∷ (more.0, more.1 ++ word.1) ∷ rest else type ∷ size ∷ code ∷ reference ∷ more ∷ rest
+
+-- so few words are kept of it: a fifth only where it belongs to its name
+pub record IsNamed (words : List Placed) : Type 0 where
+  pub few : length words ≤ 5
+  pub name : 4 < length words → joins (text_at words 0) (text_at words 1) ≡ true
+
+-- what is kept of an open section at most: of a time scale six bytes, of a variable four words and what belongs to its name, of any other nothing
+pub record KeepsFew (open_kind : Kind) (words : List Word) : Type 0 where
+  pub scale : open_kind ≡ kind.Scale → IsShort words
+  pub variable : open_kind ≡ kind.Variable → IsNamed (map placed words)
+  pub passed : open_kind ≡ kind.Passed → words ≡ []
+  pub definitions : open_kind ≡ kind.Definitions → words ≡ []

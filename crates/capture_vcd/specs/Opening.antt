@@ -9,6 +9,7 @@ use Rattle.byte_feed.specs.Reader.{Stands, is_spent, left_of, taken_of}
 use Rattle.byte_feed.specs.declared.tokens.Tokens.{Tokens}
 use Rattle.capture_vcd.specs.Vcd.{vcd_capture}
 use Rattle.capture_vcd.specs.Gathering.{HeaderAt, HeaderDone}
+use Rattle.capture_vcd.specs.Keeping.{KeepsFew}
 use Rattle.capture_vcd.specs.declared.header.Header.{Header}
 
 -- these bytes are a front of a file whose header isn't whole yet
@@ -45,3 +46,7 @@ pub record HeadReads (tokens_old tokens_new : Tokens) (header_old header_new : H
 abbrev pub HeadOn : Tokens → Tokens → Result Bool CaptureError → Type 0
 HeadOn old new (Ok done) = (is_spent new ≡ false) × (left_of new < left_of old)
 HeadOn old new (Err why) = Unit {0}
+
+-- what is kept of the section that is open at most
+abbrev pub HoldsFew : Header → Type 0
+HoldsFew header = KeepsFew header.kind header.words.items

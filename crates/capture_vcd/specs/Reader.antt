@@ -4,7 +4,7 @@ use Rattle.std.specs.Io.KnownBytes.{Consumes, IsAtEnd}
 use Rattle.text_parts.specs.Places.{Placed}
 use Rattle.la_base.specs.Samples.{samples}
 use Rattle.la_base.specs.declared.samples.Run.{Run}
-use Rattle.la_io.specs.Reading.{Behind}
+use Rattle.la_io.specs.Reading.{Reads, step_of}
 use Rattle.la_io.specs.declared.fault.CaptureError.{CaptureError}
 use Rattle.la_io.specs.declared.fault.CaptureError.TheVariants as error
 use Rattle.la_io.specs.Capture.{Told, AtEnd, Cut, Good, Bad, Unread, Clean, Faulty, Open, Captured, Ends}
@@ -24,8 +24,8 @@ use Rattle.capture_vcd.specs.Places.{channel_at}
 use Rattle.capture_vcd.specs.declared.reader.VcdReader.{VcdReader}
 use Rattle.capture_vcd.specs.declared.reader.Phase.{Phase}
 use Rattle.capture_vcd.specs.declared.reader.Phase.TheVariants.{Fresh, Running, Ended, Refused}
-use Rattle.capture_vcd.specs.declared.reader.Step.{Step}
-use Rattle.capture_vcd.specs.declared.reader.Step.TheVariants.{Went, Gave, Over}
+use Rattle.la_io.specs.declared.answer.Step.{Step}
+use Rattle.la_io.specs.declared.answer.Step.TheVariants.{Went, Gave, Over}
 
 -- what is kept of a header: the names of its channels, each a bit of a code, and the rate
 pub record Kept : Type 0 where
@@ -159,18 +159,9 @@ pub record SameReader (old new : VcdReader) : Type 0 where
   pub pins : pins_in new ≡ pins_in old
   pub down : vcd_down new ≡ vcd_down old
 
--- an answer as that of a step
-abbrev pub step_of : Result (Option Run) CaptureError → Result Step CaptureError
-step_of (Ok (Some run)) = Ok (Gave run)
-step_of (Ok None) = Ok Over
-step_of (Err why) = Err why
-
 -- one call: the bytes that it took, and what its answer means behind them
-pub record Gives (old new : VcdReader) (left_old left_new : Option (List ℕ)) (result : Result (Option Run) CaptureError) : Type 0 where
-  pub bytes : List ℕ
-  pub consumed : Consumes left_old left_new bytes
-  pub answers : (before : List ℕ) (early : Told) (given : List ℕ) → (early ≡ AtEnd → IsAtEnd left_old) → VcdStands old before early given
-      → Behind left_new before early bytes (λ all told. StepAnswers new all told given (step_of result))
+abbrev pub Gives : VcdReader → VcdReader → Option (List ℕ) → Option (List ℕ) → Result (Option Run) CaptureError → Type 0
+Gives old new left_old left_new result = Reads left_old left_new (VcdStands old) (λ all told given. StepAnswers new all told given (step_of result))
 
 -- a run more
 abbrev pub MoreGiven : VcdReader → VcdReader → Result (Option Run) CaptureError → Type 0

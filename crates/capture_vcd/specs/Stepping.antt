@@ -1,14 +1,13 @@
 -- What the steps mean that a reader of VCD captures takes in a call.
 use Rattle.rate_math.specs.Scale.{in_second}
-use Rattle.capture_vcd.specs.Reader.{Going, HoldsNothing, IsNew, Midway, StepAnswers, VcdStands, step_of, vcd_given, vcd_open}
-use Rattle.la_io.specs.Reading.{Behind}
+use Rattle.capture_vcd.specs.Reader.{Going, HoldsNothing, IsNew, Midway, StepAnswers, VcdStands, vcd_given, vcd_open}
+use Rattle.la_io.specs.Reading.{Reads, step_of}
 use Rattle.std.specs.Prelude.{ℕ, ◌≡◌, ◌+◌, ◌*◌, ◌<◌, Bool, true, false, List, [], ◌++◌, Option, Some, None, Result, Ok, Err}
-use Rattle.std.specs.Io.KnownBytes.{Consumes, IsAtEnd}
 use Rattle.la_base.specs.Samples.{samples}
 use Rattle.la_base.specs.declared.samples.Run.{Run}
 use Rattle.la_io.specs.declared.fault.CaptureError.{CaptureError}
 use Rattle.la_io.specs.declared.fault.CaptureError.TheVariants as error
-use Rattle.la_io.specs.Capture.{Told, AtEnd}
+use Rattle.la_io.specs.Capture.{Told}
 use Rattle.byte_feed.specs.Reader.{left_of}
 use Rattle.capture_vcd.specs.Running.{BodyStands, channels_in}
 use Rattle.la_io.specs.declared.fault.CaptureFault.TheVariants.{NoTimescale}
@@ -18,8 +17,8 @@ use Rattle.capture_vcd.specs.declared.scale.Scale.{Scale}
 use Rattle.capture_vcd.specs.declared.reader.VcdReader.{VcdReader}
 use Rattle.capture_vcd.specs.declared.reader.Phase.{Phase}
 use Rattle.capture_vcd.specs.declared.reader.Phase.TheVariants.{Fresh, Running, Ended, Refused}
-use Rattle.capture_vcd.specs.declared.reader.Step.{Step}
-use Rattle.capture_vcd.specs.declared.reader.Step.TheVariants.{Went, Gave, Over}
+use Rattle.la_io.specs.declared.answer.Step.{Step}
+use Rattle.la_io.specs.declared.answer.Step.TheVariants.{Went, Gave, Over}
 
 -- whether it may read more of the body
 abbrev pub is_going : Phase → Bool
@@ -55,11 +54,8 @@ Flushed old new None = (bytes : List ℕ) (told : Told) (given : List ℕ) → G
 Flushed old new (Some run) = (bytes : List ℕ) (told : Told) (given : List ℕ) → Going old bytes told given → VcdStands new bytes told (given ++ samples run)
 
 -- one token: the bytes that it took, and what the answer means behind them
-pub record Steps (old new : VcdReader) (left_old left_new : Option (List ℕ)) (result : Result Step CaptureError) : Type 0 where
-  pub bytes : List ℕ
-  pub consumed : Consumes left_old left_new bytes
-  pub answers : (before : List ℕ) (early : Told) (given : List ℕ) → (early ≡ AtEnd → IsAtEnd left_old) → Going old before early given
-      → Behind left_new before early bytes (λ all told. StepAnswers new all told given result)
+abbrev pub Steps : VcdReader → VcdReader → Option (List ℕ) → Option (List ℕ) → Result Step CaptureError → Type 0
+Steps old new left_old left_new result = Reads left_old left_new (Going old) (λ all told given. StepAnswers new all told given result)
 
 -- behind a token that gave no samples it reads on, and less is left; behind a run it is open; else it is closed
 abbrev pub WentOn : VcdReader → VcdReader → Result Step CaptureError → Type 0

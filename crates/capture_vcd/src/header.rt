@@ -1,7 +1,8 @@
 // The header of a VCD file, token by token.
-ghost use Rattle.std.specs.Prelude.{◌≡◌, ◌≢◌, ◌+◌, ◌≤◌, [], length, Err, OnOk};
-ghost use Rattle.capture_vcd.specs.declared.section.Kind.TheVariants.{Outside as OfOutside, Scale as OfScale, Variable as OfVariable};
-ghost use Rattle.capture_vcd.specs.Keeping.{IsShort};
+ghost use Rattle.std.specs.Prelude.{◌≡◌, ◌≢◌, ◌+◌, ◌≤◌, [], length, map, Err, OnOk};
+ghost use Rattle.capture_vcd.specs.declared.section.Kind.TheVariants.{Outside as OfOutside, Passed as OfPassed, Definitions as OfDefinitions, Scale as OfScale, Variable as OfVariable};
+ghost use Rattle.capture_vcd.specs.Gathered.{placed};
+ghost use Rattle.capture_vcd.specs.Keeping.{IsNamed, IsShort, KeepsFew};
 
 use crate::bits::{push_names, push_places};
 use crate::keeping::{keep_scale, keep_variable};
@@ -27,6 +28,9 @@ pub struct Header {
     pub codes: Vec<Vec<u8>>,
     pub scale: Option<Scale>,
     ghost short: { kind ≡ OfScale → IsShort words.items },
+    ghost named: { kind ≡ OfVariable → IsNamed (map placed words.items) },
+    ghost passed: { kind ≡ OfPassed → words.items ≡ [] },
+    ghost ending: { kind ≡ OfDefinitions → words.items ≡ [] },
 }
 
 impl Header {
@@ -148,9 +152,10 @@ impl Header {
         }
     }
 
-    /// Reads one more token. `true` is the end of the header.
+    /// Reads one more token. `true` is the end of the header. Little is kept of an open section.
     pub fn token(&mut self, at: u64, text: &[u8]) -> Result<bool, CaptureError>
         ensures gives { HeaderGives self.old self.new (at, text.now) result }
+        ensures small { KeepsFew self.new.kind self.new.words.items }
         ensures no_read { result ≢ Err CaptureError.Read }
     {
         match self.kind {

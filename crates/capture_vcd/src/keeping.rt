@@ -1,7 +1,7 @@
 // What is kept of the words of a section: as much as tells what they declare.
 ghost use Rattle.std.specs.Prelude.{◌≡◌, ◌≤◌, ◌++◌, [], ◌∷◌, take, length, map, OnErr, OnOk};
 ghost use Rattle.capture_vcd.specs.Gathered.{placed};
-ghost use Rattle.capture_vcd.specs.Keeping.{IsShort, joins, scale_step, variable_step};
+ghost use Rattle.capture_vcd.specs.Keeping.{IsNamed, IsShort, joins, scale_step, variable_step};
 
 use crate::section::{Word, has_no_channel};
 use crate::tokens::number_of;
@@ -69,7 +69,9 @@ pub fn keep_variable(
     at: u64,
     text: &[u8],
 ) -> Result<(), NoMemory>
-    ensures { OnOk result (map placed words.new.items ≡ variable_step (map placed words.old.items) (at, text.now)) }
+    requires { IsNamed (map placed words.old.items) }
+    ensures items { OnOk result (map placed words.new.items ≡ variable_step (map placed words.old.items) (at, text.now)) }
+    ensures named { IsNamed (map placed words.new.items) }
 {
     if words.len() < 4 {
         return add(alloc, words, at, text);

@@ -1,7 +1,7 @@
 // How a header is read from a source.
 ghost use Rattle.std.specs.Prelude.{◌≡◌, true, false, IfOk};
 ghost use Rattle.byte_feed.specs.Reader.{is_spent};
-ghost use Rattle.capture_vcd.specs.Opening.{HeadOn, HeadReads};
+ghost use Rattle.capture_vcd.specs.Opening.{HeadOn, HeadReads, HoldsFew};
 ghost use Rattle.la_io.specs.Reading.{CaptureCause};
 
 use crate::header::Header;
@@ -17,6 +17,7 @@ fn head_token<S: Source>(
     requires { is_spent tokens.old ≡ false }
     ensures reads { HeadReads tokens.old tokens.new header.old header.new (S.left source.old) (S.left source.new) result }
     ensures on { HeadOn tokens.old tokens.new result }
+    ensures small { HoldsFew header.new }
     ensures cause { CaptureCause (S.faults source.old) (S.faults source.new) result }
 {
     match tokens.next(source) {
@@ -26,7 +27,7 @@ fn head_token<S: Source>(
     }
 }
 
-/// Reads a header to its end.
+/// Reads a header to its end. Of a section that is open no more is kept than it may need.
 pub fn read_header<S: Source>(
     tokens: &mut Tokens,
     header: &mut Header,
@@ -36,6 +37,7 @@ pub fn read_header<S: Source>(
     ensures reads { HeadReads tokens.old tokens.new header.old header.new (S.left source.old) (S.left source.new) result }
     ensures whole { IfOk result (λ done. done ≡ true) }
     ensures fresh { IfOk result (λ _. is_spent tokens.new ≡ false) }
+    ensures small { HoldsFew header.new }
     ensures cause { CaptureCause (S.faults source.old) (S.faults source.new) result }
 {
     'head: loop {

@@ -9,20 +9,9 @@ use crate::place::Place;
 use crate::selecting::slots_of;
 use byte_feed::{Tokens, error_of};
 use la_base::{Names, NoMemory, Pins, Rate, Run};
-use la_io::{CaptureError, CaptureFault, Source};
+use la_io::{CaptureError, CaptureFault, Source, Step};
 use rate_math::timescale;
 use std::alloc::Global;
-
-/// What one token gave.
-#[derive(Clone, Copy, Debug, PartialEq, Eq)]
-pub enum Step {
-    /// No samples.
-    Went,
-    /// A run.
-    Gave(Run),
-    /// The end.
-    Over,
-}
 
 /// How far the samples of a capture were given.
 #[derive(Clone, Copy, Debug, PartialEq, Eq)]

@@ -2,6 +2,7 @@
 //! source and one before a sink; what a tree of decoders is fed with, and what takes its marks.
 #![tactic(auto)]
 
+mod answer;
 mod buffered;
 mod fault;
 mod feeds;
@@ -14,6 +15,7 @@ mod standard;
 mod sure;
 mod whole;
 
+pub use answer::Step;
 pub use buffered::Buffered;
 pub use fault::{CaptureError, CaptureFault};
 pub use feeds::{MarkTake, RunFeed, Stopped};

@@ -1,24 +1,25 @@
 use Rattle.std.proofs.Common.{◌≡◌, ◌+◌, ◌^◌, ◌∙◌, ℕ, ap, arith, below_more, get_or, length}
+use Rattle.la_base.specs.declared.samples.TheConstants.{MOST_PINS}
 use Rattle.capture_raw.proofs.Picks.{stretch_picks, ones_more}
 use Rattle.capture_raw.proofs.stretch.stretch_of.Goals as goal
 
 pub overflow_mul-ones : goal.overflow_mul-ones
 overflow_mul-ones c =
     let s = c.loop-place in
-    let more = ones_more s.ones s.place 128 s.invariant.ones (omega (arith, c.requires.few)) in
+    let more = ones_more s.ones s.place MOST_PINS s.invariant.ones (omega (arith, c.requires.few)) in
     omega (arith, more.1)
 
 pub overflow_add-ones : goal.overflow_add-ones
 overflow_add-ones c =
     let s = c.loop-place in
-    let more = ones_more s.ones s.place 128 s.invariant.ones (omega (arith, c.requires.few)) in
+    let more = ones_more s.ones s.place MOST_PINS s.invariant.ones (omega (arith, c.requires.few)) in
     omega (arith, more.1)
 
 pub loop-place-preserved : goal.loop-place-preserved
 loop-place-preserved c =
     let s = c.loop-place in
     let pins = c.args.pins.now in
-    let more = ones_more s.ones s.place 128 s.invariant.ones (omega (arith, c.requires.few)) in
+    let more = ones_more s.ones s.place MOST_PINS s.invariant.ones (omega (arith, c.requires.few)) in
     record {
       within = omega arith;
       ones = more.0;

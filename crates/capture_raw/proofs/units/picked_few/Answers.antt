@@ -1,5 +1,6 @@
 use Rattle.std.proofs.Common.{◌≡◌, ◌<◌, ◌+◌, ◌*◌, ◌^◌, ◌-◌, ℕ, length, drop, get_or, ap, arith, subst}
 use Rattle.std.proofs.lemmas.Nat.Bits.{bit_at-lt}
+use Rattle.la_base.specs.declared.samples.TheConstants.{HALF_BITS}
 use Rattle.capture_raw.specs.Raw.{picked}
 use Rattle.capture_raw.proofs.Numbers.{picked_more, digit_more, digits_fit}
 use Rattle.capture_raw.proofs.units.picked_few.Goals as goal
@@ -8,7 +9,7 @@ pub overflow_mul-value : goal.overflow_mul-value
 overflow_mul-value c =
     let s = c.loop-place in
     let digits = length c.args.pins.now - s.place in
-    let fits : 2 * s.value + 0 < 2 ^ 64 = digits_fit 2 _ (digits + 1) 64 (omega arith) (digit_more 2 s.value digits 0 s.invariant.small (omega arith)) (omega (arith, c.requires.few)) in
+    let fits : 2 * s.value + 0 < 2 ^ HALF_BITS = digits_fit 2 _ (digits + 1) HALF_BITS (omega arith) (digit_more 2 s.value digits 0 s.invariant.small (omega arith)) (omega (arith, c.requires.few)) in
     omega (arith, fits)
 
 pub overflow_add-value : goal.overflow_add-value
@@ -17,7 +18,7 @@ overflow_add-value c =
     let digits = length c.args.pins.now - s.place in
     let bit = c.bit_of.result in
     let small : bit < 2 = omega (arith, c.bit_of.ensures, bit_at-lt c.args.n (get_or c.args.pins.now (s.place - 1) 0)) in
-    let fits : 2 * s.value + bit < 2 ^ 64 = digits_fit 2 _ (digits + 1) 64 (omega arith) (digit_more 2 s.value digits bit s.invariant.small small) (omega (arith, c.requires.few)) in
+    let fits : 2 * s.value + bit < 2 ^ HALF_BITS = digits_fit 2 _ (digits + 1) HALF_BITS (omega arith) (digit_more 2 s.value digits bit s.invariant.small small) (omega (arith, c.requires.few)) in
     omega (arith, fits)
 
 pub loop-place-preserved : goal.loop-place-preserved

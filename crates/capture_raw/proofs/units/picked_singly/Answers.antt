@@ -1,7 +1,8 @@
 use Rattle.std.proofs.Common.{◌∙◌, arith}
+use Rattle.la_base.specs.declared.samples.TheConstants.{WORD_BYTES}
 use Rattle.capture_raw.proofs.Picks.{picked_front}
 use Rattle.capture_raw.proofs.units.picked_singly.Goals as goal
 
 pub returns : goal.returns
 returns c =
-    c.picked-2.ensures ∙ picked_front c.args.bytes.now (λ k. omega (arith, c.type_inv.bytes k)) c.args.pins.now c.args.unit 16 c.broad_at.result (omega (arith, c.requires.short)) c.requires.within c.broad_at.ensures
+    c.picked-2.ensures ∙ picked_front c.args.bytes.now (λ k. omega (arith, c.type_inv.bytes k)) c.args.pins.now c.args.unit WORD_BYTES c.broad_at.result (omega (arith, c.requires.short)) c.requires.within c.broad_at.ensures

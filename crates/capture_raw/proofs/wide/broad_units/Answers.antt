@@ -1,4 +1,5 @@
 use Rattle.std.proofs.Common.{◌≡◌, ◌+◌, ◌*◌, ℕ, arith, take, drop, ap, ◌∙◌, refl}
+use Rattle.la_base.specs.declared.samples.TheConstants.{WORD_BYTES}
 use Rattle.capture_raw.specs.Raw.{number}
 use Rattle.capture_raw.proofs.Agreeing.{agree_from}
 use Rattle.capture_raw.proofs.Parts.{same_part, agree_numbers}
@@ -16,6 +17,6 @@ loop-at-preserved c =
       some = omega arith;
       at_is = omega (arith, more, s.invariant.at_is);
       within = omega arith;
-      same = same_part bytes (λ k. omega (arith, c.type_inv.bytes k)) mask mask unit 16 s.count c.requires.bytes c.requires.few (omega (arith, more, s.invariant.at_is)) (λ i below. refl)
-          (agree_numbers mask (c.broad_at.ensures ∙ ap (λ (n : ℕ). number (take 16 (drop n bytes))) s.invariant.at_is) c.broad_at-first.ensures agree) s.invariant.same;
+      same = same_part bytes (λ k. omega (arith, c.type_inv.bytes k)) mask mask unit WORD_BYTES s.count c.requires.bytes c.requires.few (omega (arith, more, s.invariant.at_is)) (λ i below. refl)
+          (agree_numbers mask (c.broad_at.ensures ∙ ap (λ (n : ℕ). number (take WORD_BYTES (drop n bytes))) s.invariant.at_is) c.broad_at-first.ensures agree) s.invariant.same;
     }

@@ -1,11 +1,12 @@
-use Rattle.std.proofs.Common.{refl, sym, subst, ◌+◌, ◌≤◌, length}
+use Rattle.std.proofs.Common.{sym, subst, ◌+◌, ◌≤◌, length}
 use Rattle.la_base.specs.Runs.{samples_of}
 use Rattle.capture_raw.specs.Reader.{raw_given}
 use Rattle.capture_vcd.specs.Reader.{vcd_given}
 use Rattle.capture_csv.specs.Reader.{csv_given}
 use Rattle.capture_any.specs.Reading.{given_in}
 use Rattle.capture_any.specs.declared.reader.Reader.{Reader}
-use Rattle.capture_any.proofs.Taking.{gave_csv, gave_raw, gave_vcd}
+use Rattle.capture_any.specs.declared.reader.Reader.TheVariants.{Vcd as OfVcd, Csv as OfCsv}
+use Rattle.capture_any.proofs.Taking.{gave_by, gave_raw}
 use Rattle.capture_any.proofs.capture.Capture.take_held.Goals as goal
 
 pub returns-in-Raw-clause-gave : goal.returns-in-Raw-clause-gave
@@ -14,7 +15,7 @@ returns-in-Raw-clause-gave c =
     let more = samples_of taken.gave.0 in (
       taken.gave.0,
       taken.gave.1,
-      gave_raw c.args.self.now _ c.in-Raw.raw _ more taken.gave.2 (λ _. taken.few) c.in-Raw.is refl,
+      gave_raw c.args.self.now c.in-Raw.raw _ more taken.gave.2 (λ _. taken.few) c.in-Raw.is,
       subst (λ (x : Reader). given_in x + length more ≤ raw_given c.take_raw.new.reader) (sym c.in-Raw.is) taken.gave.3,
     )
 
@@ -24,7 +25,7 @@ returns-in-Vcd-clause-gave c =
     let more = samples_of taken.gave.0 in (
       taken.gave.0,
       taken.gave.1,
-      gave_vcd c.args.self.now _ c.in-Vcd.reader _ more taken.gave.2 taken.few c.in-Vcd.is refl,
+      gave_by c.args.self.now (OfVcd c.in-Vcd.reader) (OfVcd c.take_vcd.new.reader) more taken.gave.2 taken.few c.in-Vcd.is,
       subst (λ (x : Reader). given_in x + length more ≤ vcd_given c.take_vcd.new.reader) (sym c.in-Vcd.is) taken.gave.3,
     )
 
@@ -34,6 +35,6 @@ returns-in-Csv-clause-gave c =
     let more = samples_of taken.gave.0 in (
       taken.gave.0,
       taken.gave.1,
-      gave_csv c.args.self.now _ c.in-Csv.reader _ more taken.gave.2 taken.few c.in-Csv.is refl,
+      gave_by c.args.self.now (OfCsv c.in-Csv.reader) (OfCsv c.take_csv.new.reader) more taken.gave.2 taken.few c.in-Csv.is,
       subst (λ (x : Reader). given_in x + length more ≤ csv_given c.take_csv.new.reader) (sym c.in-Csv.is) taken.gave.3,
     )

@@ -61,4 +61,4 @@ returns-in-Err-clause-says c = λ bytes told given items first rest records head
     let text = c.without_marks-text.ensures ∙ ap without_marks c.text.ensures.text in
     let says = c.in-Err.ensures.says in
     let new : CsvReader = record { lines = s.lines; body = c.record.new.self; names = s.names; header = s.header; phase = s.phase; is_open = false; fresh = λ e. cc; counted = λ e. c.requires.counted } in
-    line_wants s new bytes told given items c.args.number first rest records head lines few (subst (λ (l : List ℕ). NeedsCsv l) text says.1) says.0 refl body c.requires.held
+    line_wants s new bytes told given items c.args.number first rest records head lines few (subst (λ (l : List ℕ). NeedsCsv l) text says.1) c.requires.last refl says.0 refl body c.requires.held

@@ -1,5 +1,6 @@
 use Rattle.std.proofs.Common.{◌≡◌, ◌+◌, ◌-◌, ◌<◌, ◌≤◌, ◌∙◌, ap, arith, subst, sym, ℕ, get_or, length, replicate, slice_set, List}
 use Rattle.std.proofs.lemmas.List.{get_or-replicate, length-set}
+use Rattle.la_base.specs.declared.samples.TheConstants.{MOST_PINS}
 use Rattle.capture_vcd.specs.Chains.{ChainedFrom, key_of}
 use Rattle.capture_vcd.proofs.Chaining.{chained_more, chained_none, keys, keys_are, keys_count}
 use Rattle.capture_vcd.proofs.chains.Chains.of.Goals as goal
@@ -13,7 +14,7 @@ loop-left-init c =
     let keys_is = keys c.args.codes.now c.args.slots.now in
     record {
       within = omega arith;
-      chained = chained_none (replicate 256 255) (replicate 128 255) keys_is count (omega (arith, keys_count c.args.codes.now c.args.slots.now)) (λ key small. far 256 key 255 count small (omega (arith, c.requires)));
+      chained = chained_none (replicate 256 255) (replicate MOST_PINS 255) keys_is count (omega (arith, keys_count c.args.codes.now c.args.slots.now)) (λ key small. far 256 key 255 count small (omega (arith, c.requires)));
     }
 
 pub loop-left-preserved : goal.loop-left-preserved

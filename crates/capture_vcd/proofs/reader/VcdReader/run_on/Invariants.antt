@@ -1,9 +1,7 @@
-use Rattle.std.proofs.Common.{◌≡◌, ℕ, List, true}
-use Rattle.std.specs.Io.KnownBytes.{Consumes, IsAtEnd}
-use Rattle.la_io.specs.Capture.{Told, AtEnd}
+use Rattle.std.proofs.Common.{◌≡◌, true}
 use Rattle.byte_feed.specs.Reader.{left_of}
+use Rattle.la_io.specs.Reading.{Reads}
 use Rattle.capture_vcd.specs.Reader.{Going, SameReader, vcd_given, vcd_open}
-use Rattle.la_io.specs.Reading.{Behind}
 use Rattle.capture_vcd.specs.Stepping.{is_going}
 use Rattle.capture_vcd.proofs.reader.VcdReader.run_on.Given as goal
 
@@ -14,8 +12,7 @@ invariant-body g l = record {
   form : SameReader l.fn.self l.self;
   count : vcd_given l.self ≡ vcd_given l.fn.self;
   faults : g.S.Source.faults l.source ≡ g.S.Source.faults l.fn.source;
-  took : (bytes : List ℕ) × Consumes (g.S.Source.left l.fn.source) (g.S.Source.left l.source) bytes × ((before : List ℕ) (early : Told) (given : List ℕ) → (early ≡ AtEnd → IsAtEnd (g.S.Source.left l.fn.source)) → Going l.fn.self before early given
-      → Behind (g.S.Source.left l.source) before early bytes (λ all told. Going l.self all told given));
+  took : Reads (g.S.Source.left l.fn.source) (g.S.Source.left l.source) (Going l.fn.self) (Going l.self);
 }
 
 abbrev pub decreases-body : goal.decreases-body
