@@ -10,3 +10,7 @@ mod WatchLemmas
 pub mod BoundLemmas
 pub mod HoldLemmas
 pub mod WordLemmas
+pub mod PairLemmas
+pub mod PairSets
+pub mod Exact
+mod Timers

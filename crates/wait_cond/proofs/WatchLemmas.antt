@@ -36,17 +36,19 @@ ask_one alt lines is i other got = elim (get_push [] alt i other got) [
   | inr last ↦ subst (λ (a : Alt). AllIn lines (high_lines a)) last.1 (subst (λ (n : ℕ). AllIn lines n) is (λ line one. one))
 ]
 
-pub ask_more : (alts : List Alt) (alt : Alt) (high lines : ℕ) → lines ≡ high_lines alt → AskHigh high alts → AskHigh (bit_and high lines) (alts ++ alt ∷ [])
-ask_more alts alt high lines is asks i other got = elim (get_push alts alt i other got) [
+pub ask_within : (alts : List Alt) (alt : Alt) (high lines : ℕ) → AllIn lines (high_lines alt) → AskHigh high alts → AskHigh (bit_and high lines) (alts ++ alt ∷ [])
+ask_within alts alt high lines within asks i other got = elim (get_push alts alt i other got) [
   | inl front ↦ λ line one. asks i other front line (both line one).0
-  | inr last ↦ subst (λ (a : Alt). AllIn (bit_and high lines) (high_lines a)) last.1
-      (subst (λ (n : ℕ). AllIn (bit_and high lines) n) is (λ line one. (both line one).1))
+  | inr last ↦ subst (λ (a : Alt). AllIn (bit_and high lines) (high_lines a)) last.1 (λ line one. within line (both line one).1)
 ]
   where
     both : (line : ℕ) → bit_at (bit_and high lines) line ≡ 1 → (bit_at high line ≡ 1) × (bit_at lines line ≡ 1)
     both line one =
         let bit = bit_at_and high lines line in
         (omega (arith, bit, one, bit_at-lt high line, bit_at-lt lines line), omega (arith, bit, one, bit_at-lt high line, bit_at-lt lines line))
+
+pub ask_more : (alts : List Alt) (alt : Alt) (high lines : ℕ) → lines ≡ high_lines alt → AskHigh high alts → AskHigh (bit_and high lines) (alts ++ alt ∷ [])
+ask_more alts alt high lines is asks = ask_within alts alt high lines (λ line one. sym (ap (λ (n : ℕ). bit_at n line) is) ∙ one) asks
 
 -- the same of the samples that are skipped
 pub skip_one : (alt : Alt) → SkipAtLeast alt.skip (alt ∷ [])

@@ -5,9 +5,10 @@ pub mod StopLaws
 pub mod Standing
 pub mod Waiting
 pub mod Watching
-pub mod Plain
 pub mod Words
 pub mod Grammar
 pub mod Binding
 pub mod Steps
 pub mod Holding
+pub mod Pairs
+pub mod Walks

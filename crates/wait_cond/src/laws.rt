@@ -22,8 +22,8 @@ pub fn stops_go_on_with_samples()
     ensures none { NoneStays }
 {}
 
-/// Two waiters with equal alternatives and last stops that stand for the same samples hold equal
-/// numbers, and a waiter stands for every list of samples that its numbers allow.
+/// Two waiters with equal alternatives and last stops that stand for the same samples are equal,
+/// and a waiter stands for every list of samples that its numbers allow.
 pub fn samples_make_the_waiter()
     ensures one { OneWaiter }
     ensures every { EveryList }

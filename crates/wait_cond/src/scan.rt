@@ -1,9 +1,11 @@
 // The wait itself.
-ghost use Rattle.std.specs.Prelude.{◌≡◌, ◌≤◌, ◌^◌, length};
+ghost use Rattle.std.specs.Prelude.{◌≡◌, ◌+◌, ◌-◌, ◌≤◌, ◌^◌, length, min, max};
 
 use crate::behind::behind;
 use crate::met::met_set;
+use crate::pair::Pair;
 use crate::standing::first_standing;
+use crate::walk::Walk;
 use crate::{Alt, Cond};
 use la_base::{Run, Word};
 
@@ -20,6 +22,7 @@ pub struct Waiter {
     last: Word,
     ghost stop: { from ≤ consumed },
     ghost few: { consumed ≤ 2 ^ 60 },
+    ghost unseen: { consumed ≡ 0 → last ≡ 0 },
 }
 
 /// Where a wait stopped, or that it goes on behind the run.
@@ -38,11 +41,13 @@ impl Waiter {
     ghost use Rattle.std.specs.Prelude.{◌≡◌, ◌≢◌, ◌+◌, ◌≤◌, ◌<◌, ◌^◌, ◌++◌, ◌==◌, if◌then◌else◌, [], ◌∷◌, List, ℕ, length, take, Some, IfSome, true};
     ghost use Rattle.la_base.specs.Runs.{samples_of};
     ghost use Rattle.la_base.specs.Samples.{samples};
-    ghost use Rattle.wait_cond.specs.Conds.{cond_alts};
+    ghost use Rattle.wait_cond.specs.Conds.{IsExact, IsTimer, cond_alts};
+    ghost use Rattle.wait_cond.specs.Pairs.{Says};
+    ghost use Rattle.wait_cond.specs.Watching.{NeverMet};
     ghost use Rattle.wait_cond.specs.Standing.{FirstStanding};
-    ghost use Rattle.wait_cond.specs.Plain.{is_plain, is_rest};
     ghost use Rattle.wait_cond.specs.Stops.{MetSet, NoneMet};
-    ghost use Rattle.wait_cond.specs.Waiting.{Waits, Scanned, Counts, ThroughCounts, Found, alts_of, wait_from, consumed_by, last_of};
+    ghost use Rattle.wait_cond.specs.Walks.{Walks, walked, walk_from};
+    ghost use Rattle.wait_cond.specs.Waiting.{Waits, MadeOf, Scanned, Counts, ThroughCounts, FindsIn, GoesOn, alts_of, behind_stop, wait_from, consumed_by, last_of};
 
     /// A waiter that has consumed no sample yet.
     pub fn new(cond: Cond) -> Waiter
@@ -56,6 +61,47 @@ impl Waiter {
             from: 0,
             last: 0,
         }
+    }
+
+    /// A waiter from what is kept of one: how many samples it had consumed, its last stop and its last sample, which
+    /// says nothing where it had consumed none.
+    pub fn made(cond: Cond, consumed: u64, stop: Option<u64>, last: Word) -> Waiter
+        requires few { consumed ≤ 2 ^ 60 }
+        requires within { IfSome stop (λ at. at < consumed) }
+        ensures alts { alts_of result ≡ cond_alts cond }
+        ensures consumed { consumed_by result ≡ consumed }
+        ensures from { wait_from result ≡ behind_stop stop }
+        ensures last { 0 < consumed → last_of result ≡ last }
+        ensures waits { (list : List ℕ) → MadeOf (cond_alts cond) consumed (behind_stop stop) last list → Waits result list }
+    {
+        let from = match stop {
+            Some(at) => at + 1,
+            None => 0,
+        };
+        Waiter {
+            cond,
+            consumed,
+            from,
+            last: if consumed == 0 { 0 } else { last },
+        }
+    }
+
+    /// What is to be kept of it beside its condition: how many samples it consumed, its last stop, and its last sample,
+    /// 0 where it consumed none.
+    pub fn kept(&self) -> (u64, Option<u64>, Word)
+        ensures consumed { result.0 ≡ consumed_by self.now }
+        ensures few { result.0 ≤ 2 ^ 60 }
+        ensures stop { behind_stop result.1 ≡ wait_from self.now }
+        ensures within { IfSome result.1 (λ at. at < result.0) }
+        ensures last { result.2 ≡ last_of self.now }
+        ensures unseen { result.0 ≡ 0 → result.2 ≡ 0 }
+    {
+        let stop = if self.from == 0 {
+            None
+        } else {
+            Some(self.from - 1)
+        };
+        (self.consumed, stop, self.last)
     }
 
     /// Sets the condition of the next wait to one alternative, as `renew` does; it makes no condition anew.
@@ -109,7 +155,6 @@ impl Waiter {
     #[inline]
     pub fn passes(&self, run: Run) -> bool
         requires { consumed_by self.now + run.len ≤ 2 ^ 60 }
-        ensures plain { result ≡ is_plain self.now run }
         ensures none { result ≡ true → (list : List ℕ) → Waits self.now list → NoneMet (list ++ samples run) (alts_of self.now) (wait_from self.now) (length list + run.len) }
     {
         if self.cond.is_still(self.before(), run.value) {
@@ -123,7 +168,6 @@ impl Waiter {
     #[inline]
     pub fn rests(&self, run: Run) -> bool
         requires { consumed_by self.now + run.len ≤ 2 ^ 60 }
-        ensures plain { result ≡ is_rest self.now run }
         ensures none { result ≡ true → (list : List ℕ) → Waits self.now list → NoneMet (list ++ samples run) (alts_of self.now) (wait_from self.now) (length list + run.len) }
     {
         if self.consumed == 0 {
@@ -156,6 +200,10 @@ impl Waiter {
         ensures from { wait_from self.new ≡ wait_from self.old }
         ensures alts { alts_of self.new ≡ alts_of self.old }
     {
+        // Most runs of a serial line lie within the time up to its next bit.
+        if let Some(skip) = self.cond.only_skip() {
+            return self.pass_early(skip, runs);
+        }
         for (place, run) in runs.iter().enumerate() {
             if run.len > MOST_SAMPLES - self.consumed || !self.passes(*run) {
                 return place;
@@ -165,11 +213,97 @@ impl Waiter {
         runs.len()
     }
 
+    // The same of a wait for a time alone: its numbers are stored once, behind all runs.
+    #[inline(always)]
+    fn pass_early(&mut self, skip: u64, runs: &[Run]) -> usize
+        requires { IsTimer (alts_of self.old) skip }
+        ensures within { result ≤ length runs.now }
+        ensures waits { (list : List ℕ) → Waits self.old list → Waits self.new (list ++ samples_of (take result runs.now)) }
+        ensures count { consumed_by self.new ≡ consumed_by self.old + length (samples_of (take result runs.now)) }
+        ensures from { wait_from self.new ≡ wait_from self.old }
+        ensures alts { alts_of self.new ≡ alts_of self.old }
+    {
+        let (count, passed, last) = self.early(skip, runs);
+        self.consumed += passed;
+        self.last = last;
+        count
+    }
+
+    // How many runs end before the time has passed, how many samples they have, and the last sample then.
+    #[inline(always)]
+    fn early(&self, skip: u64, runs: &[Run]) -> (usize, u64, Word)
+        requires { IsTimer (alts_of self.now) skip }
+        ensures within { result.0 ≤ length runs.now }
+        ensures passed { result.1 ≡ length (samples_of (take result.0 runs.now)) }
+        ensures few { consumed_by self.now + result.1 ≤ 2 ^ 60 }
+        ensures unseen { consumed_by self.now + result.1 ≡ 0 → result.2 ≡ 0 }
+        ensures waits { GoesOn self.now result.1 result.2 (samples_of (take result.0 runs.now)) }
+    {
+        let room = early_room(self.from, skip, self.consumed);
+        let mut left = room;
+        let mut last = self.last;
+        for (place, run) in runs.iter().enumerate() {
+            if run.len > left {
+                return (place, room - left, last);
+            }
+            left -= run.len;
+            last = run.value;
+        }
+        (runs.len(), room - left, last)
+    }
+
+    /// Whether it waits for one or two alternatives of which masks say all, and has consumed a sample. Then `pair`
+    /// and `walk` take it through runs faster.
+    #[inline(always)]
+    pub fn is_exact(&self) -> bool
+        ensures { result ≡ true → IsExact (alts_of self.now) × (consumed_by self.now ≢ 0) }
+    {
+        self.cond.is_exact() && self.consumed != 0
+    }
+
+    /// The alternatives that it waits for, by their masks. None is met while a value stands, since each asks an edge.
+    #[inline(always)]
+    pub fn pair(&self) -> Pair
+        requires { IsExact (alts_of self.now) }
+        ensures says { Says result (alts_of self.now) }
+        ensures stands { (value : ℕ) → NeverMet (alts_of self.now) (Some value) value }
+    {
+        self.cond.pair()
+    }
+
+    /// The wait in the midst of runs, without its condition.
+    #[inline(always)]
+    pub fn walk(&self) -> Walk
+        ensures waits { (list : List ℕ) → Waits self.now list → Walks (alts_of self.now) result list }
+        ensures walked { walked result ≡ consumed_by self.now }
+        ensures from { walk_from result ≡ wait_from self.now }
+    {
+        Walk {
+            room: MOST_SAMPLES - self.consumed,
+            from: self.from,
+            last: self.last,
+        }
+    }
+
+    /// Goes on where a walk ended that has consumed a sample.
+    #[inline(always)]
+    pub fn put(&mut self, walk: Walk)
+        requires { walked walk ≢ 0 }
+        ensures waits { (list : List ℕ) → Walks (alts_of self.old) walk list → Waits self.new list }
+        ensures consumed { consumed_by self.new ≡ walked walk }
+        ensures from { wait_from self.new ≡ walk_from walk }
+        ensures alts { alts_of self.new ≡ alts_of self.old }
+    {
+        self.consumed = walk.consumed();
+        self.from = walk.from;
+        self.last = walk.last;
+    }
+
     // The alternatives that the next sample meets, where it has this value.
     #[inline(always)]
     fn met_next(&self, value: Word) -> u8
         requires { self.now.consumed < 2 ^ 60 }
-        ensures { MetSet self.now.cond.alts.items (if self.now.consumed == 0 then None else Some self.now.last) value self.now.from self.now.consumed result }
+        ensures { MetSet self.now.cond (if self.now.consumed == 0 then None else Some self.now.last) value self.now.from self.now.consumed result }
     {
         met_set(
             self.cond.alts(),
@@ -186,7 +320,7 @@ impl Waiter {
     #[inline(never)]
     fn standing_stop(&self, run: Run) -> u64
         requires { self.now.consumed + run.len ≤ 2 ^ 60 }
-        ensures { FirstStanding self.now.cond.alts.items run.value self.now.from (self.now.consumed + 1) (self.now.consumed + run.len) result }
+        ensures { FirstStanding self.now.cond run.value self.now.from (self.now.consumed + 1) (self.now.consumed + run.len) result }
     {
         first_standing(
             self.cond.alts(),
@@ -201,7 +335,7 @@ impl Waiter {
     #[inline(never)]
     fn met_standing(&self, value: Word, at: u64) -> u8
         requires { at < 2 ^ 60 }
-        ensures { MetSet self.now.cond.alts.items (Some value) value self.now.from at result }
+        ensures { MetSet self.now.cond (Some value) value self.now.from at result }
     {
         met_set(self.cond.alts(), Some(value), value, self.from, at)
     }
@@ -210,9 +344,12 @@ impl Waiter {
     #[inline(always)]
     fn find(&self, run: Run) -> Option<(u64, u8)>
         requires { self.now.consumed + run.len ≤ 2 ^ 60 }
-        ensures found { (list : List ℕ) → Waits self.now list → Found self.now.cond.alts.items self.now.from (list ++ samples run) (length list) run.len result }
+        ensures found { FindsIn self.now run result }
         ensures within { IfSome result (λ x. (x.0 < run.len) × (x.1 ≢ 0)) }
     {
+        if let Some(skip) = self.cond.only_skip() {
+            return self.find_timer(skip, run);
+        }
         let met = self.met_next(run.value);
         if met != 0 {
             return Some((0, met));
@@ -228,6 +365,22 @@ impl Waiter {
             return None;
         }
         Some((at - self.consumed, self.met_standing(run.value, at)))
+    }
+
+    // The same of a wait for a time alone, which no value of a sample decides.
+    #[inline(always)]
+    fn find_timer(&self, skip: u64, run: Run) -> Option<(u64, u8)>
+        requires few { self.now.consumed + run.len ≤ 2 ^ 60 }
+        requires timer { IsTimer self.now.cond skip }
+        ensures found { FindsIn self.now run result }
+        ensures within { IfSome result (λ x. (x.0 < run.len) × (x.1 ≢ 0)) }
+    {
+        let place = timer_place(self.from, skip, self.consumed);
+        if place < run.len {
+            Some((place, 1))
+        } else {
+            None
+        }
     }
 
     /// Consumes samples up to the first one of the run that meets an alternative and lies behind the
@@ -262,4 +415,25 @@ impl Waiter {
             }
         }
     }
+}
+
+// How many samples come before the first one at which so many were skipped, of those that there is room for.
+fn early_room(from: u64, skip: u64, consumed: u64) -> u64
+    requires { consumed ≤ 2 ^ 60 }
+    ensures { result ≡ min (from + skip - 1 - consumed) (2 ^ 60 - consumed) }
+{
+    from.saturating_add(skip)
+        .saturating_sub(1)
+        .saturating_sub(consumed)
+        .min(MOST_SAMPLES - consumed)
+}
+
+// The first sample from the next one on at which so many were skipped, counted from there; where it isn't among
+// those that there is room for, any other number that isn't either.
+fn timer_place(from: u64, skip: u64, consumed: u64) -> u64
+    requires early { from ≤ 2 ^ 60 }
+    requires few { consumed ≤ 2 ^ 60 }
+    ensures { min result (2 ^ 60) ≡ min (max 1 (from + skip - consumed) - 1) (2 ^ 60) }
+{
+    from.saturating_add(skip).saturating_sub(consumed).max(1) - 1
 }

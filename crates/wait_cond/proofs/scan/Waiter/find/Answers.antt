@@ -15,7 +15,7 @@ pub returns-then-met-ne0-clause-found : goal.returns-then-met-ne0-clause-found
 returns-then-met-ne0-clause-found c = λ list w.
     let s = c.args.self.now in
     let run = c.args.run in
-    let alts = s.cond.alts.items in
+    let alts = s.cond in
     let met = c.met_next-met.result in
     let before : Option ℕ = if s.consumed == 0 then None else Some s.last in
     let set = subst (λ (n : ℕ). MetSet alts before run.value s.from n met) (here list run alts s.consumed s.from s.last w) c.met_next-met.ensures in
@@ -30,7 +30,7 @@ pub returns-then-run-eq1-clause-found : goal.returns-then-run-eq1-clause-found
 returns-then-run-eq1-clause-found c = λ list w.
     let s = c.args.self.now in
     let run = c.args.run in
-    let alts = s.cond.alts.items in
+    let alts = s.cond in
     subst (λ (n : ℕ). NoneMet (list ++ samples run) alts s.from (length list + n)) (sym c.if-run-eq1.true)
     (first_passed list run alts s.consumed s.from s.last w c.met_next-met.result c.if-met-ne0.false c.met_next-met.ensures)
 
@@ -38,7 +38,7 @@ pub returns-then-is_still-clause-found : goal.returns-then-is_still-clause-found
 returns-then-is_still-clause-found c = λ list w.
     let s = c.args.self.now in
     let run = c.args.run in
-    let alts = s.cond.alts.items in
+    let alts = s.cond in
     none_standing list (samples run) run.value run.len (samples_are run) alts s.from (length list + run.len)
     (first_passed list run alts s.consumed s.from s.last w c.met_next-met.result c.if-met-ne0.false c.met_next-met.ensures)
     (never_standing alts run.value s.from (length list + 1) (length list + run.len) (omega (arith, run.not_empty)) (c.if-is_still.ensures.now refl))
@@ -56,7 +56,7 @@ pub returns-then-at-self-clause-found : goal.returns-then-at-self-clause-found
 returns-then-at-self-clause-found c = λ list w.
     let s = c.args.self.now in
     let run = c.args.run in
-    let alts = s.cond.alts.items in
+    let alts = s.cond in
     let at = c.standing_stop-at.result in
     let end : at ≡ length list + run.len = omega (arith, w.count, c.if-at-self.true) in
     subst (λ (n : ℕ). NoneMet (list ++ samples run) alts s.from n) end
@@ -66,7 +66,7 @@ pub returns-clause-found : goal.returns-clause-found
 returns-clause-found c = λ list w.
     let s = c.args.self.now in
     let run = c.args.run in
-    let alts = s.cond.alts.items in
+    let alts = s.cond in
     let at = c.standing_stop-at.result in
     let met = c.met_standing.result in
     let standing = first list run alts s.consumed s.from s.last at w c.met_next-met.result c.if-met-ne0.false c.met_next-met.ensures c.standing_stop-at.ensures in
@@ -85,5 +85,5 @@ returns-clause-within c =
     let standing = c.standing_stop-at.ensures in
     let within : c.standing_stop-at.result < c.args.self.now.consumed + c.args.run.len = omega (arith, c.if-at-self.false, standing.within) in (
       omega (arith, standing.after, within),
-      some_standing c.args.self.now.cond.alts.items c.args.run.value c.args.self.now.from c.standing_stop-at.result c.met_standing.result (standing.some within) c.met_standing.ensures,
+      some_standing c.args.self.now.cond c.args.run.value c.args.self.now.from c.standing_stop-at.result c.met_standing.result (standing.some within) c.met_standing.ensures,
     )

@@ -5,16 +5,20 @@ use Rattle.wait_cond.proofs.Passing.{all_passed}
 use Rattle.wait_cond.proofs.Runs.{none_skipped, samples_are}
 use Rattle.wait_cond.proofs.scan.Waiter.passes.Goals as goal
 
-pub returns-then-is_still-clause-none : goal.returns-then-is_still-clause-none
-returns-then-is_still-clause-none c = λ is list w.
-    let s = c.args.self.now in
-    let run = c.args.run in
-    let alts = s.cond.alts.items in
-    all_passed list run alts s.consumed s.from s.last w
-    (subst (λ (b : Option ℕ). NeverMet alts b run.value) c.before-2.ensures (c.if-is_still.ensures.now refl)) (c.if-is_still.ensures.stands refl)
+pub returns-then-is_still : goal.returns-then-is_still
+returns-then-is_still c = record {
+  none = λ is list w.
+      let s = c.args.self.now in
+      let run = c.args.run in
+      let alts = s.cond in
+      all_passed list run alts s.consumed s.from s.last w
+      (subst (λ (b : Option ℕ). NeverMet alts b run.value) c.before-2.ensures (c.if-is_still.ensures.now refl)) (c.if-is_still.ensures.stands refl);
+}
 
-pub returns-clause-none : goal.returns-clause-none
-returns-clause-none c = λ is list w.
-    let s = c.args.self.now in
-    let run = c.args.run in
-    none_skipped list (samples run) run.value run.len (samples_are run) s.cond.alts.items s.from (length list + run.len) (s.consumed + run.len - s.from) (c.skips_more.ensures.skips is) (omega (arith, w.count))
+pub returns : goal.returns
+returns c = record {
+  none = λ is list w.
+      let s = c.args.self.now in
+      let run = c.args.run in
+      none_skipped list (samples run) run.value run.len (samples_are run) s.cond s.from (length list + run.len) (s.consumed + run.len - s.from) (c.skips_more.ensures.skips is) (omega (arith, w.count));
+}

@@ -1,0 +1,83 @@
+// A wait in the midst of runs.
+ghost use Rattle.std.specs.Prelude.{◌≤◌, ◌-◌, ◌^◌};
+
+use la_base::{Run, Word};
+
+// How many samples may be consumed.
+const MOST_SAMPLES: u64 = 1 << 60;
+
+/// A wait in the midst of runs: how many samples there is room for, where the wait began, and the last sample that was
+/// consumed. Its numbers stay in registers where those of a waiter are stored at each run. Which alternatives are
+/// waited for is not a part of it: who walks asks a `Pair`.
+#[derive(Clone, Copy)]
+pub struct Walk {
+    pub(crate) room: u64,
+    pub(crate) from: u64,
+    pub(crate) last: Word,
+    ghost few: { room ≤ 2 ^ 60 },
+    ghost stop: { from ≤ 2 ^ 60 - room },
+}
+
+impl Walk {
+    ghost use Rattle.std.specs.Prelude.{◌≡◌, ◌≢◌, ◌+◌, ◌≤◌, ◌<◌, ◌-◌, ◌^◌, ◌++◌, List, ℕ, length, Some, true};
+    ghost use Rattle.la_base.specs.Samples.{samples};
+    ghost use Rattle.wait_cond.specs.declared.alt.Alt.{Alt};
+    ghost use Rattle.wait_cond.specs.Stops.{MetSet, NoneMet, IsStop};
+    ghost use Rattle.wait_cond.specs.Watching.{NeverMet};
+    ghost use Rattle.wait_cond.specs.Walks.{Walks, walked, walk_from, walk_last};
+
+    /// Whether there is room for a run.
+    #[inline(always)]
+    pub fn has_room(&self, run: Run) -> bool
+        ensures { result ≡ true → walked self.now + run.len ≤ 2 ^ 60 }
+    {
+        run.len <= self.room
+    }
+
+    /// How many samples were consumed.
+    #[inline(always)]
+    pub fn consumed(&self) -> u64
+        ensures { result ≡ walked self.now }
+    {
+        MOST_SAMPLES - self.room
+    }
+
+    /// The last sample that was consumed.
+    #[inline(always)]
+    pub fn last(&self) -> Word
+        ensures { result ≡ walk_last self.now }
+    {
+        self.last
+    }
+
+    /// Consumes a run whose first sample is a stop, where none is met while its value stands.
+    #[inline(always)]
+    pub fn stop(&mut self, run: Run)
+        requires room { walked self.old + run.len ≤ 2 ^ 60 }
+        ensures waits { (alts : List Alt) (list : List ℕ) (met : ℕ) → Walks alts self.old list → walked self.old ≢ 0 → met ≢ 0
+            → MetSet alts (Some (walk_last self.old)) run.value (walk_from self.old) (walked self.old) met
+            → NeverMet alts (Some run.value) run.value
+            → IsStop (list ++ samples run) alts (walk_from self.old) (length list) met × Walks alts self.new (list ++ samples run) }
+        ensures walked { walked self.new ≡ walked self.old + run.len }
+        ensures from { walk_from self.new ≡ walked self.old + 1 }
+    {
+        self.from = MOST_SAMPLES - self.room + 1;
+        self.room -= run.len;
+        self.last = run.value;
+    }
+
+    /// Consumes a run that has no stop.
+    #[inline(always)]
+    pub fn pass(&mut self, run: Run)
+        requires room { walked self.old + run.len ≤ 2 ^ 60 }
+        ensures waits { (alts : List Alt) (list : List ℕ) → Walks alts self.old list → walked self.old ≢ 0
+            → MetSet alts (Some (walk_last self.old)) run.value (walk_from self.old) (walked self.old) 0
+            → NeverMet alts (Some run.value) run.value
+            → NoneMet (list ++ samples run) alts (walk_from self.old) (length list + run.len) × Walks alts self.new (list ++ samples run) }
+        ensures walked { walked self.new ≡ walked self.old + run.len }
+        ensures from { walk_from self.new ≡ walk_from self.old }
+    {
+        self.room -= run.len;
+        self.last = run.value;
+    }
+}
