@@ -1,12 +1,13 @@
 -- What one step of a machine does, and what a driver stands for.
 use Rattle.std.specs.Prelude.{ℕ, ◌≡◌, ◌<◌, List, [], ◌∷◌, ◌++◌, length, take, map, Option, IfSome}
+use Rattle.la_base.specs.declared.samples.Run.{Run}
 use Rattle.la_base.specs.declared.wires.Feed.{Feed}
 use Rattle.la_base.specs.declared.wires.Out.{Out}
 use Rattle.wait_cond.specs.declared.alt.Alt.{Alt}
 use Rattle.wait_cond.specs.declared.scan.Waiter.{Waiter}
 use Rattle.wait_cond.specs.Stops.{NoneMet}
 use Rattle.wait_cond.specs.Waiting.{Waits, SameNumbers, wait_from, alts_of}
-use Rattle.decoder_core.specs.Inputs.{Item, Sample, items_of, left_items, counted_samples}
+use Rattle.decoder_core.specs.Inputs.{Item, Sample, items_of, left_feed, left_items, counted_samples}
 
 -- a front of the feed was consumed, which isn't empty where the feed isn't; the outputs grew by those that were put out, and what is answered is the rest, which isn't empty. `before` and `after` say of which inputs the machine stood and stands
 pub record Steps (before after : List Item → Type 0) (outputs : List Item → List Out) (feed : Feed) (left : Option Feed) (into : List Out) : Type 0 where
@@ -14,6 +15,13 @@ pub record Steps (before after : List Item → Type 0) (outputs : List Item → 
   pub split : items_of feed ≡ front ++ left_items left
   pub some : 0 < length (items_of feed) → 0 < length front
   pub more : IfSome left (λ rest. 0 < length (items_of rest))
+  pub consumes : (input : List Item) → before input → after (input ++ front)
+  pub gives : (input : List Item) → before input → outputs (input ++ front) ≡ outputs input ++ into
+
+-- samples were consumed, but for what is left of the last run; the outputs grew by those that were put out
+pub record StepsRuns (before after : List Item → Type 0) (outputs : List Item → List Out) (samples : List ℕ) (rest : Option Run) (into : List Out) : Type 0 where
+  pub front : List Item
+  pub split : map Sample samples ≡ front ++ left_items (left_feed rest)
   pub consumes : (input : List Item) → before input → after (input ++ front)
   pub gives : (input : List Item) → before input → outputs (input ++ front) ≡ outputs input ++ into
 

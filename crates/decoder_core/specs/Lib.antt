@@ -4,5 +4,6 @@ pub mod Outputs
 pub mod Packets
 pub mod Marks
 pub mod Driving
+pub mod Treading
 pub mod Trees
 pub mod laws

@@ -1,13 +1,16 @@
 // Drives a decoder of samples by the waits that it asks for.
-ghost use Rattle.std.specs.Prelude.{◌≡◌, ◌≤◌, ◌<◌, ◌+◌, ◌^◌, [], ◌∷◌, ◌++◌, ℕ, List, length, min, replicate, ◌-◌, true, false, IfSome};
+ghost use Rattle.std.specs.Prelude.{◌≡◌, ◌≤◌, ◌<◌, ◌+◌, ◌^◌, [], ◌∷◌, ◌++◌, ℕ, List, length, min, replicate, take, ◌≢◌, ◌-◌, true, false, IfSome};
 ghost use Rattle.la_base.specs.Samples.{samples};
 ghost use Rattle.la_base.specs.declared.wires.Wire.TheVariants.{Logic};
+ghost use Rattle.wait_cond.specs.Conds.{IsExact};
+ghost use Rattle.la_base.specs.Runs.{samples_of};
 ghost use Rattle.wait_cond.specs.Waiting.{Waits, alts_of, wait_from, consumed_by};
 ghost use Rattle.decoder_core.specs.Inputs.{Item, Sample, counted_samples, items_of, left_feed, left_items};
-ghost use Rattle.decoder_core.specs.Driving.{Passes, ReachesStop, Steps, StopsFirst, Drives, Sleeps, SameState};
+ghost use Rattle.decoder_core.specs.Driving.{Passes, ReachesStop, Steps, StepsRuns, StopsFirst, Drives, Sleeps, SameState};
 ghost use Rattle.decoder_core.specs.laws.CountedLaws.{nothing_counted, front_counted, few_counted};
 
-use crate::{LogicMachine, Machine, Outs};
+use crate::walks::walk_runs;
+use crate::{LogicMachine, Machine, Outs, Taken};
 use la_base::{Feed, Run, Wire};
 use wait_cond::{Scan, Waiter};
 
@@ -74,6 +77,76 @@ impl<L: LogicMachine> Driver<L> {
                 Some(rest)
             }
             None => None,
+        }
+    }
+
+    // Consumes runs by the masks of what is waited for. It isn't inlined, so that the walk has its registers.
+    #[inline(never)]
+    fn step_exact(&mut self, runs: &[Run], into: &mut Outs) -> Taken
+        requires empty { into.old ≡ [] }
+        requires exact { IsExact (alts_of self.old.waiter) }
+        requires some { consumed_by self.old.waiter ≢ 0 }
+        ensures setup { L.setup self.new.machine ≡ L.setup self.old.machine }
+        ensures within { result.count ≤ length runs.now }
+        ensures none { result.count ≡ 0 → into.new ≡ [] }
+        ensures steps { StepsRuns (Drives L.stands L.alts self.old.machine self.old.waiter) (Drives L.stands L.alts self.new.machine self.new.waiter)
+            (λ input. L.outs (L.setup self.old.machine) (counted_samples input)) (samples_of (take result.count runs.now)) result.rest into.new }
+    {
+        let pair = self.waiter.pair();
+        let mut walk = self.waiter.walk();
+        let walked = walk_runs(&mut self.machine, pair, &mut walk, runs, into);
+        self.waiter.put(walk);
+        if !walked.anew {
+            return Taken {
+                count: walked.count,
+                rest: None,
+            };
+        }
+        self.machine.wait(&mut self.waiter);
+        Taken {
+            count: walked.count,
+            rest: self.pass_behind(runs[walked.count - 1]),
+        }
+    }
+
+    // Consumes what is behind the first sample of a run where it is plain that it has no stop, or answers it.
+    #[inline(always)]
+    fn pass_behind(&mut self, run: Run) -> Option<Run>
+        ensures setup { L.setup self.new.machine ≡ L.setup self.old.machine }
+        ensures steps { StepsRuns (Drives L.stands L.alts self.old.machine self.old.waiter) (Drives L.stands L.alts self.new.machine self.new.waiter)
+            (λ input. L.outs (L.setup self.old.machine) (counted_samples input)) (replicate (run.len - 1) run.value) result [] }
+    {
+        match behind(run, 1) {
+            Some(rest) => {
+                if self.pass_rest(rest) {
+                    return None;
+                }
+                Some(rest)
+            }
+            None => None,
+        }
+    }
+
+    // Consumes runs as long as it is plain that they have no stop, and then one up to its first stop.
+    #[inline(never)]
+    fn step_any(&mut self, runs: &[Run], into: &mut Outs) -> Taken
+        requires { into.old ≡ [] }
+        ensures setup { L.setup self.new.machine ≡ L.setup self.old.machine }
+        ensures within { result.count ≤ length runs.now }
+        ensures some { 0 < length runs.now → 0 < result.count }
+        ensures steps { StepsRuns (Drives L.stands L.alts self.old.machine self.old.waiter) (Drives L.stands L.alts self.new.machine self.new.waiter)
+            (λ input. L.outs (L.setup self.old.machine) (counted_samples input)) (samples_of (take result.count runs.now)) result.rest into.new }
+    {
+        let passed = self.waiter.pass_runs(runs);
+        if passed >= runs.len() {
+            return Taken {
+                count: passed,
+                rest: None,
+            };
+        }
+        Taken {
+            count: passed + 1,
+            rest: self.look_on(runs[passed], into),
         }
     }
 
@@ -174,8 +247,14 @@ impl<L: LogicMachine> Machine for Driver<L> {
         }
     }
 
-    fn pass_runs(&mut self, runs: &[Run]) -> usize {
-        self.waiter.pass_runs(runs)
+    fn step_runs(&mut self, runs: &[Run], into: &mut Outs) -> Taken {
+        if self.waiter.is_exact() {
+            let taken = self.step_exact(runs, into);
+            if taken.count > 0 {
+                return taken;
+            }
+        }
+        self.step_any(runs, into)
     }
 
     fn step_run(&mut self, run: Run, into: &mut Outs) -> Option<Run> {

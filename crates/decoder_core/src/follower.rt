@@ -4,7 +4,7 @@ ghost use Rattle.decoder_core.specs.Inputs.{Item, Pack};
 ghost use Rattle.decoder_core.specs.Packets.{Follows, NoneCount, counted_packets, counts};
 ghost use Rattle.decoder_core.specs.laws.PacketLaws.{nothing_followed, front_followed, order_followed, few_followed, wire_followed};
 
-use crate::{Machine, Outs, PacketMachine};
+use crate::{Machine, Outs, PacketMachine, Taken};
 use la_base::{Feed, Packet, Run, Wire, same_wire, wire_of};
 
 /// A decoder of packets as a machine of any input: it hands on the packets that count. Those are the
@@ -70,8 +70,11 @@ impl<D: PacketMachine> Machine for Follower<D> {
         }
     }
 
-    fn pass_runs(&mut self, runs: &[Run]) -> usize {
-        runs.len()
+    fn step_runs(&mut self, runs: &[Run], _into: &mut Outs) -> Taken {
+        Taken {
+            count: runs.len(),
+            rest: None,
+        }
     }
 
     fn step_run(&mut self, _run: Run, _into: &mut Outs) -> Option<Run> {

@@ -9,12 +9,13 @@ mod laws;
 mod machine;
 mod outputs;
 mod outs;
+mod walks;
 
 pub use driver::{Driver, one_input_makes_one_driver};
 pub use end::RunEnd;
 pub use faults::OptFault;
 pub use follower::{Follower, one_input_makes_one_follower};
 pub use laws::packets_of_a_parent_count;
-pub use machine::{LogicMachine, Machine, PacketMachine};
+pub use machine::{LogicMachine, Machine, PacketMachine, Taken};
 pub use outputs::{note_at, packet_at, span_note, span_packet, span_piece};
 pub use outs::Outs;

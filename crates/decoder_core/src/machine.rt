@@ -10,7 +10,7 @@ ghost use Rattle.decoder_core.specs.Inputs.{Item, left_feed};
 ghost use Rattle.decoder_core.specs.Promises.{IsFloor, GivesNothing, GivesOn, KeepsFront, PacketsInOrder, AddsFew, Rests, IsQuiet, IsLoud, StandsThere, OneMachine, OneLastStop};
 ghost use Rattle.la_base.specs.declared.wires.Packet.{Packet};
 ghost use Rattle.decoder_core.specs.Packets.{AllCount, IsPacketFloor, OnePacketMachine, PacketsStayInOrder, last_start};
-ghost use Rattle.decoder_core.specs.Driving.{Passes, ReachesStop, Steps, StopsFirst};
+ghost use Rattle.decoder_core.specs.Driving.{ReachesStop, Steps, StepsRuns, StopsFirst};
 
 use crate::Outs;
 use la_base::{Feed, Packet, Run, Wire, Word};
@@ -161,6 +161,13 @@ pub trait PacketMachine {
     ghost one_machine: { OnePacketMachine setup stands };
 }
 
+/// What was taken of runs: how many, and what is left of the last of them, if anything is.
+#[derive(Clone, Copy, Debug, PartialEq, Eq)]
+pub struct Taken {
+    pub count: usize,
+    pub rest: Option<Run>,
+}
+
 /// A decoder of any input, stop by stop. What is said of inputs is said of all those that the machine
 /// has consumed; the rest holds of every value of the type.
 pub trait Machine {
@@ -201,12 +208,16 @@ pub trait Machine {
         ensures step { Steps (consumed self.old) (consumed self.new) (outputs (setup self.old)) feed result into.new }
         ensures stops { StopsFirst (consumed self.old) (sleeps self.old) feed result };
 
-    /// Consumes runs, from the first one on, as long as it is plain that they have no stop, and answers how
-    /// many: these give nothing. What is behind them, if anything is, is for `step_run`.
-    fn pass_runs(&mut self, runs: &[Run]) -> usize
+    /// Consumes runs, from the first one on: those that have no stop, those at whose stops nothing is put out, and then
+    /// at most up to the first stop with outputs, which are put into `into`. It may end earlier, but takes at least one
+    /// run where there is one; of the last one that it took a part may be left.
+    fn step_runs(&mut self, runs: &[Run], into: &mut Outs) -> Taken
+        requires { into.old ≡ [] }
         ensures setup { setup self.new ≡ setup self.old }
-        ensures within { result ≤ length runs.now }
-        ensures passes { Passes (consumed self.old) (consumed self.new) (outputs (setup self.old)) (samples_of (take result runs.now)) };
+        ensures within { result.count ≤ length runs.now }
+        ensures some { 0 < length runs.now → 0 < result.count }
+        ensures steps { StepsRuns (consumed self.old) (consumed self.new) (outputs (setup self.old))
+            (samples_of (take result.count runs.now)) result.rest into.new };
 
     /// As `step`, for the feed of a run; but it may go on behind the first stop, as far as there is no
     /// other. So mostly nothing is left.

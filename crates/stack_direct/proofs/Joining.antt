@@ -1,5 +1,5 @@
 -- One change of a tree behind another.
-use Rattle.std.proofs.Common.{◌≡◌, ◌≢◌, ◌<◌, ◌≤◌, ℕ, suc, Bool, true, false, inl, inr, ◌⊎◌, ◌+◌, List, [], ◌∷◌, ◌++◌, slice_get, map, Option, Some, None, refl, sym, ◌∙◌, ap, subst, arith, append_assoc, if◌then◌else◌}
+use Rattle.std.proofs.Common.{◌≡◌, ◌≢◌, ◌<◌, ◌≤◌, ℕ, suc, Bool, true, false, inl, inr, ◌⊎◌, ◌+◌, List, [], ◌∷◌, ◌++◌, slice_get, Option, Some, None, refl, sym, ◌∙◌, ap, subst, arith, append_assoc, if◌then◌else◌}
 use Rattle.std.specs.Prelude.{nat_eq, nat_lt}
 use Rattle.std.proofs.lemmas.Bool.{cases_eq, cases_lt}
 use Rattle.std.proofs.lemmas.Bool.Decides.{nat_tests}
@@ -8,11 +8,12 @@ use Rattle.la_base.specs.declared.wires.Feed.{Feed}
 use Rattle.la_base.specs.declared.wires.Mark.{Mark}
 use Rattle.la_base.specs.declared.wires.Mark.TheVariants.{Floor as FloorMark}
 use Rattle.la_base.specs.declared.wires.Out.{Out}
-use Rattle.decoder_core.specs.Inputs.{Item, Sample}
+use Rattle.decoder_core.specs.Inputs.{Item}
 use Rattle.decoder_core.specs.Promises.{IsFloor}
 use Rattle.decoder_core.specs.Trees.{packets_of}
 use Rattle.decoder_core.specs.Marks.{marks_of, shown, FloorsHold}
-use Rattle.stack_direct.specs.Machines.{PassedAt, StepsAt}
+use Rattle.la_base.specs.declared.samples.Run.{Run}
+use Rattle.stack_direct.specs.Machines.{MovesAt, StepsAt, StepsRunsAt}
 use Rattle.stack_direct.specs.Passing.{Reaches, Passes, Change, joined, only, up_to, Took, same_place, first_on, from_parent, comes, Down, Into, IsForest, Hands, Feeds, Gives}
 use Rattle.stack_direct.proofs.Lists.{packets-append, marks-append, shown-append, no_end-append, shown_front, floors-append, marks_from, reaches_all, reaches_weaker, reaches-append, reaches_trans, reaches_packets, reaches_marks}
 
@@ -288,36 +289,6 @@ into_nothing i parents marks = record { quiet = λ j low. (refl, refl); here = r
 pub took_nothing : (old : (ℕ → List Mark) → Type 0) → Took old old (λ j. [])
 took_nothing old = λ before after had is. let back : (j : ℕ) → before j ≡ after j = λ j. sym (is j ∙ append-nil (before j)) in subst old (λ i j. back j i) had
 
--- samples that instance i passed over
-pub feeds_passed : {whole : ℕ → List Item → List Out} {before after : ℕ → List Item → Type 0} (parents : List (Option ℕ)) (old : (ℕ → List Mark) → Type 0) (i : ℕ) (more : List ℕ) → PassedAt i whole before after more
-    → Feeds true whole before after parents old old i (map Sample more)
-feeds_passed {whole} {before} {after} parents old i more p = record {
-  change = record { grown = only i (map Sample more); added = λ j. []; marks = λ j. [] };
-  each = each;
-  into = record {
-    quiet = λ j low. (only_elsewhere i (map Sample more) j (λ same. absurd (omega (arith, same, low))), refl);
-    here = only_here i (map Sample more);
-    links = λ j parent at other. only_elsewhere i (map Sample more) j other ∙ from_nothing parent;
-  };
-  unmarked = λ j low. refl;
-  took = took_nothing old;
-} where
-  here : Passes true (whole i) (before i) (after i) (map Sample more) [] []
-  here = record {
-    consumes = λ is input b. (p.here input b).0;
-    gives = λ input b. (p.here input b).1 ∙ sym (append-nil (whole i input));
-    shows = refl;
-    no_end = tt;
-    floors = λ input further rest b is. tt;
-  }
-
-  each : (j : ℕ) → Passes true (whole j) (before j) (after j) (only i (map Sample more) j) [] []
-  each j = elim (cases_eq j i) [
-    | inl same ↦ subst (λ (k : ℕ). Passes true (whole k) (before k) (after k) (only i (map Sample more) k) [] []) (sym same)
-        (subst (λ (l : List Item). Passes true (whole i) (before i) (after i) l [] []) (sym (only_here i (map Sample more))) here)
-    | inr other ↦ subst (λ (l : List Item). Passes true (whole j) (before j) (after j) l [] []) (sym (only_elsewhere i (map Sample more) j other)) (passes_nothing (whole j) (before j) (after j) (p.others j other))
-  ]
-
 module _ (whole : ℕ → List Item → List Out) (now : ℕ → List Item → Type 0) (parents : List (Option ℕ)) (old : (ℕ → List Mark) → Type 0) where
   pub hands_nothing : (above : Option ℕ) → Hands true whole now now parents old old above (λ j. [])
   hands_nothing above = record {
@@ -402,9 +373,16 @@ module _ {done : Bool} {whole : ℕ → List Item → List Out} {before after : 
         took = p.took;
       }
 
--- a step of instance i, and then its outputs
-module _ {done : Bool} {whole : ℕ → List Item → List Out} {before mid after : ℕ → List Item → Type 0} {parents : List (Option ℕ)} {old new : (ℕ → List Mark) → Type 0} {i : ℕ} {feed : Feed} {left : Option Feed} {outs : List Out}
-    (forest : IsForest parents) (s : StepsAt i whole before mid feed left outs) (p : Gives done whole mid after parents old new i outs) where
+-- a step, and steps over runs
+pub step_moves : {i : ℕ} {whole : ℕ → List Item → List Out} {before after : ℕ → List Item → Type 0} {feed : Feed} {left : Option Feed} {outs : List Out} → (s : StepsAt i whole before after feed left outs) → MovesAt i whole before after s.here.front outs
+step_moves s = record { consumes = s.here.consumes; gives = s.here.gives; others = s.others }
+
+pub runs_move : {i : ℕ} {whole : ℕ → List Item → List Out} {before after : ℕ → List Item → Type 0} {samples : List ℕ} {rest : Option Run} {outs : List Out} → (s : StepsRunsAt i whole before after samples rest outs) → MovesAt i whole before after s.here.front outs
+runs_move s = record { consumes = s.here.consumes; gives = s.here.gives; others = s.others }
+
+-- what instance i consumed, and then its outputs
+module _ {done : Bool} {whole : ℕ → List Item → List Out} {before mid after : ℕ → List Item → Type 0} {parents : List (Option ℕ)} {old new : (ℕ → List Mark) → Type 0} {i : ℕ} {front : List Item} {outs : List Out}
+    (forest : IsForest parents) (s : MovesAt i whole before mid front outs) (p : Gives done whole mid after parents old new i outs) where
   abbrev c : Change
   c = p.change
 
@@ -418,14 +396,14 @@ module _ {done : Bool} {whole : ℕ → List Item → List Out} {before mid afte
   at_other xs f j other = let different : nat_eq j i ≡ false = grind (arith, nat_tests) in ap (λ (b : Bool). if b then xs else f j) different
 
   abbrev stepped_change : Change
-  stepped_change = record { grown = at_i s.here.front c.grown; added = at_i outs c.added; marks = c.marks }
+  stepped_change = record { grown = at_i front c.grown; added = at_i outs c.added; marks = c.marks }
 
-  here : Passes done (whole i) (before i) (after i) s.here.front outs (c.marks i)
+  here : Passes done (whole i) (before i) (after i) front outs (c.marks i)
   here =
       let own = shown_front done (c.marks i) outs p.own in
       record {
-        consumes = λ is input b. p.stays is (input ++ s.here.front) (s.here.consumes input b);
-        gives = s.here.gives;
+        consumes = λ is input b. p.stays is (input ++ front) (s.consumes input b);
+        gives = s.gives;
         shows = own.0;
         no_end = own.1;
         floors = λ input more rest b is. own.2 (marks_of (outs ++ rest));
@@ -442,14 +420,14 @@ module _ {done : Bool} {whole : ℕ → List Item → List Out} {before mid afte
         floors = λ input more rest b is. q.floors input more rest (s.others j different input b) is;
       }
 
-  each : (j : ℕ) → Passes done (whole j) (before j) (after j) (at_i s.here.front c.grown j) (at_i outs c.added j) (c.marks j)
+  each : (j : ℕ) → Passes done (whole j) (before j) (after j) (at_i front c.grown j) (at_i outs c.added j) (c.marks j)
   each j = elim (cases_eq j i) [
     | inl same ↦
-        subst (λ (k : ℕ). Passes done (whole k) (before k) (after k) (at_i s.here.front c.grown k) (at_i outs c.added k) (c.marks k)) (sym same)
-        (subst (λ (l : List Item). Passes done (whole i) (before i) (after i) l (at_i outs c.added i) (c.marks i)) (sym (at_here s.here.front c.grown))
-        (subst (λ (l : List Out). Passes done (whole i) (before i) (after i) s.here.front l (c.marks i)) (sym (at_here outs c.added)) here))
+        subst (λ (k : ℕ). Passes done (whole k) (before k) (after k) (at_i front c.grown k) (at_i outs c.added k) (c.marks k)) (sym same)
+        (subst (λ (l : List Item). Passes done (whole i) (before i) (after i) l (at_i outs c.added i) (c.marks i)) (sym (at_here front c.grown))
+        (subst (λ (l : List Out). Passes done (whole i) (before i) (after i) front l (c.marks i)) (sym (at_here outs c.added)) here))
     | inr different ↦
-        subst (λ (l : List Item). Passes done (whole j) (before j) (after j) l (at_i outs c.added j) (c.marks j)) (sym (at_other s.here.front c.grown j different))
+        subst (λ (l : List Item). Passes done (whole j) (before j) (after j) l (at_i outs c.added j) (c.marks j)) (sym (at_other front c.grown j different))
         (subst (λ (l : List Out). Passes done (whole j) (before j) (after j) (c.grown j) l (c.marks j)) (sym (at_other outs c.added j different)) (other j different))
   ]
 
@@ -462,7 +440,7 @@ module _ {done : Bool} {whole : ℕ → List Item → List Out} {before mid afte
       by true = refl
       by false = refl
 
-  pub stepped : Feeds done whole before after parents old new i s.here.front
+  pub stepped : Feeds done whole before after parents old new i front
   stepped = record {
     change = stepped_change;
     each = each;
@@ -470,10 +448,10 @@ module _ {done : Bool} {whole : ℕ → List Item → List Out} {before mid afte
       quiet = λ j low.
           let different : j ≢ i = omega (arith, low) in
           let q = p.down.quiet j (omega (arith, low)) in
-          (at_other s.here.front c.grown j different ∙ q.0, at_other outs c.added j different ∙ q.1);
-      here = reaches_weaker done (at_i s.here.front c.grown i) s.here.front (at_here s.here.front c.grown);
+          (at_other front c.grown j different ∙ q.0, at_other outs c.added j different ∙ q.1);
+      here = reaches_weaker done (at_i front c.grown i) front (at_here front c.grown);
       links = λ j parent at different.
-          subst (λ (l : List Item). Reaches done l (from_parent (at_i outs c.added) parent)) (sym (at_other s.here.front c.grown j different))
+          subst (λ (l : List Item). Reaches done l (from_parent (at_i outs c.added) parent)) (sym (at_other front c.grown j different))
           (subst (λ (l : List Item). Reaches done (c.grown j) l) (come parent) (p.down.links j parent at));
     };
     unmarked = p.unmarked;

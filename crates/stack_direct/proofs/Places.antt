@@ -1,12 +1,13 @@
 -- One machine among those of a tree.
 use Rattle.std.proofs.Common.{◌≡◌, ◌≢◌, ◌<◌, ℕ, zero, suc, List, [], ◌∷◌, ◌++◌, length, map, get_or, set, slice_get, Option, Some, option_map, refl, sym, ◌∙◌, ap, subst, arith}
-use Rattle.std.proofs.lemmas.List.{append-nil, get_or-set_same, get_or-set_other, length-set}
+use Rattle.std.proofs.lemmas.List.{get_or-set_same, get_or-set_other, length-set}
 use Rattle.std.proofs.lemmas.Option.{slice_get-get_or, slice_get-map}
+use Rattle.la_base.specs.declared.samples.Run.{Run}
 use Rattle.la_base.specs.declared.wires.Feed.{Feed}
 use Rattle.la_base.specs.declared.wires.Out.{Out}
-use Rattle.decoder_core.specs.Driving.{Passes, Steps}
-use Rattle.decoder_core.specs.Inputs.{Item, Sample}
-use Rattle.stack_direct.specs.Machines.{PassedAt, Stand, StepsAt, whole_of, outputs_at}
+use Rattle.decoder_core.specs.Driving.{Steps, StepsRuns}
+use Rattle.decoder_core.specs.Inputs.{Item}
+use Rattle.stack_direct.specs.Machines.{Stand, StepsAt, StepsRunsAt, whole_of, outputs_at}
 
 module _ {M S : Type 0} (setup : M → S) (consumed : M → List Item → Type 0) (outputs : S → List Item → List Out) where
   -- a machine of the same setup leaves the setups
@@ -47,17 +48,14 @@ module _ {M S : Type 0} (setup : M → S) (consumed : M → List Item → Type 0
       others = stays after;
     }
 
-    pub passed_at : (after : M) (more : List ℕ) → Passes (consumed (get_or ms i d)) (consumed after) (outputs (setup (get_or ms i d))) more → PassedAt i (whole_of outputs (map setup ms)) (Stand consumed ms) (Stand consumed (set ms i after)) more
-    passed_at after more passes = record {
-      here = λ input st.
-          let p = passes input (st.1 d) in
-          (stands after (input ++ map Sample more) p.0, subst (λ (f : List Item → List Out). f (input ++ map Sample more) ≡ f input) (sym whole_is) p.1);
+    pub runs_at : (after : M) (samples : List ℕ) (rest : Option Run) (into : List Out) → StepsRuns (consumed (get_or ms i d)) (consumed after) (outputs (setup (get_or ms i d))) samples rest into
+        → StepsRunsAt i (whole_of outputs (map setup ms)) (Stand consumed ms) (Stand consumed (set ms i after)) samples rest into
+    runs_at after samples rest into s = record {
+      here = record {
+        front = s.front;
+        split = s.split;
+        consumes = λ input st. stands after (input ++ s.front) (s.consumes input (st.1 d));
+        gives = λ input st. subst (λ (f : List Item → List Out). f (input ++ s.front) ≡ f input ++ into) (sym whole_is) (s.gives input (st.1 d));
+      };
       others = stays after;
     }
-
--- no samples at all were passed over
-pub passed_nothing : (whole : ℕ → List Item → List Out) (now : ℕ → List Item → Type 0) (i : ℕ) → PassedAt i whole now now []
-passed_nothing whole now i = record {
-  here = λ input stands. (subst (λ (l : List Item). now i l) (sym (append-nil input)) stands, ap (λ (l : List Item). whole i l) (append-nil input));
-  others = λ j other input stands. stands;
-}

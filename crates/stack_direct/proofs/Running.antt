@@ -1,5 +1,5 @@
 -- Runs behind runs.
-use Rattle.std.proofs.Common.{◌≡◌, ◌<◌, ◌+◌, length, take, get_or, ℕ, Bool, true, List, [], ◌∷◌, ◌++◌, map, None, refl, sym, ◌∙◌, ap, subst, append_assoc}
+use Rattle.std.proofs.Common.{◌≡◌, ◌<◌, ◌+◌, length, take, drop, take-append-drop, false, get_or, ℕ, Bool, true, List, [], ◌∷◌, ◌++◌, map, None, refl, sym, ◌∙◌, ap, subst, append_assoc}
 use Rattle.std.specs.Prelude.{Option}
 use Rattle.std.proofs.lemmas.List.{append-nil}
 use Rattle.la_base.specs.Samples.{samples}
@@ -10,7 +10,7 @@ use Rattle.la_base.specs.declared.wires.Mark.{Mark}
 use Rattle.la_base.specs.declared.wires.Out.{Out}
 use Rattle.decoder_core.specs.Inputs.{Item, Sample}
 use Rattle.la_base.specs.declared.wires.Mark.TheVariants.{End as EndMark}
-use Rattle.stack_direct.specs.Passing.{Hands, Took, only, up_to}
+use Rattle.stack_direct.specs.Passing.{Hands, Reaches, Took, only, up_to}
 use Rattle.stack_direct.specs.Runs.{FedRuns, TookEnds}
 use Rattle.stack_direct.proofs.Lists.{reaches_weaker}
 use Rattle.stack_direct.proofs.Joining.{hands_nothing, hands_then, hands_reach, took_then, took_nothing, up_to_next, up_to_none}
@@ -74,3 +74,11 @@ ends_next t0 t1 t2 k p q = took_same t0 t2 (λ j. up_to k (EndMark ∷ []) j ++ 
 
 pub ends_none : (old : (ℕ → List Mark) → Type 0) → TookEnds old old 0
 ends_none old = took_same old old (λ j. []) (λ j. up_to 0 (EndMark ∷ []) j) (λ j. sym (up_to_none (EndMark ∷ []) j)) (took_nothing old)
+
+-- what was consumed of some of the runs is a front of all
+pub taken_reach : (runs : List Run) (count : ℕ) (front left : List Item) → map Sample (samples_of (take count runs)) ≡ front ++ left → Reaches false front (map Sample (samples_of runs))
+taken_reach runs count front left split = (
+  left ++ map Sample (samples_of (drop count runs)),
+  sym (append_assoc front left (map Sample (samples_of (drop count runs)))) ∙ ap (λ (l : List Item). l ++ map Sample (samples_of (drop count runs))) (sym split) ∙ more_items (take count runs) (drop count runs)
+      ∙ ap (λ (l : List Run). map Sample (samples_of l)) (take-append-drop count runs),
+)

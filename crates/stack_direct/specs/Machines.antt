@@ -1,8 +1,9 @@
 -- The machines of a tree by their places.
-use Rattle.std.specs.Prelude.{ℕ, suc, ◌≢◌, ◌<◌, List, [], length, slice_get, get_or, Option, Some, None}
+use Rattle.std.specs.Prelude.{ℕ, suc, ◌≡◌, ◌≢◌, ◌<◌, ◌++◌, take, List, [], length, slice_get, get_or, Option, Some, None, Result, Ok, Err}
+use Rattle.la_base.specs.declared.samples.Run.{Run}
 use Rattle.la_base.specs.declared.wires.Feed.{Feed}
 use Rattle.la_base.specs.declared.wires.Out.{Out}
-use Rattle.decoder_core.specs.Driving.{Passes, Steps}
+use Rattle.decoder_core.specs.Driving.{Steps, StepsRuns}
 use Rattle.decoder_core.specs.Inputs.{Item, items_of}
 
 -- the machine at a place stands for this input
@@ -22,10 +23,21 @@ pub record StepsAt (i : ℕ) (whole : ℕ → List Item → List Out) (before af
   pub here : Steps (before i) (after i) (whole i) feed left into
   pub others : (j : ℕ) → j ≢ i → (input : List Item) → before j input → after j input
 
--- the machine at a place consumed these samples, which give nothing, and no other did
-pub record PassedAt (i : ℕ) (whole : ℕ → List Item → List Out) (before after : ℕ → List Item → Type 0) (more : List ℕ) : Type 0 where
-  pub here : Passes (before i) (after i) (whole i) more
+-- the machine at a place took steps over runs of these samples, and no other did
+pub record StepsRunsAt (i : ℕ) (whole : ℕ → List Item → List Out) (before after : ℕ → List Item → Type 0) (samples : List ℕ) (rest : Option Run) (into : List Out) : Type 0 where
+  pub here : StepsRuns (before i) (after i) (whole i) samples rest into
   pub others : (j : ℕ) → j ≢ i → (input : List Item) → before j input → after j input
+
+-- either: it consumed these items, which give these outputs
+pub record MovesAt (i : ℕ) (whole : ℕ → List Item → List Out) (before after : ℕ → List Item → Type 0) (front : List Item) (into : List Out) : Type 0 where
+  pub consumes : (input : List Item) → before i input → after i (input ++ front)
+  pub gives : (input : List Item) → before i input → whole i (input ++ front) ≡ whole i input ++ into
+  pub others : (j : ℕ) → j ≢ i → (input : List Item) → before j input → after j input
+
+-- the runs of which a number was taken; all where it was stopped on the way
+abbrev pub taken_of : {E : Type 0} → Result ℕ E → List Run → List Run
+taken_of (Ok count) runs = take count runs
+taken_of (Err stopped) runs = runs
 
 -- what is left to do of a feed: more than of any rest of it
 abbrev pub left_work : Option Feed → ℕ

@@ -5,22 +5,30 @@ ghost use Rattle.decoder_core.specs.Inputs.{Item, left_feed};
 ghost use Rattle.decoder_core.specs.Promises.{IsFloor};
 ghost use Rattle.la_io.specs.Causes.{HasCause};
 ghost use Rattle.stack_direct.specs.Passing.{Took, only, same_place};
-ghost use Rattle.stack_direct.specs.Machines.{PassedAt, Stand, StepsAt, whole_of};
+ghost use Rattle.stack_direct.specs.Machines.{Stand, StepsAt, StepsRunsAt, whole_of};
 
-use decoder_core::{Machine, Outs};
+use decoder_core::{Machine, Outs, Taken};
 use la_base::{Feed, Mark, Packet, Run};
 use la_io::{MarkTake, Stopped};
 
-/// One machine passes over runs as long as it is plain that they have no stop; the answer is how many.
+/// Steps of one machine over runs, past stops that put out nothing.
 #[inline(always)]
-pub fn pass_runs_at<M: Machine>(machines: &mut [M], instance: u32, runs: &[Run]) -> usize
-    requires { instance < length machines.old }
+pub fn step_runs_at<M: Machine>(
+    machines: &mut [M],
+    instance: u32,
+    runs: &[Run],
+    outs: &mut Outs,
+) -> Taken
+    requires within { instance < length machines.old }
+    requires empty { outs.old ≡ [] }
     ensures setups { map M.setup machines.new ≡ map M.setup machines.old }
     ensures len { length machines.new ≡ length machines.old }
-    ensures within { result ≤ length runs.now }
-    ensures passed { PassedAt instance (whole_of M.outputs (map M.setup machines.old)) (Stand M.consumed machines.old) (Stand M.consumed machines.new) (samples_of (take result runs.now)) }
+    ensures within { result.count ≤ length runs.now }
+    ensures some { 0 < length runs.now → 0 < result.count }
+    ensures steps { StepsRunsAt instance (whole_of M.outputs (map M.setup machines.old)) (Stand M.consumed machines.old) (Stand M.consumed machines.new)
+        (samples_of (take result.count runs.now)) result.rest outs.new }
 {
-    machines[instance as usize].pass_runs(runs)
+    machines[instance as usize].step_runs(runs, outs)
 }
 
 /// A step of one machine over a run, which may go on behind its first stop.

@@ -9,7 +9,7 @@ use Rattle.decoder_core.specs.Inputs.{Pack}
 use Rattle.decoder_core.specs.Promises.{IsFloor}
 use Rattle.stack_direct.specs.Passing.{Hands, Gives, Reaches, only, up_to}
 use Rattle.stack_direct.specs.Machines.{Stand, whole_of}
-use Rattle.stack_direct.proofs.Joining.{gives_nothing, hands_nothing, gives_then, gives_reach, gives_mark, gives_packet, gives_weaker, feeds_then, feeds_reach, feeds_weaker, feeds_floor, stepped, feeds_are_hands, hands_next, hands_not, hands_reach, up_to_none, up_to_all, up_to_front}
+use Rattle.stack_direct.proofs.Joining.{gives_nothing, hands_nothing, gives_then, gives_reach, gives_mark, gives_packet, gives_weaker, feeds_then, feeds_reach, feeds_weaker, feeds_floor, step_moves, stepped, feeds_are_hands, hands_next, hands_not, hands_reach, up_to_none, up_to_all, up_to_front}
 use Rattle.stack_direct.proofs.Lists.{reaches_weaker}
 use Rattle.stack_direct.proofs.Feeding.{whole_packet}
 use Rattle.stack_direct.proofs.down.+tree.Goals as goal
@@ -93,7 +93,7 @@ pass_in-returns-in-Err-clause-feeds g t c =
     let s = c.step_packet_at.ensures.step in
     let gave = subst (λ (l : List g.row.M-Setup.Denot). Gives false (whole_of m.outputs l) (Stand m.consumed c.step_packet_at.new.machines) (Stand m.consumed c.give.new.machines) c.args.parents.now (k.took c.args.take.now) (k.took c.give.new.take) c.args.instance c.step_packet_at.new.outs) c.step_packet_at.ensures.setups
     (subst (λ (l : List Out). Gives false (whole_of m.outputs (map m.setup c.step_packet_at.new.machines)) (Stand m.consumed c.step_packet_at.new.machines) (Stand m.consumed c.give.new.machines) c.args.parents.now (k.took c.args.take.now) (k.took c.give.new.take) c.args.instance l) c.list.ensures.list c.in-Err.ensures.gives) in
-    feeds_reach (Pack c.args.packet.now ∷ []) (reaches_weaker false s.here.front (Pack c.args.packet.now ∷ []) (whole_packet c.args.packet.now s.here)) (stepped c.requires.forest s gave)
+    feeds_reach (Pack c.args.packet.now ∷ []) (reaches_weaker false s.here.front (Pack c.args.packet.now ∷ []) (whole_packet c.args.packet.now s.here)) (stepped c.requires.forest (step_moves s) gave)
 
 pub pass_in-returns-clause-feeds : goal.pass_in-returns-clause-feeds
 pass_in-returns-clause-feeds g t c =
@@ -108,7 +108,7 @@ pass_in-returns-clause-feeds g t c =
     (subst (λ (l : List Out). Gives true (whole_of m.outputs (map m.setup c.step_packet_at.new.machines)) (Stand m.consumed c.step_packet_at.new.machines) now c.args.parents.now (k.took c.args.take.now) (k.took c.give.new.take) c.args.instance l) c.list.ensures.list c.in-Ok.ensures.gives) in
     let told = feeds_floor whole now c.args.parents.now (k.took c.give.new.take) (k.took c.mark.new.take) c.args.instance c.floor_at-floor.result c.mark.ensures.took
     (λ input b. subst (λ (l : List g.row.M-Setup.Denot). IsFloor (whole_of m.outputs l c.args.instance) input c.floor_at-floor.result) setups (c.floor_at-floor.ensures input b)) in
-    feeds_reach (Pack c.args.packet.now ∷ []) (reaches_weaker done (s.here.front ++ []) (Pack c.args.packet.now ∷ []) (append-nil s.here.front ∙ whole_packet c.args.packet.now s.here)) (feeds_then (stepped c.requires.forest s gave) (feeds_weaker done told))
+    feeds_reach (Pack c.args.packet.now ∷ []) (reaches_weaker done (s.here.front ++ []) (Pack c.args.packet.now ∷ []) (append-nil s.here.front ∙ whole_packet c.args.packet.now s.here)) (feeds_then (stepped c.requires.forest (step_moves s) gave) (feeds_weaker done told))
 
 pub hand_to-returns-else-same_place-clause-hands : goal.hand_to-returns-else-same_place-clause-hands
 hand_to-returns-else-same_place-clause-hands g t c = hands_not c.args.above c.args.parent c.args.instance (Pack c.args.packet.now ∷ []) c.requires.parent (sym c.if-same_place.ensures)

@@ -6,7 +6,7 @@ use Rattle.la_base.specs.declared.wires.Feed.TheVariants.{Run as RunFeed}
 use Rattle.decoder_core.specs.Inputs.{Item, Sample, left_feed, left_items}
 use Rattle.stack_direct.specs.Passing.{Gives}
 use Rattle.stack_direct.specs.Machines.{Stand, StepsAt, whole_of}
-use Rattle.stack_direct.proofs.Joining.{feeds_nothing, feeds_then, feeds_reach, stepped}
+use Rattle.stack_direct.proofs.Joining.{feeds_nothing, feeds_then, feeds_reach, step_moves, stepped}
 use Rattle.stack_direct.proofs.roots.pass_rest.Goals as goal
 
 pub loop-rest-init : goal.loop-rest-init
@@ -36,7 +36,7 @@ loop-rest-preserved g c =
     i.feeds.1 ∙ ap (λ (r : Option Run). i.feeds.0 ++ left_items (left_feed r)) c.in-Some.is ∙ ap (λ (l : List Item). i.feeds.0 ++ l) s.here.split ∙ sym (append_assoc i.feeds.0 s.here.front (left_items (left_feed c.step_run_at-rest.result))) in
     record {
       setups = e.setups ∙ c.step_run_at-rest.ensures.setups ∙ i.setups;
-      feeds = (i.feeds.0 ++ s.here.front, split, feeds_then i.feeds.2 (stepped c.requires.forest s gave));
+      feeds = (i.feeds.0 ++ s.here.front, split, feeds_then i.feeds.2 (stepped c.requires.forest (step_moves s) gave));
       empty = e.empty;
       instances = e.instances ∙ i.instances;
       origin = e.origin ∙ i.origin;
@@ -54,7 +54,7 @@ returns-in-Err-clause-feeds g c =
     let gave = subst (λ (l : List g.row.M-Setup.Denot). Gives false (whole_of m.outputs l) (Stand m.consumed mid) (Stand m.consumed c.give_all.new.machines) c.args.parents.now (k.took c.loop-rest.take) (k.took c.give_all.new.take) c.args.instance c.step_run_at-rest.new.outs) (c.step_run_at-rest.ensures.setups ∙ i.setups) e.gives in
     let split : map Sample (samples c.args.run) ≡ (i.feeds.0 ++ s.here.front) ++ left_items (left_feed c.step_run_at-rest.result) =
     i.feeds.1 ∙ ap (λ (r : Option Run). i.feeds.0 ++ left_items (left_feed r)) c.in-Some.is ∙ ap (λ (l : List Item). i.feeds.0 ++ l) s.here.split ∙ sym (append_assoc i.feeds.0 s.here.front (left_items (left_feed c.step_run_at-rest.result))) in
-    feeds_reach (map Sample (samples c.args.run)) (left_items (left_feed c.step_run_at-rest.result), sym split) (feeds_then i.feeds.2 (stepped c.requires.forest s gave))
+    feeds_reach (map Sample (samples c.args.run)) (left_items (left_feed c.step_run_at-rest.result), sym split) (feeds_then i.feeds.2 (stepped c.requires.forest (step_moves s) gave))
 
 pub returns-clause-feeds : goal.returns-clause-feeds
 returns-clause-feeds g c =
