@@ -4,7 +4,8 @@ pub mod TenLaws
 pub mod ClockLaws
 pub mod PushLaws
 pub mod MetLaws
+pub mod GivenLaws
 pub mod SoundLaws
 pub mod I2cLaws
-pub mod MachineLaws
 pub mod WireLaws
+pub mod MachineLaws

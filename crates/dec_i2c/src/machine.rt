@@ -1,27 +1,20 @@
 // I2C as a decoder of samples: it sleeps between two events.
-ghost use Rattle.std.specs.Prelude.{◌≡◌, ◌<◌, ◌^◌, ◌∷◌, [], ℕ, List, true};
+ghost use Rattle.std.specs.Prelude.{◌≡◌, ◌∷◌, [], ℕ, List, true};
 ghost use Rattle.la_base.specs.declared.wires.Wire.TheVariants.{I2c as I2cWire};
+ghost use Rattle.sample_walks.specs.laws.EventDecoders.{quiet_of};
 ghost use Rattle.dec_i2c.specs.Bus.{i2c_outs, i2c_near};
 ghost use Rattle.dec_i2c.specs.Opening.{StandsFor, Opens};
 ghost use Rattle.dec_i2c.specs.laws.Machine.{mark_alt, clock_alt, i2c_alts, near_by};
-ghost use Rattle.dec_i2c.specs.laws.I2cLaws.{i2c_nothing, i2c_prefix, i2c_order, i2c_few};
+ghost use Rattle.dec_i2c.specs.laws.I2cLaws.{i2c_decoder, i2c_nothing, i2c_prefix, i2c_order, i2c_few};
 ghost use Rattle.dec_i2c.specs.laws.WireLaws.{i2c_on_wire};
-ghost use Rattle.dec_i2c.specs.laws.MachineLaws.{machine_quiet, one_i2c, i2c_one_stop};
+ghost use Rattle.dec_i2c.specs.laws.MachineLaws.{one_i2c, i2c_one_stop};
 
 use crate::outputs::give;
-use crate::steps::step;
+use crate::steps::{step, takes_bit};
 use crate::{Bus, I2c, I2cOpts, Segment};
 use decoder_core::{LogicMachine, OptFault, Outs};
-use la_base::{MOST_PINS, Rate, Word, pin};
+use la_base::{MOST_PINS, Rate, Word, mask, pin};
 use wait_cond::{Alt, Cond, Waiter};
-
-// The mask of one line.
-fn mask(line: u32) -> Word
-    requires { line < MOST_PINS }
-    ensures { result ≡ 2 ^ line }
-{
-    1 << line
-}
 
 // SCL stays high, and SDA rises or falls.
 fn mark_alt(bus: Bus) -> Alt
@@ -117,6 +110,9 @@ impl LogicMachine for I2c {
     #[inline(always)]
     fn resume(&mut self, at: u64, value: Word, met: u8, into: &mut Outs) -> bool {
         let level = pin(value, self.bus.sda);
+        if takes_bit(&mut self.held, met, at, level) {
+            return false;
+        }
         give(&self.held, met, at, level, into);
         step(&mut self.held, met, at, level);
         false
@@ -126,7 +122,7 @@ impl LogicMachine for I2c {
         near(&self.held, next)
     }
 
-    ghost quiet = { λ machine seen more stands rests. machine_quiet machine seen more stands rests };
+    ghost quiet = { λ machine seen more stands rests. quiet_of (i2c_decoder machine.bus.scl machine.bus.sda) machine.held seen more stands rests };
 
     ghost nothing = { λ machine. i2c_nothing machine.bus.scl machine.bus.sda };
 

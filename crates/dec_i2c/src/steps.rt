@@ -1,7 +1,7 @@
 // How an event changes what is kept.
-ghost use Rattle.std.specs.Prelude.{◌≡◌, if◌then◌else◌, Some, None};
+ghost use Rattle.std.specs.Prelude.{◌≡◌, ◌<◌, if◌then◌else◌, Some, None};
 ghost use Rattle.dec_i2c.specs.Bytes.{is_read, is_prefix, two_bits, ten_bits, read_by, direction, role_second};
-ghost use Rattle.dec_i2c.specs.laws.Machine.{event_met, grown, role_next, ten_next, handed_by, handed, begun, byte_next, clock_next, next};
+ghost use Rattle.dec_i2c.specs.laws.Machine.{event_met, grown, role_next, ten_next, handed_by, handed, begun, byte_next, bit_next, clock_next, next, is_bit, taken};
 
 use crate::{Role, Segment};
 
@@ -161,23 +161,56 @@ fn end_byte(segment: &mut Segment, byte: u8)
     segment.byte = byte;
 }
 
+// A clock before the eighth of a byte, in an open segment.
+#[inline(always)]
+fn take(segment: &mut Segment, at: u64, level: bool)
+    requires { segment.old.bits < 7 }
+    ensures { segment.new ≡ bit_next segment.old (grown segment.old.byte level) at }
+{
+    if segment.bits == 0 {
+        segment.first = at;
+    }
+    segment.bits += 1;
+    segment.byte = grown(segment.byte, level);
+}
+
 // A clock in an open segment.
 fn clock(segment: &mut Segment, at: u64, level: bool)
     ensures { segment.new ≡ clock_next segment.old at level }
 {
-    let byte = grown(segment.byte, level);
     if segment.bits == 7 {
+        let byte = grown(segment.byte, level);
         end_byte(segment, byte);
     } else if segment.bits < 7 {
-        if segment.bits == 0 {
-            segment.first = at;
-        }
-        segment.bits += 1;
-        segment.byte = byte;
+        take(segment, at, level);
     } else {
         segment.bits = 0;
         segment.byte = 0;
         segment.first = 0;
+    }
+}
+
+/// Takes in place what gives nothing and ends nothing: a clock before the eighth of a byte, or one outside of a segment.
+/// Answers whether it did; nothing is changed where it didn't.
+#[inline(always)]
+pub fn takes_bit(held: &mut Option<Segment>, met: u8, at: u64, level: bool) -> bool
+    ensures answers { result ≡ is_bit held.old met }
+    ensures keeps { held.new ≡ taken held.old met at level }
+{
+    if met != 1 {
+        match held {
+            Some(segment) => {
+                if segment.bits < 7 {
+                    take(segment, at, level);
+                    true
+                } else {
+                    false
+                }
+            }
+            None => true,
+        }
+    } else {
+        false
     }
 }
 

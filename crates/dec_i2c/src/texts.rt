@@ -1,23 +1,9 @@
 // Notes as text.
 ghost use Rattle.std.specs.Prelude.{◌≡◌, ◌+◌, ◌≤◌, ◌++◌, length, codes};
-ghost use Rattle.line_text.specs.Texts.{hex};
 ghost use Rattle.dec_i2c.specs.Texts.{command_name, note_text};
 
 use la_base::Note;
 use line_text::LineBuf;
-
-// A label, and a value in upper case hexadecimal with at least so many digits.
-#[tactic(auto, using(line_text::proofs::Widths::hex_room))]
-#[inline(never)]
-fn labelled(label: &[u8], value: u64, digits: u32, buf: &mut LineBuf)
-    requires digits { (1 ≤ digits) × (digits ≤ 16) }
-    requires room { length buf.old + length label.now + 16 ≤ 256 }
-    ensures text { buf.new ≡ buf.old ++ (label.now ++ hex digits value) }
-    ensures short { length buf.new ≤ length buf.old + length label.now + 16 }
-{
-    buf.push_bytes(label);
-    buf.push_hex(value, digits);
-}
 
 // The name of the command of a general call; of a hardware master it has the address.
 fn command(byte: u64, buf: &mut LineBuf)
@@ -30,9 +16,9 @@ fn command(byte: u64, buf: &mut LineBuf)
     } else if byte == 4 {
         buf.push_bytes(b"write address");
     } else if byte % 2 == 0 {
-        labelled(b"", byte, 2, buf);
+        buf.push_labelled(b"", byte, 2);
     } else {
-        labelled(b"hardware master ", byte / 2, 2, buf);
+        buf.push_labelled(b"hardware master ", byte / 2, 2);
     }
 }
 
@@ -61,17 +47,17 @@ pub fn text(note: Note, buf: &mut LineBuf)
         0 => buf.push_bytes(b"Start"),
         1 => buf.push_bytes(b"Start repeat"),
         2 => buf.push_bytes(b"Stop"),
-        3 => labelled(b"Address write: ", note.a, 2, buf),
-        4 => labelled(b"Address read: ", note.a, 2, buf),
-        5 => labelled(b"Data write: ", note.a, 2, buf),
-        6 => labelled(b"Data read: ", note.a, 2, buf),
+        3 => buf.push_labelled(b"Address write: ", note.a, 2),
+        4 => buf.push_labelled(b"Address read: ", note.a, 2),
+        5 => buf.push_labelled(b"Data write: ", note.a, 2),
+        6 => buf.push_labelled(b"Data read: ", note.a, 2),
         7 => buf.push_bytes(b"ACK"),
         8 => buf.push_bytes(b"NACK"),
         9 => buf.push_bytes(b"General call"),
-        10 => labelled(b"Prefix write: ", note.a, 2, buf),
-        11 => labelled(b"Address 10-bit write: ", note.a, 4, buf),
-        12 => labelled(b"Address 10-bit read: ", note.a, 4, buf),
-        13 => labelled(b"Prefix read: ", note.a, 2, buf),
+        10 => buf.push_labelled(b"Prefix write: ", note.a, 2),
+        11 => buf.push_labelled(b"Address 10-bit write: ", note.a, 4),
+        12 => buf.push_labelled(b"Address 10-bit read: ", note.a, 4),
+        13 => buf.push_labelled(b"Prefix read: ", note.a, 2),
         14 => general_command(note.a, buf),
         _ => {}
     }

@@ -97,10 +97,14 @@ abbrev pub bytes_of : ℕ → ℕ → List ℕ
 bytes_of zero number = []
 bytes_of (suc n) number = number / 256 ^ n % 256 ∷ bytes_of n number
 
+-- so many bytes of a number as pieces of a class, from one place to another
+abbrev pub byte_pieces : ℕ → ℕ → ℕ → ℕ → ℕ → List Out
+byte_pieces count class first last number = map (λ byte. span_piece class first last byte) (bytes_of count number)
+
 -- the pieces of a word on a line that is given: as many bytes as hold its bits
 abbrev pub pieces : ℕ → Option ℕ → ℕ → ℕ → ℕ → ℕ → List Out
 pieces bits None class first last number = []
-pieces bits (Some line) class first last number = map (λ byte. span_piece class first last byte) (bytes_of ((bits + 7) / 8) number)
+pieces bits (Some line) class first last number = byte_pieces ((bits + 7) / 8) class first last number
 
 -- the class of a word's note, by the data lines that are given
 abbrev pub word_class : Option ℕ → Option ℕ → ℕ

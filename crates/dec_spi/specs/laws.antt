@@ -1,5 +1,6 @@
 -- The machine's view, and lemmas that laws of machines cite.
 pub mod Machine
+pub mod Lines
 pub mod WordLaws
 pub mod PushLaws
 pub mod MetLaws

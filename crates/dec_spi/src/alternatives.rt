@@ -1,23 +1,15 @@
 // What is waited for.
-ghost use Rattle.std.specs.Prelude.{◌≡◌, ◌<◌, ◌^◌, ◌∷◌, []};
+ghost use Rattle.std.specs.Prelude.{◌≡◌, ◌<◌, ◌∷◌, []};
 ghost use Rattle.std.specs.Option.{ForSome};
 ghost use Rattle.la_base.specs.declared.samples.TheConstants.{MOST_PINS};
 ghost use Rattle.wait_cond.specs.Conds.{cond_alts};
-ghost use Rattle.dec_spi.specs.Bus.{is_active_high, reads_rises};
-ghost use Rattle.dec_spi.specs.laws.Machine.{mask_of, low_mask, high_mask, rise_mask, fall_mask, select_alt, clock_alt, change_alt, event_alts};
+ghost use Rattle.dec_spi.specs.Bus.{is_active_high};
+ghost use Rattle.dec_spi.specs.laws.Machine.{mask_of, low_mask, high_mask, rise_mask, fall_mask, select_alt, clock_alt_of, change_alt, event_alts};
 
 use crate::Bus;
 use crate::levels::{is_active_high, reads_rises};
-use la_base::{MOST_PINS, Word};
+use la_base::{MOST_PINS, Word, mask};
 use wait_cond::{Alt, Cond};
-
-// The mask of one line.
-fn mask(line: u32) -> Word
-    requires { line < MOST_PINS }
-    ensures { result ≡ 2 ^ line }
-{
-    1 << line
-}
 
 // The mask of the select line, if it is given.
 fn select_mask(bus: &Bus) -> Word
@@ -48,7 +40,7 @@ fn select_alt(bus: &Bus) -> Alt
 
 // It is selected as the one before it was, and the clock has an edge at which a bit is read.
 fn clock_alt(bus: &Bus) -> Alt
-    ensures { result ≡ clock_alt bus.now.opts.sck (reads_rises bus.now.opts) bus.now.opts.cs (is_active_high bus.now.opts) }
+    ensures { result ≡ clock_alt_of bus.now.opts }
 {
     let select = select_mask(bus);
     let clock = mask(bus.opts.sck);

@@ -1,9 +1,10 @@
 // What an SPI decoder is made of.
-ghost use Rattle.std.specs.Prelude.{◌<◌, ◌≤◌};
+ghost use Rattle.std.specs.Prelude.{◌≡◌, ◌<◌, ◌≤◌};
 ghost use Rattle.std.specs.Option.{ForSome};
 ghost use Rattle.la_base.specs.declared.samples.TheConstants.{MOST_PINS};
+ghost use Rattle.dec_spi.specs.laws.Lines.{lines_of};
 
-use crate::SpiOpts;
+use crate::{Lines, SpiOpts};
 
 /// A bus, by its options: each line is a bit of a sample, and a word has 1 to 32 bits.
 #[derive(Clone, Copy, Debug, PartialEq, Eq)]
@@ -24,19 +25,25 @@ pub enum Held {
     Fresh,
     /// The device isn't selected any more.
     Outside,
-    /// The device is selected: how many bits of the present word were read, the numbers that they make
-    /// up on both lines, and the place of the first of them. Where there are none, these are 0.
-    Inside {
-        count: u8,
-        mosi: u32,
-        miso: u32,
-        first: u64,
-    },
+    /// The device is selected.
+    Inside(Bits),
+}
+
+/// What was read of the present word: how many bits, the numbers that they make up on both lines, and
+/// the place of the first of them. Where there are none, these are 0.
+#[derive(Clone, Copy, Debug, PartialEq, Eq)]
+pub struct Bits {
+    pub count: u8,
+    pub mosi: u32,
+    pub miso: u32,
+    pub first: u64,
 }
 
 /// A decoder of SPI between two events.
 #[derive(Drop)]
 pub struct Spi {
     pub(crate) bus: Bus,
+    pub(crate) lines: Lines,
     pub(crate) held: Held,
+    ghost lines_are: { lines ≡ lines_of bus.opts },
 }

@@ -5,6 +5,7 @@
 mod alternatives;
 mod held;
 mod levels;
+mod lines;
 mod machine;
 mod opening;
 mod options;
@@ -14,6 +15,7 @@ mod texts;
 mod words;
 
 pub use held::Spi;
-use held::{Bus, Held};
+use held::{Bits, Bus, Held};
+use lines::Lines;
 pub use options::SpiOpts;
 pub use texts::text;

@@ -1,17 +1,19 @@
 // SPI as a decoder of samples: it sleeps between two events.
 ghost use Rattle.std.specs.Prelude.{◌≡◌, ◌∷◌, [], ℕ, List};
 ghost use Rattle.la_base.specs.declared.wires.Wire.TheVariants.{Spi as SpiWire};
+ghost use Rattle.sample_walks.specs.laws.EventDecoders.{quiet_of};
 ghost use Rattle.dec_spi.specs.Bus.{spi_outs, spi_near};
 ghost use Rattle.dec_spi.specs.Opening.{opts_of, alts_of, StandsFor};
-ghost use Rattle.dec_spi.specs.laws.SpiLaws.{spi_nothing, spi_prefix, spi_order, spi_few, spi_on_wire};
-ghost use Rattle.dec_spi.specs.laws.MachineLaws.{machine_quiet, one_spi, spi_one_stop};
+ghost use Rattle.dec_spi.specs.laws.SpiLaws.{spi_decoder, spi_nothing, spi_prefix, spi_order, spi_few, spi_on_wire};
+ghost use Rattle.dec_spi.specs.laws.MachineLaws.{one_spi, spi_one_stop};
 
 use crate::alternatives::{first_select, next_event};
+use crate::lines::takes_bit;
 use crate::stops::{is_fresh, stop};
 use crate::words::near;
 use crate::{Held, Spi, SpiOpts};
 use decoder_core::{LogicMachine, Outs};
-use la_base::Word;
+use la_base::{Word, low_half};
 use wait_cond::{Cond, Waiter};
 
 impl LogicMachine for Spi {
@@ -34,7 +36,7 @@ impl LogicMachine for Spi {
         match self.held {
             Held::Fresh => first_select(&self.bus),
             Held::Outside => next_event(&self.bus),
-            Held::Inside { .. } => next_event(&self.bus),
+            Held::Inside(_) => next_event(&self.bus),
         }
     }
 
@@ -45,6 +47,9 @@ impl LogicMachine for Spi {
     // Inlined into both steps of a driver.
     #[inline(always)]
     fn resume(&mut self, at: u64, value: Word, _met: u8, into: &mut Outs) -> bool {
+        if takes_bit(&self.lines, &mut self.held, at, low_half(value)) {
+            return false;
+        }
         let fresh = is_fresh(self.held);
         self.held = stop(&self.bus, self.held, at, value, into);
         fresh
@@ -54,7 +59,7 @@ impl LogicMachine for Spi {
         near(self.held, next)
     }
 
-    ghost quiet = { λ machine seen more stands rests. machine_quiet machine seen more stands rests };
+    ghost quiet = { λ machine seen more stands rests. quiet_of (spi_decoder machine.bus.opts machine.bus.bits_some machine.bus.bits_few) machine.held seen more stands rests };
 
     ghost nothing = { λ machine. spi_nothing machine.bus.opts machine.bus.bits_some machine.bus.bits_few };
 

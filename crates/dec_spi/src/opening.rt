@@ -4,6 +4,7 @@ ghost use Rattle.std.specs.Option.{ForSome};
 ghost use Rattle.la_base.specs.declared.samples.TheConstants.{MOST_PINS};
 ghost use Rattle.dec_spi.specs.Opening.{InRange, Opens};
 
+use crate::lines::lines_of;
 use crate::{Bus, Held, Spi, SpiOpts};
 use decoder_core::OptFault;
 use la_base::{MOST_PINS, Rate};
@@ -58,6 +59,7 @@ impl Spi {
         }
         Ok(Spi {
             bus: Bus { opts },
+            lines: lines_of(&opts),
             held: Held::Fresh,
         })
     }

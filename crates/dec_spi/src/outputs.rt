@@ -1,7 +1,6 @@
 // What events put out.
-ghost use Rattle.std.specs.Prelude.{◌≡◌, ◌≤◌, ◌+◌, ◌++◌, ◌∷◌, [], map, length};
-ghost use Rattle.decoder_core.specs.Outputs.{span_piece};
-ghost use Rattle.dec_spi.specs.Bus.{bytes_of, pieces, word_class, word_outs, select_outs, deselect_outs};
+ghost use Rattle.std.specs.Prelude.{◌≡◌, ◌≤◌, ◌+◌, ◌++◌, ◌∷◌, [], length};
+ghost use Rattle.dec_spi.specs.Bus.{byte_pieces, pieces, word_class, word_outs, select_outs, deselect_outs};
 
 use crate::Bus;
 use decoder_core::{Outs, note_at, packet_at, span_note, span_packet, span_piece};
@@ -30,7 +29,7 @@ fn give_bytes(count: u64, class: u16, first: u64, last: u64, number: u32, into: 
     requires some { 1 ≤ count }
     requires most { count ≤ 4 }
     requires room { length into.old ≤ 8 }
-    ensures gives { into.new ≡ into.old ++ map (λ byte. span_piece class first last byte) (bytes_of count number) }
+    ensures gives { into.new ≡ into.old ++ byte_pieces count class first last number }
     ensures few { length into.new ≤ length into.old + 4 }
 {
     if count > 3 {

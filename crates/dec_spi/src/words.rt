@@ -2,7 +2,7 @@
 ghost use Rattle.std.specs.Prelude.{◌≡◌};
 ghost use Rattle.dec_spi.specs.laws.Machine.{begun, with_bit, start_of, near_by};
 
-use crate::Held;
+use crate::{Bits, Held};
 
 /// A number of so many bits with one more bit behind them.
 pub fn with_bit(low_first: bool, count: u8, number: u32, level: bool) -> u32
@@ -27,12 +27,12 @@ pub fn start_of(count: u8, first: u64, at: u64) -> u64
 pub fn begun() -> Held
     ensures { result ≡ begun }
 {
-    Held::Inside {
+    Held::Inside(Bits {
         count: 0,
         mosi: 0,
         miso: 0,
         first: 0,
-    }
+    })
 }
 
 /// Where the word starts that has begun, else the number of samples.
@@ -42,6 +42,6 @@ pub fn near(held: Held, next: u64) -> u64
     match held {
         Held::Fresh => next,
         Held::Outside => next,
-        Held::Inside { count, first, .. } => { if count == 0 { next } else { first } }
+        Held::Inside(word) => { if word.count == 0 { next } else { word.first } }
     }
 }

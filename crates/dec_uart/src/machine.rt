@@ -1,5 +1,5 @@
 // A serial line as a decoder of samples: it sleeps from point to point.
-ghost use Rattle.std.specs.Prelude.{◌≡◌, ◌≢◌, ◌<◌, ◌^◌, ◌∷◌, [], ℕ, List, false};
+ghost use Rattle.std.specs.Prelude.{◌≡◌, ◌≢◌, ◌∷◌, [], ℕ, List, false};
 ghost use Rattle.la_base.specs.declared.wires.Wire.TheVariants.{Uart as UartWire};
 ghost use Rattle.dec_uart.specs.Frames.{uart_outs, uart_near};
 ghost use Rattle.dec_uart.specs.Opening.{StandsFor, alts_of};
@@ -12,16 +12,8 @@ use crate::points::{bit_point, last_bit};
 use crate::steps::step;
 use crate::{Held, Line, Uart};
 use decoder_core::{LogicMachine, Outs};
-use la_base::{MOST_PINS, Word, pin};
+use la_base::{Word, mask, pin};
 use wait_cond::{Alt, Cond, Waiter};
-
-// The mask of one line.
-fn mask(line: u32) -> Word
-    requires { line < MOST_PINS }
-    ensures { result ≡ 2 ^ line }
-{
-    1 << line
-}
 
 // A line that is high, one that falls, or so many samples behind the last stop.
 fn alt(high: Word, fall: Word, skip: u64) -> Alt

@@ -2,6 +2,7 @@
 use Rattle.std.specs.Prelude.{ℕ, Bool, true, false, List, [], ◌∷◌, map, Option, Some, None}
 use Rattle.la_base.specs.Samples.{is_high}
 use Rattle.la_base.specs.declared.wires.Out.{Out}
+use Rattle.la_base.specs.declared.wires.Wire.TheVariants.{Nothing}
 use Rattle.wait_cond.specs.declared.alt.Alt.{Alt}
 use Rattle.list_cuts.specs.Bits.{bit_of}
 use Rattle.list_cuts.specs.Neighbours.{at_neighbours}
@@ -53,6 +54,8 @@ edge_walk = record {
   gives = λ h e. edge_note e ∷ [];
   alts = λ h. edge_alts;
   near = λ h q. q;
+  event_of = λ h at value met. To at (is_high value 0);
+  wire = Nothing;
 }
 
 -- the samples end with an edge, or there are none

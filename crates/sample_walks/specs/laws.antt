@@ -2,5 +2,6 @@
 pub mod AltLaws
 pub mod WalkLaws
 pub mod HeldLaws
+pub mod EventDecoders
 pub mod EventWalks
 pub mod EdgeLaws

@@ -6,7 +6,8 @@ ghost use Rattle.la_base.specs.declared.wires.Wire.TheVariants.{Nothing};
 ghost use Rattle.la_base.specs.Samples.{is_high};
 ghost use Rattle.list_cuts.specs.Bits.{bit_of};
 ghost use Rattle.sample_walks.specs.Edges.{edge_notes, edge_alts, EndsAtEdge};
-ghost use Rattle.sample_walks.specs.laws.EdgeLaws.{edges_quiet, edges_nothing, edges_prefix, edges_order, edges_few, edges_on_wire, edges_one_stop};
+ghost use Rattle.sample_walks.specs.laws.EdgeLaws.{edges};
+ghost use Rattle.sample_walks.specs.laws.EventDecoders.{quiet_of, nothing_of, prefix_of, order_of, few_of, on_wire_of, one_stop_of};
 
 use decoder_core::{LogicMachine, Outs, note_at};
 use la_base::{Word, pin};
@@ -73,19 +74,19 @@ impl LogicMachine for Edges {
         next
     }
 
-    ghost quiet = { λ _ seen more ends rests. edges_quiet seen more ends rests };
+    ghost quiet = { λ _ seen more ends rests. quiet_of edges tt seen more (ends, refl) rests };
 
-    ghost nothing = { λ _. edges_nothing };
+    ghost nothing = { λ _. nothing_of edges };
 
-    ghost prefix = { λ _. edges_prefix };
+    ghost prefix = { λ _. prefix_of edges };
 
-    ghost order = { λ _. edges_order };
+    ghost order = { λ _. order_of edges };
 
-    ghost few = { λ _. edges_few };
+    ghost few = { λ _. few_of edges };
 
-    ghost on_wire = { λ _. edges_on_wire };
+    ghost on_wire = { λ _. on_wire_of edges };
 
     ghost one_machine = { λ _ _ _ _ _ _. refl };
 
-    ghost one_stop = { λ _ _ seen more _ ends also rests. edges_one_stop seen more ends rests also };
+    ghost one_stop = { λ _ _ seen more _ ends also rests. one_stop_of edges tt seen more (ends, refl) rests also };
 }

@@ -1,40 +1,48 @@
--- The laws of the outputs of an I2C bus.
+-- I2C as a decoder by events, and the laws of its outputs.
 use Rattle.std.proofs.Common.{◌≡◌, ℕ, List, length, Option, ◌∙◌, ap}
 use Rattle.list_cuts.specs.Parts.{parts}
 use Rattle.decoder_core.specs.Promises.{GivesNothing, KeepsFront, PacketsInOrder, AddsFew}
-use Rattle.sample_walks.specs.Walks.{Walk, walked, given}
+use Rattle.sample_walks.specs.Walks.{walked, given}
 use Rattle.sample_walks.specs.Events.{by_events}
+use Rattle.sample_walks.specs.laws.EventDecoders.{EventDecoder, nothing_of, prefix_of, few_of, order_of}
 use Rattle.sample_walks.specs.laws.EventWalks.{events_given, events_walked}
-use Rattle.sample_walks.specs.laws.WalkLaws.{outs_nothing, outs_prefix, outs_few, outs_order}
 use Rattle.dec_i2c.specs.declared.held.Segment.{Segment}
-use Rattle.dec_i2c.specs.Bus.{events, events_outs, is_mark, i2c_outs, i2c_near}
+use Rattle.dec_i2c.specs.Bus.{Event, events, events_outs, is_mark, i2c_outs, i2c_near}
 use Rattle.dec_i2c.specs.laws.Machine.{held_after, near_by, i2c_walk}
 use Rattle.dec_i2c.specs.laws.PushLaws.{near_is, i2c_pushed}
-use Rattle.dec_i2c.specs.laws.SoundLaws.{i2c_fits, i2c_sound}
+use Rattle.dec_i2c.specs.laws.SoundLaws.{i2c_fits, i2c_events}
 
 module _ (scl sda : ℕ) where
-  abbrev walk : Walk (Option Segment)
-  walk = by_events (i2c_walk scl sda)
-
   -- they are those of the walk, and the near place is where the walk says
-  pub i2c_given : (list : List ℕ) → i2c_outs scl sda list ≡ given walk list
+  pub i2c_given : (list : List ℕ) → i2c_outs scl sda list ≡ given (by_events (i2c_walk scl sda)) list
   unfolding i2c_outs
   i2c_given list = events_given (i2c_walk scl sda) events_outs held_after (i2c_pushed scl sda) list
 
-  pub near_walked : (list : List ℕ) → i2c_near scl sda list ≡ near_by (walked walk list) (length list)
+  pub near_walked : (list : List ℕ) → i2c_near scl sda list ≡ near_by (walked (by_events (i2c_walk scl sda)) list) (length list)
   unfolding i2c_near
   near_walked list =
       near_is (parts is_mark (events scl sda list)) (length list)
       ∙ ap (λ (h : Option Segment). near_by h (length list)) (events_walked (i2c_walk scl sda) events_outs held_after (i2c_pushed scl sda) list)
 
+  abbrev pub i2c_decoder : EventDecoder (Option Segment) Event
+  i2c_decoder = record {
+    walk = i2c_walk scl sda;
+    fits = i2c_fits;
+    sound = i2c_events scl sda;
+    outs = i2c_outs scl sda;
+    given_is = i2c_given;
+    near = i2c_near scl sda;
+    near_is = near_walked;
+  }
+
   pub i2c_nothing : GivesNothing (i2c_outs scl sda)
-  i2c_nothing = outs_nothing walk i2c_fits (λ h q. Unit {0}) (i2c_sound scl sda) (i2c_outs scl sda) i2c_given
+  i2c_nothing = nothing_of i2c_decoder
 
   pub i2c_prefix : KeepsFront (i2c_outs scl sda)
-  i2c_prefix = outs_prefix walk i2c_fits (λ h q. Unit {0}) (i2c_sound scl sda) (i2c_outs scl sda) i2c_given
+  i2c_prefix = prefix_of i2c_decoder
 
   pub i2c_few : AddsFew (i2c_outs scl sda)
-  i2c_few = outs_few walk i2c_fits (λ h q. Unit {0}) (i2c_sound scl sda) (i2c_outs scl sda) i2c_given
+  i2c_few = few_of i2c_decoder
 
   pub i2c_order : PacketsInOrder (i2c_outs scl sda)
-  i2c_order = outs_order walk i2c_fits (λ h q. Unit {0}) (i2c_sound scl sda) (i2c_outs scl sda) i2c_given
+  i2c_order = order_of i2c_decoder

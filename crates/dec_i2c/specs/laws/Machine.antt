@@ -1,6 +1,8 @@
 -- What an I2C decoder waits for, what it keeps of a bus between two events, and what one event gives and changes.
-use Rattle.std.specs.Prelude.{ℕ, ◌+◌, ◌*◌, ◌%◌, ◌^◌, nat_lt, Bool, ◌==◌, ◌&&◌, if◌then◌else◌, List, [], ◌∷◌, length, Option, Some, None, is_some}
+use Rattle.std.specs.Prelude.{ℕ, ◌+◌, ◌*◌, ◌%◌, ◌^◌, nat_lt, Bool, true, false, ◌==◌, ◌&&◌, if◌then◌else◌, List, [], ◌∷◌, length, Option, Some, None, is_some}
+use Rattle.la_base.specs.Samples.{is_high}
 use Rattle.la_base.specs.declared.wires.Out.{Out}
+use Rattle.la_base.specs.declared.wires.Wire.TheVariants.{I2c as I2cWire}
 use Rattle.wait_cond.specs.declared.alt.Alt.{Alt}
 use Rattle.list_cuts.specs.Bits.{bit_of}
 use Rattle.list_cuts.specs.Groups.{after_groups}
@@ -151,6 +153,23 @@ next held (Stop k) = None
 next None (Clock k level) = None
 next (Some segment) (Clock k level) = Some (clock_next segment k level)
 
+-- an event that gives nothing and ends nothing, by the set of alternatives that it meets: a clock before the eighth of a byte, or
+-- one outside of a segment
+abbrev pub is_clock_before : Option Segment → Bool
+is_clock_before None = true
+is_clock_before (Some segment) = nat_lt segment.bits 7
+
+abbrev pub is_bit : Option Segment → ℕ → Bool
+is_bit held met = if met == 1 then false else is_clock_before held
+
+-- what is kept where such an event is taken, and no other
+abbrev pub bit_taken : Option Segment → ℕ → Bool → Option Segment
+bit_taken None k level = None
+bit_taken (Some segment) k level = Some (if nat_lt segment.bits 7 then bit_next segment (grown segment.byte level) k else segment)
+
+abbrev pub taken : Option Segment → ℕ → ℕ → Bool → Option Segment
+taken held met k level = if met == 1 then held else bit_taken held k level
+
 abbrev pub i2c_walk : ℕ → ℕ → EventWalk (Option Segment) Event
 i2c_walk scl sda = record {
   event_at = event_at scl sda;
@@ -159,4 +178,6 @@ i2c_walk scl sda = record {
   gives = gives;
   alts = λ held. i2c_alts scl sda;
   near = near_by;
+  event_of = λ held at value met. event_met met at (is_high value sda);
+  wire = I2cWire;
 }

@@ -7,15 +7,15 @@ use Rattle.la_base.specs.Samples.{is_high}
 use Rattle.la_base.specs.declared.wires.Out.{Out}
 use Rattle.list_cuts.proofs.TestLaws.{when_yes, when_no, test_yes, test_no, less_yes, less_no}
 use Rattle.decoder_core.specs.Promises.{NotesFrom, packet_starts}
-use Rattle.sample_walks.specs.Walks.{Between, Sound}
-use Rattle.sample_walks.specs.Events.{SoundEvents, by_events}
-use Rattle.sample_walks.specs.laws.EventWalks.{events_sound}
+use Rattle.sample_walks.specs.Walks.{Between}
+use Rattle.sample_walks.specs.Events.{SoundEvents}
 use Rattle.dec_i2c.specs.declared.held.Role.{Role}
 use Rattle.dec_i2c.specs.declared.held.Role.TheVariants.{First, Lower, Command, Write, Read}
 use Rattle.dec_i2c.specs.declared.held.Segment.{Segment}
 use Rattle.dec_i2c.specs.Bytes.{first_outs, byte_outs, read_by}
 use Rattle.dec_i2c.specs.Bus.{Event, Start, Stop, Clock, place_of, event_by, event_at, start_outs, ack_outs}
-use Rattle.dec_i2c.specs.laws.Machine.{event_met, near_by, grown, start_of, byte_next, bit_next, group_next, clock_gives, clock_next, gives, next, i2c_walk}
+use Rattle.dec_i2c.specs.laws.Machine.{near_by, grown, start_of, byte_next, bit_next, group_next, clock_gives, clock_next, gives, next, i2c_walk}
+use Rattle.dec_i2c.specs.laws.GivenLaws.{gives_on}
 use Rattle.dec_i2c.specs.laws.MetLaws.{none_is_no_event, met_is_event}
 
 -- the byte that has begun starts at one of so many samples
@@ -294,7 +294,7 @@ packets_of None (Clock k level) fit = omega arith
 packets_of (Some s) (Clock k level) fit = clock_packets s k level fit
 
 module _ (scl sda : ℕ) where
-  i2c_events : SoundEvents (i2c_walk scl sda) i2c_fits
+  pub i2c_events : SoundEvents (i2c_walk scl sda) i2c_fits
   i2c_events = record {
     one = one scl sda;
     begin_fits = tt;
@@ -302,7 +302,7 @@ module _ (scl sda : ℕ) where
     next_fits = λ h q before now e fit is.
         let at = place_is scl sda q before now e is in subst (λ (n : ℕ). fits_at (next h e) (n + 1)) (sym at) (fits_next h e (subst (λ (n : ℕ). fits_at h n) at fit));
     none = λ h q before now from fit set. none_is_no_event scl sda from q before now set;
-    some = λ h q before now from met fit set some. (event_met met q (is_high now sda), met_is_event scl sda from q before now met set some);
+    some = λ h q before now from met fit set some. met_is_event scl sda from q before now met set some;
     few = few;
     near_on = λ h q before fit. near_more h q;
     notes = λ h q before now e fit is.
@@ -310,7 +310,5 @@ module _ (scl sda : ℕ) where
     packets = λ h q before now e fit is.
         let at = place_is scl sda q before now e is in
         subst (λ (n : ℕ). Between (near_by h n) (near_by (next h e) (n + 1)) (packet_starts (gives h e))) (sym at) (packets_of h e (subst (λ (n : ℕ). fits_at h n) at fit));
+    on_wire = gives_on;
   }
-
-  pub i2c_sound : Sound (by_events (i2c_walk scl sda)) i2c_fits (λ h q. Unit {0})
-  i2c_sound = events_sound (i2c_walk scl sda) i2c_fits i2c_events

@@ -1,6 +1,8 @@
 -- What a decoder of the link waits for, what it keeps of a line between two edges, and how one edge changes that.
 use Rattle.std.specs.Prelude.{ℕ, ◌-◌, ◌^◌, nat_le, nat_lt, Bool, true, false, if◌then◌else◌, List, [], ◌∷◌, Option, Some, None}
+use Rattle.la_base.specs.Samples.{is_high}
 use Rattle.la_base.specs.declared.wires.Out.{Out}
+use Rattle.la_base.specs.declared.wires.Wire.TheVariants.{OwLink as LinkWire}
 use Rattle.la_base.specs.declared.samples.Rate.{Rate}
 use Rattle.wait_cond.specs.declared.alt.Alt.{Alt}
 use Rattle.list_cuts.specs.Neighbours.{last_of}
@@ -77,6 +79,8 @@ link_walk line lengths = record {
   gives = gives lengths;
   alts = λ h. edge_alt line ∷ [];
   near = near_by;
+  event_of = λ h at value met. To at (is_high value line);
+  wire = LinkWire;
 }
 
 -- the last sample is one with an edge, or there is none

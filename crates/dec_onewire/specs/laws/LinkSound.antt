@@ -8,10 +8,9 @@ use Rattle.la_base.specs.Samples.{is_high}
 use Rattle.la_base.specs.declared.wires.Wire.TheVariants.{OwLink as LinkWire}
 use Rattle.wait_cond.specs.Meets.{Rises, Falls, MeetsAt}
 use Rattle.decoder_core.specs.Promises.{NotesFrom, PacketsOn, packet_starts}
-use Rattle.sample_walks.specs.Walks.{Between, Sound}
-use Rattle.sample_walks.specs.Events.{is_some_event, by_events, SoundEvents}
+use Rattle.sample_walks.specs.Walks.{Between}
+use Rattle.sample_walks.specs.Events.{is_some_event, SoundEvents}
 use Rattle.sample_walks.specs.laws.AltLaws.{no_line, at_line, high_is, high_bit, low_is, low_bit, alone_none, alone_some}
-use Rattle.sample_walks.specs.laws.EventWalks.{events_sound}
 use Rattle.dec_onewire.specs.declared.link.held.Held.{Held}
 use Rattle.dec_onewire.specs.declared.link.options.Lengths.{Lengths}
 use Rattle.dec_onewire.specs.Link.{Edge, To, Signal, Reset, Presence, Bit, edge_by, edge_at, signal_outs, open_at}
@@ -27,7 +26,7 @@ module _ (line q : ℕ) (before : Option ℕ) (now : ℕ) where
   is_edge = is_some_event (edge_at line q before now)
 
   -- where there is an edge, it stands at its sample with the level there
-  pub some_edge : is_edge ≡ true → edge_at line q before now ≡ To q (is_high now line) ∷ []
+  some_edge : is_edge ≡ true → edge_at line q before now ≡ To q (is_high now line) ∷ []
   some_edge edge = from before edge
     where
       by : (was is : Bool) → is_some_event (edge_by q was is) ≡ true → edge_by q was is ≡ To q is ∷ []
@@ -160,7 +159,7 @@ module _ (lengths : Lengths) where
   rise_on None reset_end q = tt
   rise_on (Some f) reset_end q = on_of f q (signal_by lengths reset_end f q)
 
-  pub gives_on : (h : Held) (e : Edge) → PacketsOn LinkWire (gives lengths h e)
+  gives_on : (h : Held) (e : Edge) → PacketsOn LinkWire (gives lengths h e)
   gives_on h (To k true) = rise_on h.fall h.reset_end k
   gives_on h (To k false) = tt
 
@@ -192,15 +191,11 @@ module _ (lengths : Lengths) where
       next_fits = λ h q before now e fit is. head_is (λ (x : Edge). Below (next lengths h x).fall (q + 1)) q before now e is (fits_at h q (is_high now line));
       none = λ h q before now from fit set. no_edge (edge_at line q before now)
           (alone_none (edge_alt line) before now from q 0 (is_edge line q before now) (edge_meets line q before now from) (meets_edge line q before now from) set);
-      some = λ h q before now from met fit set some. (
-        To q (is_high now line),
-        some_edge line q before now (alone_some (edge_alt line) before now from q met (is_edge line q before now) (edge_meets line q before now from) (meets_edge line q before now from) set some),
-      );
+      some = λ h q before now from met fit set some.
+          some_edge line q before now (alone_some (edge_alt line) before now from q met (is_edge line q before now) (edge_meets line q before now from) (meets_edge line q before now from) set some);
       few = gives_few;
       near_on = λ h q before fit. open_on h.fall q fit;
       notes = λ h q before now e fit is. head_is (λ (x : Edge). NotesFrom (near_by h q) (gives lengths h x)) q before now e is (notes_at h q (is_high now line) fit);
       packets = λ h q before now e fit is. head_is (λ (x : Edge). Between (near_by h q) (near_by (next lengths h x) (q + 1)) (packet_starts (gives lengths h x))) q before now e is (packets_at h q (is_high now line) fit);
+      on_wire = gives_on;
     }
-
-    pub link_sound : Sound (by_events (link_walk line lengths)) link_fits (λ h q. Unit {0})
-    link_sound = events_sound (link_walk line lengths) link_fits link_events

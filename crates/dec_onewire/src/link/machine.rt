@@ -2,16 +2,17 @@
 ghost use Rattle.std.specs.Prelude.{◌≡◌, ◌<◌, ◌^◌, ◌∷◌, [], ℕ, List};
 ghost use Rattle.la_base.specs.declared.samples.TheConstants.{MOST_PINS};
 ghost use Rattle.la_base.specs.declared.wires.Wire.TheVariants.{OwLink as LinkWire};
+ghost use Rattle.sample_walks.specs.laws.EventDecoders.{quiet_of};
 ghost use Rattle.dec_onewire.specs.Link.{link_outs, link_near};
 ghost use Rattle.dec_onewire.specs.Opening.{StandsFor, alts_of};
 ghost use Rattle.dec_onewire.specs.laws.LinkMachine.{edge_alt};
-ghost use Rattle.dec_onewire.specs.laws.LinkLaws.{link_nothing, link_prefix, link_order, link_few, link_on_wire};
-ghost use Rattle.dec_onewire.specs.laws.LinkMachineLaws.{machine_quiet, one_link, link_one_stop};
+ghost use Rattle.dec_onewire.specs.laws.LinkLaws.{link_decoder, link_nothing, link_prefix, link_order, link_few, link_on_wire};
+ghost use Rattle.dec_onewire.specs.laws.LinkMachineLaws.{one_link, link_one_stop};
 
 use super::pulses::{give, near, next};
 use super::{Line, OwLink};
 use decoder_core::{LogicMachine, Outs};
-use la_base::{MOST_PINS, Word, pin};
+use la_base::{MOST_PINS, Word, mask, pin};
 use wait_cond::{Alt, Cond, Waiter};
 
 // An edge of a line.
@@ -24,7 +25,7 @@ fn edge_alt(line: u32) -> Alt
         high: 0,
         rise: 0,
         fall: 0,
-        edge: 1 << line,
+        edge: mask(line),
         steady: 0,
         skip: 0,
     }
@@ -65,7 +66,7 @@ impl LogicMachine for OwLink {
         near(self.held, next)
     }
 
-    ghost quiet = { λ machine seen more stands rests. machine_quiet machine seen more stands rests };
+    ghost quiet = { λ machine seen more stands rests. quiet_of (link_decoder machine.line.opts machine.line.rate) machine.held seen more (stands.0, stands.1) rests };
 
     ghost nothing = { λ machine. link_nothing machine.line.opts machine.line.rate };
 

@@ -1,23 +1,9 @@
 // Notes of the network as text.
 ghost use Rattle.std.specs.Prelude.{◌≡◌, ◌+◌, ◌≤◌, ◌++◌, length, codes, if◌then◌else◌, ◌==◌};
-ghost use Rattle.line_text.specs.Texts.{hex};
 ghost use Rattle.dec_onewire.specs.Texts.{command_name, rom_name, net_text};
 
 use la_base::Note;
 use line_text::LineBuf;
-
-// A label, and a value in upper case hexadecimal with at least so many digits.
-#[tactic(auto, using(line_text::proofs::Widths::hex_room))]
-#[inline(never)]
-fn labelled(label: &[u8], value: u64, digits: u32, buf: &mut LineBuf)
-    requires digits { (1 ≤ digits) × (digits ≤ 16) }
-    requires room { length buf.old + length label.now + 16 ≤ 256 }
-    ensures text { buf.new ≡ buf.old ++ (label.now ++ hex digits value) }
-    ensures short { length buf.new ≤ length buf.old + length label.now + 16 }
-{
-    buf.push_bytes(label);
-    buf.push_hex(value, digits);
-}
 
 // The name of a ROM command.
 fn command(byte: u64, buf: &mut LineBuf)
@@ -34,7 +20,7 @@ fn command(byte: u64, buf: &mut LineBuf)
         0x3C => buf.push_bytes(b"Overdrive skip ROM"),
         0x69 => buf.push_bytes(b"Overdrive match ROM"),
         0xA5 => buf.push_bytes(b"Resume"),
-        _ => labelled(b"Unknown ", byte, 2, buf),
+        _ => buf.push_labelled(b"Unknown ", byte, 2),
     }
 }
 
@@ -55,7 +41,7 @@ fn rom(number: u64, wrong: u64, buf: &mut LineBuf)
     ensures text { buf.new ≡ buf.old ++ (codes "ROM: " ++ (rom_name number ++ (if wrong == 0 then codes " CRC ok" else codes " CRC bad"))) }
     ensures short { length buf.new ≤ length buf.old + 64 }
 {
-    labelled(b"ROM: ", number.swap_bytes(), 16, buf);
+    buf.push_labelled(b"ROM: ", number.swap_bytes(), 16);
     if wrong == 0 {
         buf.push_bytes(b" CRC ok");
     } else {
@@ -75,7 +61,7 @@ pub fn text(note: Note, buf: &mut LineBuf)
         0 => buf.push_bytes(b"Reset"),
         1 => rom_command(note.a, buf),
         2 => rom(note.a, note.b, buf),
-        3 => labelled(b"Byte: ", note.a, 2, buf),
+        3 => buf.push_labelled(b"Byte: ", note.a, 2),
         _ => {}
     }
 }

@@ -16,7 +16,7 @@ use Rattle.dec_spi.specs.declared.held.Held.{Held}
 use Rattle.dec_spi.specs.declared.held.Held.TheVariants.{Fresh, Outside, Inside}
 use Rattle.dec_spi.specs.declared.options.SpiOpts.{SpiOpts}
 use Rattle.dec_spi.specs.Bus.{Event, Select, Deselect, Clock, is_low_first, bytes_of, pieces, word_outs}
-use Rattle.dec_spi.specs.laws.Machine.{with_bit, begun, start_of, clock_gives, clock_next, gives, near_by}
+use Rattle.dec_spi.specs.laws.Machine.{with_bit, inside, begun, start_of, clock_gives, clock_next, gives, near_by}
 
 -- the pieces of a word: at most four, and no notes and packets
 bytes_len : (n number : ℕ) → length (bytes_of n number) ≡ n
@@ -137,7 +137,7 @@ module _ (opts : SpiOpts) where
 
           by : (b : Bool)
               → Between start
-              (near_by (if b then Inside (count + 1) (with_bit (is_low_first opts) count mosi out) (with_bit (is_low_first opts) count miso back) start else begun) (k + 1))
+              (near_by (if b then inside (count + 1) (with_bit (is_low_first opts) count mosi out) (with_bit (is_low_first opts) count miso back) start else begun) (k + 1))
               (packet_starts (if b then [] else whole))
           by true = subst (λ (n : ℕ). start ≤ n) (sym (when_no (count + 1 == 0) (k + 1) start (more_no count))) (le_refl start)
           by false =
@@ -150,16 +150,16 @@ module _ (opts : SpiOpts) where
   gives_few few held (Select k) = omega arith
   gives_few few Fresh (Deselect k) = omega arith
   gives_few few Outside (Deselect k) = omega arith
-  gives_few few (Inside count mosi miso first) (Deselect k) = omega arith
+  gives_few few (Inside word) (Deselect k) = omega arith
   gives_few few Fresh (Clock k out back) = omega arith
   gives_few few Outside (Clock k out back) = omega arith
-  gives_few few (Inside count mosi miso first) (Clock k out back) = clock_few count mosi miso first k out back few
+  gives_few few (Inside word) (Clock k out back) = clock_few word.count word.mosi word.miso word.first k out back few
 
   pub gives_on : (held : Held) (e : Event) → PacketsOn SpiWire (gives opts held e)
   gives_on held (Select k) = (refl, tt)
   gives_on Fresh (Deselect k) = tt
   gives_on Outside (Deselect k) = tt
-  gives_on (Inside count mosi miso first) (Deselect k) = (refl, tt)
+  gives_on (Inside word) (Deselect k) = (refl, tt)
   gives_on Fresh (Clock k out back) = tt
   gives_on Outside (Clock k out back) = tt
-  gives_on (Inside count mosi miso first) (Clock k out back) = clock_on count mosi miso first k out back
+  gives_on (Inside word) (Clock k out back) = clock_on word.count word.mosi word.miso word.first k out back

@@ -1,6 +1,7 @@
 -- What an SPI decoder waits for, what it keeps of a bus between two events, and how one event changes that.
 use Rattle.std.specs.Prelude.{ℕ, ◌+◌, ◌*◌, ◌%◌, ◌^◌, min, nat_lt, Bool, true, false, ◌==◌, if◌then◌else◌, List, [], ◌∷◌, length, map, Option, Some, None}
 use Rattle.la_base.specs.declared.wires.Out.{Out}
+use Rattle.la_base.specs.declared.wires.Wire.TheVariants.{Spi as SpiWire}
 use Rattle.wait_cond.specs.declared.alt.Alt.{Alt}
 use Rattle.list_cuts.specs.Bits.{bit_of}
 use Rattle.list_cuts.specs.Groups.{after_groups}
@@ -51,6 +52,9 @@ clock_alt sck rises cs high = record {
   skip = 0;
 }
 
+abbrev pub clock_alt_of : SpiOpts → Alt
+clock_alt_of opts = clock_alt opts.sck (reads_rises opts) opts.cs (is_active_high opts)
+
 -- the select line changes
 abbrev pub change_alt : ℕ → Alt
 change_alt line = record { low = 0; high = 0; rise = 0; fall = 0; edge = 2 ^ line; steady = 0; skip = 0 }
@@ -66,21 +70,25 @@ event_alts opts = clock_alt opts.sck (reads_rises opts) opts.cs (is_active_high 
 abbrev pub spi_alts : SpiOpts → Held → List Alt
 spi_alts opts Fresh = select_alt opts.cs (is_active_high opts) ∷ []
 spi_alts opts Outside = event_alts opts
-spi_alts opts (Inside count mosi miso first) = event_alts opts
+spi_alts opts (Inside word) = event_alts opts
 
 -- no sample was selected yet
 abbrev pub is_fresh : Held → Bool
 is_fresh Fresh = true
 is_fresh Outside = false
-is_fresh (Inside count mosi miso first) = false
+is_fresh (Inside word) = false
+
+-- a stretch with so many bits of a word, the numbers that they make up, and the place of the first of them
+abbrev pub inside : ℕ → ℕ → ℕ → ℕ → Held
+inside count mosi miso first = Inside (record { count = count; mosi = mosi; miso = miso; first = first })
 
 -- a stretch that has just begun
 abbrev pub begun : Held
-begun = Inside 0 0 0 0
+begun = inside 0 0 0 0
 
 -- what is kept of the clocks behind the whole words of a stretch
 abbrev pub held_by : SpiOpts → List Event → Held
-held_by opts rest = Inside (length rest) (value_of (is_low_first opts) (map mosi_of rest)) (value_of (is_low_first opts) (map miso_of rest)) (first_place place_of rest)
+held_by opts rest = inside (length rest) (value_of (is_low_first opts) (map mosi_of rest)) (value_of (is_low_first opts) (map miso_of rest)) (first_place place_of rest)
 
 abbrev pub held_in : SpiOpts → Option Event → List Event → Held
 held_in opts (Some event) items = Outside
@@ -114,7 +122,7 @@ clock_gives opts count mosi miso first k out back =
 
 abbrev pub clock_next : SpiOpts → ℕ → ℕ → ℕ → ℕ → ℕ → Bool → Bool → Held
 clock_next opts count mosi miso first k out back =
-    if nat_lt (count + 1) opts.bits then Inside (count + 1) (with_bit (is_low_first opts) count mosi out) (with_bit (is_low_first opts) count miso back) (start_of count first k)
+    if nat_lt (count + 1) opts.bits then inside (count + 1) (with_bit (is_low_first opts) count mosi out) (with_bit (is_low_first opts) count miso back) (start_of count first k)
     else begun
 
 -- what an event gives, and what is then kept
@@ -122,25 +130,38 @@ abbrev pub gives : SpiOpts → Held → Event → List Out
 gives opts held (Select k) = select_outs k
 gives opts Fresh (Deselect k) = []
 gives opts Outside (Deselect k) = []
-gives opts (Inside count mosi miso first) (Deselect k) = deselect_outs k
+gives opts (Inside word) (Deselect k) = deselect_outs k
 gives opts Fresh (Clock k out back) = []
 gives opts Outside (Clock k out back) = []
-gives opts (Inside count mosi miso first) (Clock k out back) = clock_gives opts count mosi miso first k out back
+gives opts (Inside word) (Clock k out back) = clock_gives opts word.count word.mosi word.miso word.first k out back
 
 abbrev pub next : SpiOpts → Held → Event → Held
 next opts held (Select k) = begun
 next opts Fresh (Deselect k) = Fresh
 next opts Outside (Deselect k) = Outside
-next opts (Inside count mosi miso first) (Deselect k) = Outside
+next opts (Inside word) (Deselect k) = Outside
 next opts Fresh (Clock k out back) = Fresh
 next opts Outside (Clock k out back) = Outside
-next opts (Inside count mosi miso first) (Clock k out back) = clock_next opts count mosi miso first k out back
+next opts (Inside word) (Clock k out back) = clock_next opts word.count word.mosi word.miso word.first k out back
 
 -- where the word starts that has begun, else the number of samples
 abbrev pub near_by : Held → ℕ → ℕ
 near_by Fresh count = count
 near_by Outside count = count
-near_by (Inside bits mosi miso first) count = if bits == 0 then count else first
+near_by (Inside word) count = if word.count == 0 then count else word.first
+
+-- the event at a stop, by what is kept, whether the sample is selected, and the levels of MOSI and MISO
+abbrev pub event_by_held : Held → ℕ → Bool → Bool → Bool → Event
+event_by_held Fresh at selected out back = Select at
+event_by_held Outside at selected out back = Select at
+event_by_held (Inside word) at selected out back = if selected then Clock at out back else Deselect at
+
+-- a clock, by its sample
+abbrev pub clock_of : SpiOpts → ℕ → ℕ → Event
+clock_of opts at value = Clock at (level_of opts.mosi value) (level_of opts.miso value)
+
+abbrev pub event_of : SpiOpts → Held → ℕ → ℕ → Event
+event_of opts held at value = event_by_held held at (is_selected opts value) (level_of opts.mosi value) (level_of opts.miso value)
 
 abbrev pub spi_walk : SpiOpts → EventWalk Held Event
 spi_walk opts = record {
@@ -150,16 +171,9 @@ spi_walk opts = record {
   gives = gives opts;
   alts = spi_alts opts;
   near = near_by;
+  event_of = λ held at value met. event_of opts held at value;
+  wire = SpiWire;
 }
-
--- the event at a stop, by what is kept, whether the sample is selected, and the levels of MOSI and MISO
-abbrev pub event_by_held : Held → ℕ → Bool → Bool → Bool → Event
-event_by_held Fresh at selected out back = Select at
-event_by_held Outside at selected out back = Select at
-event_by_held (Inside count mosi miso first) at selected out back = if selected then Clock at out back else Deselect at
-
-abbrev pub event_of : SpiOpts → Held → ℕ → ℕ → Event
-event_of opts held at value = event_by_held held at (is_selected opts value) (level_of opts.mosi value) (level_of opts.miso value)
 
 -- the last sample is one with an event, or there is none
 abbrev pub EndsAtEvent : SpiOpts → List ℕ → Type 0

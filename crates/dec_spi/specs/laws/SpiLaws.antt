@@ -1,44 +1,23 @@
--- What SPI promises of its outputs.
-use Rattle.std.proofs.Common.{◌≡◌, ℕ, suc, ◌+◌, ◌≤◌, List, [], ◌∷◌, length, Option, Some, None, refl, sym, ◌∙◌, ap, subst, ◌==◌}
-use Rattle.la_base.specs.declared.wires.Out.{Out}
-use Rattle.la_base.specs.declared.wires.Wire.{Wire}
+-- SPI as a decoder by events, and what it promises of its outputs.
+use Rattle.std.proofs.Common.{◌≡◌, ℕ, suc, ◌≤◌, List, [], ◌∷◌, length, Option, Some, None, refl, sym, ◌∙◌, ap, ◌==◌}
 use Rattle.la_base.specs.declared.wires.Wire.TheVariants.{Spi as SpiWire}
 use Rattle.list_cuts.specs.Groups.{after_groups}
 use Rattle.list_cuts.specs.Neighbours.{last_of}
 use Rattle.list_cuts.specs.Parts.{Part}
 use Rattle.list_cuts.proofs.TestLaws.{when_no, suc_no}
-use Rattle.decoder_core.specs.Promises.{GivesNothing, KeepsFront, PacketsInOrder, AddsFew, GivesOn, PacketsOn}
-use Rattle.decoder_core.specs.laws.OutLaws.{PacketsOn-append}
-use Rattle.sample_walks.specs.Walks.{Walk, given_from, given}
-use Rattle.sample_walks.specs.Events.{by_events, gives_all}
+use Rattle.decoder_core.specs.Promises.{GivesNothing, KeepsFront, PacketsInOrder, AddsFew, GivesOn}
+use Rattle.sample_walks.specs.Walks.{given}
+use Rattle.sample_walks.specs.Events.{by_events}
+use Rattle.sample_walks.specs.laws.EventDecoders.{EventDecoder, nothing_of, prefix_of, few_of, order_of, on_wire_of}
 use Rattle.sample_walks.specs.laws.EventWalks.{events_given, events_walked}
-use Rattle.sample_walks.specs.laws.WalkLaws.{outs_nothing, outs_prefix, outs_few, outs_order}
 use Rattle.dec_spi.specs.declared.held.Held.{Held}
 use Rattle.dec_spi.specs.declared.options.SpiOpts.{SpiOpts}
-use Rattle.dec_spi.specs.Bus.{Event, Select, Deselect, Clock, place_of, event_at, events, stretches, events_outs, spi_outs, begun_in, begun_word, begun_at, spi_near}
-use Rattle.dec_spi.specs.laws.Machine.{held_by, held_in, held_last, held_after, gives, next, near_by, spi_walk, held_at}
+use Rattle.dec_spi.specs.Bus.{Event, Select, Deselect, Clock, place_of, events, stretches, events_outs, spi_outs, begun_in, begun_word, begun_at, spi_near}
+use Rattle.dec_spi.specs.laws.Machine.{held_by, held_in, held_last, held_after, near_by, spi_walk, held_at}
 use Rattle.dec_spi.specs.laws.PushLaws.{spi_pushed}
-use Rattle.dec_spi.specs.laws.GivenLaws.{gives_on}
-use Rattle.dec_spi.specs.laws.SpiSound.{spi_fits, spi_sound}
-
--- what a walk gives is on a wire where each thing that it gives is
-module _ {H : Type 0} (w : Walk H) (wire : Wire) (each : (h : H) (k : ℕ) (before : Option ℕ) (now : ℕ) → PacketsOn wire (w.gives h k before now)) where
-  from_on : (list : List ℕ) (h : H) (k : ℕ) (before : Option ℕ) → PacketsOn wire (given_from w h k before list)
-  from_on [] h k before = tt
-  from_on (now ∷ later) h k before = PacketsOn-append wire (w.gives h k before now) (given_from w (w.next h k before now) (k + 1) (Some now) later) (each h k before now) (from_on later (w.next h k before now) (k + 1) (Some now))
-
-  walk_on : (list : List ℕ) → PacketsOn wire (given w list)
-  unfolding given
-  walk_on list = from_on list w.begin 0 None
+use Rattle.dec_spi.specs.laws.SpiSound.{spi_fits, spi_events}
 
 module _ (opts : SpiOpts) where
-  abbrev pub timed : Held → ℕ → Type 0
-  timed h q = Unit {0}
-
-  all_on : (h : Held) (es : List Event) → PacketsOn SpiWire (gives_all (spi_walk opts) h es)
-  all_on h [] = tt
-  all_on h (e ∷ es) = PacketsOn-append SpiWire (gives opts h e) (gives_all (spi_walk opts) (next opts h e) es) (gives_on opts h e) (all_on (next opts h e) es)
-
   near_rest : (rest : List Event) (n : ℕ) → begun_at rest n ≡ near_by (held_by opts rest) n
   near_rest [] n = refl
   near_rest (c ∷ rest) n = sym (when_no (suc (length rest) == 0) n (place_of c) (suc_no (length rest)))
@@ -65,19 +44,28 @@ module _ (opts : SpiOpts) where
         near_last (last_of (stretches (events opts list))) (length list)
         ∙ ap (λ (h : Held). near_by h (length list)) (events_walked (spi_walk opts) (events_outs opts) (held_after opts) (spi_pushed opts some few) list)
 
+    abbrev pub spi_decoder : EventDecoder Held Event
+    spi_decoder = record {
+      walk = spi_walk opts;
+      fits = spi_fits opts;
+      sound = spi_events opts few;
+      outs = spi_outs opts;
+      given_is = spi_same;
+      near = spi_near opts;
+      near_is = spi_same_near;
+    }
+
     pub spi_nothing : GivesNothing (spi_outs opts)
-    spi_nothing = outs_nothing (by_events (spi_walk opts)) (spi_fits opts) timed (spi_sound opts few) (spi_outs opts) spi_same
+    spi_nothing = nothing_of spi_decoder
 
     pub spi_prefix : KeepsFront (spi_outs opts)
-    spi_prefix = outs_prefix (by_events (spi_walk opts)) (spi_fits opts) timed (spi_sound opts few) (spi_outs opts) spi_same
+    spi_prefix = prefix_of spi_decoder
 
     pub spi_few : AddsFew (spi_outs opts)
-    spi_few = outs_few (by_events (spi_walk opts)) (spi_fits opts) timed (spi_sound opts few) (spi_outs opts) spi_same
+    spi_few = few_of spi_decoder
 
     pub spi_order : PacketsInOrder (spi_outs opts)
-    spi_order = outs_order (by_events (spi_walk opts)) (spi_fits opts) timed (spi_sound opts few) (spi_outs opts) spi_same
+    spi_order = order_of spi_decoder
 
     pub spi_on_wire : GivesOn SpiWire (spi_outs opts)
-    spi_on_wire list =
-        subst (λ (l : List Out). PacketsOn SpiWire l) (sym (spi_same list))
-        (walk_on (by_events (spi_walk opts)) SpiWire (λ h k before now. all_on h (event_at opts k before now)) list)
+    spi_on_wire = on_wire_of spi_decoder

@@ -8,17 +8,16 @@ use Rattle.wait_cond.specs.declared.alt.Alt.{Alt}
 use Rattle.wait_cond.specs.Meets.{MeetsAt}
 use Rattle.wait_cond.specs.Stops.{MetSet}
 use Rattle.decoder_core.specs.Promises.{NotesFrom, packet_starts}
-use Rattle.sample_walks.specs.Walks.{Between, Sound}
-use Rattle.sample_walks.specs.Events.{SoundEvents, by_events, is_some_event}
+use Rattle.sample_walks.specs.Walks.{Between}
+use Rattle.sample_walks.specs.Events.{SoundEvents, is_some_event}
 use Rattle.sample_walks.specs.laws.AltLaws.{same_alt, alone_none, alone_some, met_none, met_some}
-use Rattle.sample_walks.specs.laws.EventWalks.{events_sound}
 use Rattle.dec_spi.specs.declared.held.Held.{Held}
 use Rattle.dec_spi.specs.declared.held.Held.TheVariants.{Fresh, Outside, Inside}
 use Rattle.dec_spi.specs.declared.options.SpiOpts.{SpiOpts}
 use Rattle.dec_spi.specs.Bus.{Event, Select, Deselect, Clock, is_active_high, is_low_first, selected_by, is_selected, reads_rises, is_edge, level_of, event_by, event_at}
-use Rattle.dec_spi.specs.laws.Machine.{select_alt, clock_alt, change_alt, change_alts, event_alts, spi_alts, begun, with_bit, start_of, clock_next, gives, next, near_by, spi_walk, event_by_held, event_of}
+use Rattle.dec_spi.specs.laws.Machine.{select_alt, clock_alt, change_alt, change_alts, event_alts, spi_alts, inside, begun, with_bit, start_of, clock_next, gives, next, near_by, spi_walk, event_by_held, event_of}
 use Rattle.dec_spi.specs.laws.MetLaws.{select_meets, meets_select, clock_meets, meets_clock, change_meets, meets_change}
-use Rattle.dec_spi.specs.laws.GivenLaws.{start_most, clock_notes, clock_packets, gives_few}
+use Rattle.dec_spi.specs.laws.GivenLaws.{start_most, clock_notes, clock_packets, gives_few, gives_on}
 
 -- whether there is a sample before, and it is selected
 abbrev pub was_selected : SpiOpts → Option ℕ → Bool
@@ -30,8 +29,8 @@ abbrev pub spi_fits : SpiOpts → Held → ℕ → Option ℕ → Type 0
 spi_fits opts Fresh q before = was_selected opts before ≡ false
 spi_fits opts Outside q None = ⊥
 spi_fits opts Outside q (Some before) = is_selected opts before ≡ false
-spi_fits opts (Inside count mosi miso first) q None = ⊥
-spi_fits opts (Inside count mosi miso first) q (Some before) = (is_selected opts before ≡ true) × (first ≤ q)
+spi_fits opts (Inside word) q None = ⊥
+spi_fits opts (Inside word) q (Some before) = (is_selected opts before ≡ true) × (word.first ≤ q)
 
 -- which event stands between two samples, by whether they are selected
 data Seen (q : ℕ) (a b : Bool) (e : Event) : Type 0 where
@@ -148,15 +147,15 @@ module _ (opts : SpiOpts) where
   none Fresh q before now from fit set = fresh_quiet q before now from fit set
   none Outside q (Some before) now from fit set = quiet q before now from set
   none Outside q None now from fit set = absurd fit
-  none (Inside count mosi miso first) q (Some before) now from fit set = quiet q before now from set
-  none (Inside count mosi miso first) q None now from fit set = absurd fit
+  none (Inside word) q (Some before) now from fit set = quiet q before now from set
+  none (Inside word) q None now from fit set = absurd fit
 
   some : (h : Held) (q : ℕ) (before : Option ℕ) (now from met : ℕ) → spi_fits opts h q before → MetSet (spi_alts opts h) before now from q met → met ≢ 0 → (e : Event) × (event_at opts q before now ≡ e ∷ [])
   some Fresh q before now from met fit set is = fresh_loud q before now from fit met set is
   some Outside q (Some before) now from met fit set is = loud q before now from met set is
   some Outside q None now from met fit set is = absurd fit
-  some (Inside count mosi miso first) q (Some before) now from met fit set is = loud q before now from met set is
-  some (Inside count mosi miso first) q None now from met fit set is = absurd fit
+  some (Inside word) q (Some before) now from met fit set is = loud q before now from met set is
+  some (Inside word) q None now from met fit set is = absurd fit
 
   -- a state fits behind a sample without an event, and behind an event
   fits_on : (h : Held) (q : ℕ) (before : Option ℕ) (now : ℕ) → spi_fits opts h q before → event_at opts q before now ≡ [] → spi_fits opts h (q + 1) (Some now)
@@ -169,22 +168,22 @@ module _ (opts : SpiOpts) where
       by Fresh b f e = sym e ∙ f
       by Outside (Some own) f e = sym e ∙ f
       by Outside None f e = absurd f
-      by (Inside count mosi miso first) (Some own) f e = (sym e ∙ f.0, omega (arith, f.1))
-      by (Inside count mosi miso first) None f e = absurd f
+      by (Inside word) (Some own) f e = (sym e ∙ f.0, omega (arith, f.1))
+      by (Inside word) None f e = absurd f
 
   -- what is selected before a state, as far as the state says it
   Before : Held → ℕ → Bool → Type 0
   Before Fresh q a = a ≡ false
   Before Outside q a = a ≡ false
-  Before (Inside count mosi miso first) q a = (a ≡ true) × (first ≤ q)
+  Before (Inside word) q a = (a ≡ true) × (word.first ≤ q)
 
   before_is : (h : Held) (q : ℕ) (before : Option ℕ) → spi_fits opts h q before → Before h q (was_selected opts before)
   unfolding Before
   before_is Fresh q before fit = fit
   before_is Outside q (Some own) fit = fit
   before_is Outside q None fit = refl
-  before_is (Inside count mosi miso first) q (Some own) fit = fit
-  before_is (Inside count mosi miso first) q None fit = absurd fit
+  before_is (Inside word) q (Some own) fit = fit
+  before_is (Inside word) q None fit = absurd fit
 
   begun_fits : (q now : ℕ) → is_selected opts now ≡ true → spi_fits opts begun q (Some now)
   begun_fits q now is = (is, omega arith)
@@ -196,7 +195,7 @@ module _ (opts : SpiOpts) where
       start = start_most opts count mosi miso first q out back below
 
       by : (b : Bool)
-          → spi_fits opts (if b then Inside (count + 1) (with_bit (is_low_first opts) count mosi out) (with_bit (is_low_first opts) count miso back) (start_of count first q) else begun) (q + 1) (Some now)
+          → spi_fits opts (if b then inside (count + 1) (with_bit (is_low_first opts) count mosi out) (with_bit (is_low_first opts) count miso back) (start_of count first q) else begun) (q + 1) (Some now)
       by true = (is, omega (arith, start))
       by false = (is, omega arith)
 
@@ -205,20 +204,20 @@ module _ (opts : SpiOpts) where
   next_fits h q a now e fit (Begins was here is) = subst (λ (x : Event). spi_fits opts (next opts h x) (q + 1) (Some now)) is (begun_fits (q + 1) now here)
   next_fits Fresh q a now e fit (Ends was here is) = absurd (true≢false (sym was ∙ fit))
   next_fits Outside q a now e fit (Ends was here is) = absurd (true≢false (sym was ∙ fit))
-  next_fits (Inside count mosi miso first) q a now e fit (Ends was here is) = subst (λ (x : Event). spi_fits opts (next opts (Inside count mosi miso first) x) (q + 1) (Some now)) is here
+  next_fits (Inside word) q a now e fit (Ends was here is) = subst (λ (x : Event). spi_fits opts (next opts (Inside word) x) (q + 1) (Some now)) is here
   next_fits Fresh q a now e fit (Ticks out back was here is) = absurd (true≢false (sym was ∙ fit))
   next_fits Outside q a now e fit (Ticks out back was here is) = absurd (true≢false (sym was ∙ fit))
-  next_fits (Inside count mosi miso first) q a now e fit (Ticks out back was here is) =
-      subst (λ (x : Event). spi_fits opts (next opts (Inside count mosi miso first) x) (q + 1) (Some now)) is (clock_fits count mosi miso first q out back now fit.1 here)
+  next_fits (Inside word) q a now e fit (Ticks out back was here is) =
+      subst (λ (x : Event). spi_fits opts (next opts (Inside word) x) (q + 1) (Some now)) is (clock_fits word.count word.mosi word.miso word.first q out back now fit.1 here)
 
   -- where what is open starts
   near_most : (h : Held) (q : ℕ) (a : Bool) → Before h q a → near_by h q ≤ q
   unfolding Before
   near_most Fresh q a fit = le_refl q
   near_most Outside q a fit = le_refl q
-  near_most (Inside count mosi miso first) q a fit = by (count == 0)
+  near_most (Inside word) q a fit = by (word.count == 0)
     where
-      by : (b : Bool) → (if b then q else first) ≤ q
+      by : (b : Bool) → (if b then q else word.first) ≤ q
       by true = le_refl q
       by false = fit.1
 
@@ -226,11 +225,11 @@ module _ (opts : SpiOpts) where
   unfolding Before
   near_on Fresh q a fit = omega arith
   near_on Outside q a fit = omega arith
-  near_on (Inside count mosi miso first) q a fit = by (count == 0)
+  near_on (Inside word) q a fit = by (word.count == 0)
     where
-      by : (b : Bool) → (if b then q else first) ≤ (if b then q + 1 else first)
+      by : (b : Bool) → (if b then q else word.first) ≤ (if b then q + 1 else word.first)
       by true = omega arith
-      by false = le_refl first
+      by false = le_refl word.first
 
   -- from where on an event gives notes and packets
   Given : Held → ℕ → Event → Type 0
@@ -241,33 +240,14 @@ module _ (opts : SpiOpts) where
   given h q a b e fit (Begins was here is) = subst (λ (x : Event). Given h q x) is ((near_most h q a fit, tt), (near_most h q a fit, omega arith))
   given Fresh q a b e fit (Ends was here is) = absurd (true≢false (sym was ∙ fit))
   given Outside q a b e fit (Ends was here is) = absurd (true≢false (sym was ∙ fit))
-  given (Inside count mosi miso first) q a b e fit (Ends was here is) =
-      let low = near_most (Inside count mosi miso first) q a fit in
-      subst (λ (x : Event). Given (Inside count mosi miso first) q x) is ((low, tt), (low, omega arith))
+  given (Inside word) q a b e fit (Ends was here is) =
+      let low = near_most (Inside word) q a fit in
+      subst (λ (x : Event). Given (Inside word) q x) is ((low, tt), (low, omega arith))
   given Fresh q a b e fit (Ticks out back was here is) = absurd (true≢false (sym was ∙ fit))
   given Outside q a b e fit (Ticks out back was here is) = absurd (true≢false (sym was ∙ fit))
-  given (Inside count mosi miso first) q a b e fit (Ticks out back was here is) =
-      subst (λ (x : Event). Given (Inside count mosi miso first) q x) is
-      (clock_notes opts count mosi miso first q out back fit.1, clock_packets opts count mosi miso first q out back fit.1)
-
-  module _ (few : opts.bits ≤ 32) where
-    pub spi_events : SoundEvents (spi_walk opts) (spi_fits opts)
-    unfolding Given
-    spi_events = record {
-      one = one;
-      begin_fits = refl;
-      fits_on = fits_on;
-      next_fits = λ h q before now e fit is. next_fits h q (was_selected opts before) now e (before_is h q before fit) (seen q before now e is);
-      none = none;
-      some = some;
-      few = gives_few opts few;
-      near_on = λ h q before fit. near_on h q (was_selected opts before) (before_is h q before fit);
-      notes = λ h q before now e fit is. (given h q (was_selected opts before) (is_selected opts now) e (before_is h q before fit) (seen q before now e is)).0;
-      packets = λ h q before now e fit is. (given h q (was_selected opts before) (is_selected opts now) e (before_is h q before fit) (seen q before now e is)).1;
-    }
-
-    pub spi_sound : Sound (by_events (spi_walk opts)) (spi_fits opts) (λ h q. Unit {0})
-    spi_sound = events_sound (spi_walk opts) (spi_fits opts) spi_events
+  given (Inside word) q a b e fit (Ticks out back was here is) =
+      subst (λ (x : Event). Given (Inside word) q x) is
+      (clock_notes opts word.count word.mosi word.miso word.first q out back fit.1, clock_packets opts word.count word.mosi word.miso word.first q out back fit.1)
 
   -- the event at a stop
   stop_by : (h : Held) (q : ℕ) (a b edge out back : Bool) (e : Event) → Before h q a → event_by q a b edge out back ≡ e ∷ [] → event_by q a b edge out back ≡ event_by_held h q b out back ∷ []
@@ -278,15 +258,32 @@ module _ (opts : SpiOpts) where
   stop_by Outside q false true edge out back e fit is = refl
   stop_by Outside q false false edge out back e fit is = absurd cc
   stop_by Outside q true b edge out back e fit is = absurd (true≢false fit)
-  stop_by (Inside count mosi miso first) q true true true out back e fit is = refl
-  stop_by (Inside count mosi miso first) q true true false out back e fit is = absurd cc
-  stop_by (Inside count mosi miso first) q true false edge out back e fit is = refl
-  stop_by (Inside count mosi miso first) q false b edge out back e fit is = absurd (true≢false (sym fit.0))
+  stop_by (Inside word) q true true true out back e fit is = refl
+  stop_by (Inside word) q true true false out back e fit is = absurd cc
+  stop_by (Inside word) q true false edge out back e fit is = refl
+  stop_by (Inside word) q false b edge out back e fit is = absurd (true≢false (sym fit.0))
 
-  pub stop_is : (h : Held) (q : ℕ) (before : Option ℕ) (value : ℕ) → spi_fits opts h q before → is_some_event (event_at opts q before value) ≡ true → event_at opts q before value ≡ event_of opts h q value ∷ []
+  stop_is : (h : Held) (q : ℕ) (before : Option ℕ) (value : ℕ) → spi_fits opts h q before → is_some_event (event_at opts q before value) ≡ true → event_at opts q before value ≡ event_of opts h q value ∷ []
   stop_is h q before value fit moves = elim (one q before value) [
     | inl nothing ↦ absurd (true≢false (sym moves ∙ ap (λ (es : List Event). is_some_event es) nothing))
     | inr e ↦
         event_is q before value
         ∙ stop_by h q (was_selected opts before) (is_selected opts value) (edge_at before value) (level_of opts.mosi value) (level_of opts.miso value) e.0 (before_is h q before fit) (sym (event_is q before value) ∙ e.1)
   ]
+
+  module _ (few : opts.bits ≤ 32) where
+    pub spi_events : SoundEvents (spi_walk opts) (spi_fits opts)
+    unfolding Given
+    spi_events = record {
+      one = one;
+      begin_fits = refl;
+      fits_on = fits_on;
+      next_fits = λ h q before now e fit is. next_fits h q (was_selected opts before) now e (before_is h q before fit) (seen q before now e is);
+      none = none;
+      some = λ h q before now from met fit set is. stop_is h q before now fit (ap (λ (es : List Event). is_some_event es) (some h q before now from met fit set is).1);
+      few = gives_few opts few;
+      near_on = λ h q before fit. near_on h q (was_selected opts before) (before_is h q before fit);
+      notes = λ h q before now e fit is. (given h q (was_selected opts before) (is_selected opts now) e (before_is h q before fit) (seen q before now e is)).0;
+      packets = λ h q before now e fit is. (given h q (was_selected opts before) (is_selected opts now) e (before_is h q before fit) (seen q before now e is)).1;
+      on_wire = gives_on opts;
+    }

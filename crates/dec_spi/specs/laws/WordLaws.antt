@@ -15,10 +15,9 @@ use Rattle.list_cuts.proofs.GroupLaws.{groups_short, after_groups_few, groups_pu
 use Rattle.list_cuts.proofs.PlaceLaws.{first_push, last_push}
 use Rattle.list_cuts.proofs.TestLaws.{when_yes, when_no, less_yes, less_no}
 use Rattle.dec_spi.specs.declared.held.Held.{Held}
-use Rattle.dec_spi.specs.declared.held.Held.TheVariants.{Inside}
 use Rattle.dec_spi.specs.declared.options.SpiOpts.{SpiOpts}
 use Rattle.dec_spi.specs.Bus.{Event, Clock, is_low_first, place_of, mosi_of, miso_of, value_of, word_outs, group_outs, words_outs}
-use Rattle.dec_spi.specs.laws.Machine.{begun, held_by, with_bit, clock_gives, clock_next}
+use Rattle.dec_spi.specs.laws.Machine.{inside, begun, held_by, with_bit, clock_gives, clock_next}
 
 -- one more level
 value_push : (low : Bool) (levels : List Bool) (b : Bool) → length levels ≤ 31 → value_of low (levels ++ b ∷ []) ≡ with_bit low (length levels) (value_of low levels) b
@@ -32,7 +31,7 @@ value_push false levels b few =
     let small : high_first levels < 2 ^ 31 = omega (arith, below, most) in
     high_push levels b ∙ ap (λ (n : ℕ). n + bit_of b) (mul_comm 2 (high_first levels)) ∙ ap (λ (n : ℕ). n * 2 + bit_of b) (sym (mod-eq_of_lt small))
 
-none_held : (low : Bool) → Inside 0 (value_of low []) (value_of low []) 0 ≡ begun
+none_held : (low : Bool) → inside 0 (value_of low []) (value_of low []) 0 ≡ begun
 none_held true = refl
 none_held false = refl
 
@@ -92,7 +91,7 @@ module _ (opts : SpiOpts) (some : 1 ≤ opts.bits) (most : opts.bits ≤ 32) whe
       held_short =
           let count : length (rest ++ c ∷ []) ≡ length rest + 1 = length-append rest (c ∷ []) in
           ap (λ (l : List Event). held_by opts l) (after_push_short opts.bits bits_some clocks c less)
-          ∙ (λ i. Inside (count i) (grown mosi_of i) (grown miso_of i) (first_push place_of rest c i))
+          ∙ (λ i. inside (count i) (grown mosi_of i) (grown miso_of i) (first_push place_of rest c i))
           ∙ sym (when_yes (nat_lt (length rest + 1) opts.bits) _ _ yes)
 
     -- the last clock of a word

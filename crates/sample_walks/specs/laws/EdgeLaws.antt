@@ -1,5 +1,5 @@
 -- The laws of edges: their walk is sound, and gives what the definition gives.
-use Rattle.std.proofs.Common.{◌≡◌, inl, inr, ◌⊎◌, ℕ, ◌+◌, Bool, true, false, List, [], ◌∷◌, ◌++◌, take, length, Option, Some, None, refl, sym, ◌∙◌, ap, subst, arith}
+use Rattle.std.proofs.Common.{◌≡◌, inl, inr, ◌⊎◌, ℕ, ◌+◌, Bool, true, false, List, [], ◌∷◌, length, Option, Some, None, refl, sym, ◌∙◌, ap, subst, arith}
 use Rattle.std.proofs.Math.Nat.{le_refl}
 use Rattle.std.proofs.lemmas.Bool.{true≢false}
 use Rattle.std.proofs.lemmas.List.{map-append}
@@ -7,15 +7,13 @@ use Rattle.std.proofs.lemmas.Nat.Bits.{bit_at-pow_same}
 use Rattle.la_base.specs.Samples.{is_high}
 use Rattle.la_base.specs.declared.wires.Wire.TheVariants.{Nothing}
 use Rattle.wait_cond.specs.Meets.{Rises, Falls, MeetsAt}
-use Rattle.list_cuts.specs.Neighbours.{at_neighbours}
-use Rattle.decoder_core.specs.Promises.{NotesFrom, IsFloor, GivesNothing, KeepsFront, PacketsInOrder, AddsFew, GivesOn, PacketsOn, Rests, StopsIn, packet_starts}
-use Rattle.sample_walks.specs.Walks.{Walk, Between, given, Sound}
-use Rattle.sample_walks.specs.Events.{is_some_event, gives_all, by_events, SoundEvents, PushedEvents}
-use Rattle.sample_walks.specs.Edges.{Edge, To, edge_by, edge_at, edge_note, notes_of, edge_notes, edge_alt, edge_alts, edge_walk, EndsAtEdge}
+use Rattle.decoder_core.specs.Promises.{NotesFrom, PacketsOn, packet_starts}
+use Rattle.sample_walks.specs.Walks.{Between, given}
+use Rattle.sample_walks.specs.Events.{is_some_event, by_events, SoundEvents, PushedEvents}
+use Rattle.sample_walks.specs.Edges.{Edge, To, edge_by, edge_at, edge_note, notes_of, edge_notes, edge_alt, edge_walk}
 use Rattle.sample_walks.specs.laws.AltLaws.{no_line, at_line, high_is, high_bit, low_is, low_bit, alone_none, alone_some}
-use Rattle.sample_walks.specs.laws.WalkLaws.{outs_nothing, outs_prefix, outs_few, outs_order}
-use Rattle.sample_walks.specs.laws.EventWalks.{events_given, events_sound}
-use Rattle.sample_walks.specs.laws.HeldLaws.{held_quiet, held_one_stop, held_floor, Stopped, held_stop}
+use Rattle.sample_walks.specs.laws.EventWalks.{events_given}
+use Rattle.sample_walks.specs.laws.EventDecoders.{EventDecoder}
 
 -- where there is an edge, it stands at its sample with the level there
 some_edge : (q : ℕ) (before : Option ℕ) (now : ℕ) → is_some_event (edge_at q before now) ≡ true → edge_at q before now ≡ To q (is_high now 0) ∷ []
@@ -81,12 +79,6 @@ module _ (q : ℕ) (before : Option ℕ) (now : ℕ) where
 abbrev fits : Unit {0} → ℕ → Option ℕ → Type 0
 fits h q before = Unit {0}
 
-abbrev timed : Unit {0} → ℕ → Type 0
-timed h q = Unit {0}
-
-abbrev walk : Walk (Unit {0})
-walk = by_events edge_walk
-
 one_edge : (q : ℕ) (before : Option ℕ) (now : ℕ) → (edge_at q before now ≡ []) ⊎ ((e : Edge) × (edge_at q before now ≡ e ∷ []))
 one_edge q before now = by (is_edge q before now) refl
   where
@@ -97,7 +89,10 @@ one_edge q before now = by (is_edge q before now) refl
 some_is : (q : ℕ) (before : Option ℕ) (now : ℕ) (e : Edge) → edge_at q before now ≡ e ∷ [] → To q (is_high now 0) ∷ [] ≡ e ∷ []
 some_is q before now e is = sym (some_edge q before now (ap (λ (es : List Edge). is_some_event es) is)) ∙ is
 
-edges_sound : SoundEvents edge_walk fits
+note_on : (h : Unit {0}) (e : Edge) → PacketsOn Nothing (edge_note e ∷ [])
+note_on h (To at level) = tt
+
+pub edges_sound : SoundEvents edge_walk fits
 edges_sound = record {
   one = one_edge;
   begin_fits = tt;
@@ -105,14 +100,13 @@ edges_sound = record {
   next_fits = λ h q before now e fit is. tt;
   none = λ h q before now from fit set. no_edge (edge_at q before now)
       (alone_none edge_alt before now from q 0 (is_edge q before now) (edge_meets q before now from) (meets_edge q before now from) set);
-  some = λ h q before now from met fit set some. (
-    To q (is_high now 0),
-    some_edge q before now (alone_some edge_alt before now from q met (is_edge q before now) (edge_meets q before now from) (meets_edge q before now from) set some),
-  );
+  some = λ h q before now from met fit set some.
+      some_edge q before now (alone_some edge_alt before now from q met (is_edge q before now) (edge_meets q before now from) (meets_edge q before now from) set some);
   few = λ h e. omega arith;
   near_on = λ h q before fit. omega arith;
   notes = λ h q before now e fit is. subst (λ (es : List Edge). NotesFrom q (notes_of es)) (some_is q before now e is) (le_refl q, tt);
   packets = λ h q before now e fit is. subst (λ (es : List Edge). Between q (q + 1) (packet_starts (notes_of es))) (some_is q before now e is) (omega arith);
+  on_wire = note_on;
 }
 
 edges_pushed : PushedEvents edge_walk notes_of (λ es. tt)
@@ -123,50 +117,17 @@ edges_pushed = record {
   kept_push = λ es e. refl;
 }
 
-sound : Sound walk fits timed
-sound = events_sound edge_walk fits edges_sound
-
-same : (list : List ℕ) → edge_notes list ≡ given walk list
+pub edges_given : (list : List ℕ) → edge_notes list ≡ given (by_events edge_walk) list
 unfolding edge_notes
-same list = events_given edge_walk notes_of (λ es. tt) edges_pushed list
+edges_given list = events_given edge_walk notes_of (λ es. tt) edges_pushed list
 
-pub edges_nothing : GivesNothing edge_notes
-edges_nothing = outs_nothing walk fits timed sound edge_notes same
-
-pub edges_prefix : KeepsFront edge_notes
-edges_prefix = outs_prefix walk fits timed sound edge_notes same
-
-pub edges_few : AddsFew edge_notes
-edges_few = outs_few walk fits timed sound edge_notes same
-
-pub edges_order : PacketsInOrder edge_notes
-edges_order = outs_order walk fits timed sound edge_notes same
-
-no_packet : (es : List Edge) → PacketsOn Nothing (notes_of es)
-no_packet [] = tt
-no_packet (To at level ∷ es) = no_packet es
-
-pub edges_on_wire : GivesOn Nothing edge_notes
-unfolding edge_notes
-edges_on_wire list = no_packet (at_neighbours edge_at list)
-
-module _ (seen more : List ℕ) (ends : EndsAtEdge seen) where
-  module _ (none : Rests edge_alts seen more) where
-    pub edges_quiet : edge_notes (seen ++ more) ≡ edge_notes seen
-    edges_quiet = held_quiet walk fits timed sound edge_notes same tt seen more ends refl none
-
-    pub edges_one_stop : EndsAtEdge (seen ++ more) → more ≡ []
-    edges_one_stop also = held_one_stop walk fits timed sound edge_notes same tt seen more ends refl none also
-
-    pub edges_floor : (next : ℕ) → next ≡ length (seen ++ more) → IsFloor edge_notes (seen ++ more) next
-    edges_floor next is = held_floor walk fits timed sound edge_notes same tt seen more ends refl none next next is refl
-
-  module _ (at value met : ℕ) (s : StopsIn edge_alts seen more at value met) where
-    stop : Stopped walk fits edge_notes tt seen (seen ++ more) at value met
-    stop = held_stop walk fits timed sound edge_notes same tt seen more ends refl at value met s
-
-    pub edge_ends : EndsAtEdge (take (at + 1) (seen ++ more))
-    edge_ends = stop.ends
-
-    pub edge_loud : edge_notes (take (at + 1) (seen ++ more)) ≡ edge_notes seen ++ edge_note (To at (is_high value 0)) ∷ []
-    edge_loud = stop.gives ∙ ap (λ (es : List Edge). edge_notes seen ++ gives_all edge_walk tt es) (some_edge at stop.before value stop.moves)
+abbrev pub edges : EventDecoder (Unit {0}) Edge
+edges = record {
+  walk = edge_walk;
+  fits = fits;
+  sound = edges_sound;
+  outs = edge_notes;
+  given_is = edges_given;
+  near = length;
+  near_is = λ list. refl;
+}

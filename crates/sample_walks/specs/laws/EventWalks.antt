@@ -1,12 +1,13 @@
 -- Walks by events are sound walks, and give what a definition over the whole list of events gives.
-use Rattle.std.proofs.Common.{◌≡◌, inl, inr, ℕ, ◌+◌, ◌≤◌, List, [], ◌∷◌, ◌++◌, length, Option, Some, sym, ◌∙◌, ap, subst, arith, append_assoc}
+use Rattle.std.proofs.Common.{◌≡◌, inl, inr, ℕ, ◌+◌, ◌≤◌, List, [], ◌∷◌, ◌++◌, length, Option, Some, None, sym, ◌∙◌, ap, subst, arith, append_assoc}
 use Rattle.std.proofs.lemmas.Bool.{true≢false}
 use Rattle.std.proofs.lemmas.List.{append-nil}
 use Rattle.la_base.specs.declared.wires.Out.{Out}
 use Rattle.list_cuts.specs.Neighbours.{at_neighbours, last_of}
 use Rattle.list_cuts.proofs.NeighbourLaws.{at_neighbours_push}
-use Rattle.decoder_core.specs.Promises.{NotesFrom, packet_starts}
-use Rattle.sample_walks.specs.Walks.{Between, walked, given, Sound}
+use Rattle.decoder_core.specs.Promises.{NotesFrom, PacketsOn, packet_starts}
+use Rattle.decoder_core.specs.laws.OutLaws.{PacketsOn-append}
+use Rattle.sample_walks.specs.Walks.{Between, walked, given, given_from, Sound}
 use Rattle.sample_walks.specs.Events.{EventWalk, is_some_event, gives_all, next_all, by_events, SoundEvents, PushedEvents}
 use Rattle.sample_walks.specs.laws.WalkLaws.{walked_push, given_push}
 
@@ -33,13 +34,28 @@ module _ {H E : Type 0} (w : EventWalk H E) where
         | inr one ↦ absurd (true≢false (sym (ap (λ (es : List E). is_some_event es) one.1) ∙ stays))
       ];
       none = λ h q before now from fit timed set. ap (λ (es : List E). is_some_event es) (sound.none h q before now from fit set);
-      some = λ h q before now from met fit timed set some. ap (λ (es : List E). is_some_event es) (sound.some h q before now from met fit set some).1;
+      some = λ h q before now from met fit timed set some. ap (λ (es : List E). is_some_event es) (sound.some h q before now from met fit set some);
       few = λ h q before now. by_event (λ (es : List E). length (gives_all w h es) ≤ 16) q before now (λ is. omega arith) (λ e is. subst (λ (l : List Out). length l ≤ 16) (sym (single h e)) (sound.few h e));
       notes = λ h q before now fit. by_event (λ (es : List E). NotesFrom (w.near h q) (gives_all w h es)) q before now (λ is. tt) (λ e is. subst (λ (l : List Out). NotesFrom (w.near h q) l) (sym (single h e)) (sound.notes h q before now e fit is));
       packets = λ h q before now fit. by_event (λ (es : List E). Between (w.near h q) (w.near (next_all w h es) (q + 1)) (packet_starts (gives_all w h es))) q before now
           (λ is. sound.near_on h q before fit)
           (λ e is. subst (λ (l : List Out). Between (w.near h q) (w.near (w.next h e) (q + 1)) (packet_starts l)) (sym (single h e)) (sound.packets h q before now e fit is));
     }
+
+    -- each packet is of the wire of the walk
+    all_on : (h : H) (es : List E) → PacketsOn w.wire (gives_all w h es)
+    all_on h [] = tt
+    all_on h (e ∷ es) = PacketsOn-append w.wire (w.gives h e) (gives_all w (w.next h e) es) (sound.on_wire h e) (all_on (w.next h e) es)
+
+    from_on : (list : List ℕ) (h : H) (k : ℕ) (before : Option ℕ) → PacketsOn w.wire (given_from (by_events w) h k before list)
+    from_on [] h k before = tt
+    from_on (now ∷ later) h k before =
+        let es = w.event_at k before now in
+        PacketsOn-append w.wire (gives_all w h es) (given_from (by_events w) (next_all w h es) (k + 1) (Some now) later) (all_on h es) (from_on later (next_all w h es) (k + 1) (Some now))
+
+    pub events_on : (list : List ℕ) → PacketsOn w.wire (given (by_events w) list)
+    unfolding given
+    events_on list = from_on list w.begin 0 None
 
   -- the definition on the events of samples is the walk over them
   module _ (outs : List E → List Out) (kept : List E → H) (pushed : PushedEvents w outs kept) where

@@ -1,8 +1,9 @@
-use Rattle.dec_i2c.specs.laws.MachineLaws.{floor_is, near_below}
+use Rattle.sample_walks.specs.laws.EventDecoders.{floor_of, near_of}
+use Rattle.dec_i2c.specs.laws.I2cLaws.{i2c_decoder}
 use Rattle.dec_i2c.proofs.machine.I2cLogicMachine.floor.Goals as goal
 
 pub returns-clause-floor : goal.returns-clause-floor
-returns-clause-floor c = λ seen more stands none next. floor_is c.args.self.now seen more stands none _ _ next c.near.ensures
+returns-clause-floor c = λ seen more stands none next. let m = c.args.self.now in floor_of (i2c_decoder m.bus.scl m.bus.sda) m.held seen more stands none _ _ next c.near.ensures
 
 pub returns-clause-near : goal.returns-clause-near
-returns-clause-near c = λ seen more stands none next. near_below c.args.self.now seen more stands none _ _ next c.near.ensures
+returns-clause-near c = λ seen more stands none next. let m = c.args.self.now in near_of (i2c_decoder m.bus.scl m.bus.sda) m.held seen more stands none _ _ next c.near.ensures

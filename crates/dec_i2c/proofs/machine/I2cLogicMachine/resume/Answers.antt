@@ -1,8 +1,36 @@
-use Rattle.dec_i2c.specs.laws.MachineLaws.{loud_is, stands_there}
+use Rattle.std.proofs.Common.{◌∙◌, ap, Bool}
+use Rattle.sample_walks.specs.laws.EventDecoders.{loud_of, holds_of}
+use Rattle.dec_i2c.specs.laws.I2cLaws.{i2c_decoder}
+use Rattle.dec_i2c.specs.laws.Machine.{event_met, gives, next}
+use Rattle.dec_i2c.proofs.TakenLaws.{bit_silent, bit_kept, bit_left}
 use Rattle.dec_i2c.proofs.machine.I2cLogicMachine.resume.Goals as goal
 
+pub returns-then-takes_bit-clause-stands : goal.returns-then-takes_bit-clause-stands
+returns-then-takes_bit-clause-stands c = λ seen more stands stop.
+    let m = c.args.self.now in
+    holds_of (i2c_decoder m.bus.scl m.bus.sda) m.held seen more stands c.args.at c.args.value c.args.met stop _
+    (c.takes_bit.ensures.keeps
+    ∙ bit_kept m.held c.args.met c.args.at c.pin-level.result c.if-takes_bit.ensures.answers
+    ∙ ap (λ (b : Bool). next m.held (event_met c.args.met c.args.at b)) c.pin-level.ensures)
+
+pub returns-then-takes_bit-clause-loud : goal.returns-then-takes_bit-clause-loud
+returns-then-takes_bit-clause-loud c = λ seen more stands stop.
+    let m = c.args.self.now in
+    loud_of (i2c_decoder m.bus.scl m.bus.sda) m.held seen more stands c.args.at c.args.value c.args.met stop _
+    (c.requires.empty
+    ∙ bit_silent m.held c.args.met c.args.at c.pin-level.result c.if-takes_bit.ensures.answers
+    ∙ ap (λ (b : Bool). gives m.held (event_met c.args.met c.args.at b)) c.pin-level.ensures)
+
 pub returns-clause-stands : goal.returns-clause-stands
-returns-clause-stands c = λ seen more stands stop. stands_there c.args.self.now seen more stands c.args.at c.args.value c.args.met _ c.pin-level.ensures stop _ c.step.ensures
+returns-clause-stands c = λ seen more stands stop.
+    let m = c.args.self.now in
+    let left = c.takes_bit.ensures.keeps ∙ bit_left m.held c.args.met c.args.at c.pin-level.result c.if-takes_bit.ensures.answers in
+    holds_of (i2c_decoder m.bus.scl m.bus.sda) m.held seen more stands c.args.at c.args.value c.args.met stop _
+    (c.step.ensures ∙ (λ i. next (left i) (event_met c.args.met c.args.at (c.pin-level.ensures i))))
 
 pub returns-clause-loud : goal.returns-clause-loud
-returns-clause-loud c = λ seen more stands stop. loud_is c.args.self.now seen more stands c.args.at c.args.value c.args.met _ c.pin-level.ensures stop _ c.give.ensures
+returns-clause-loud c = λ seen more stands stop.
+    let m = c.args.self.now in
+    let left = c.takes_bit.ensures.keeps ∙ bit_left m.held c.args.met c.args.at c.pin-level.result c.if-takes_bit.ensures.answers in
+    loud_of (i2c_decoder m.bus.scl m.bus.sda) m.held seen more stands c.args.at c.args.value c.args.met stop _
+    (c.give.ensures ∙ (λ i. gives (left i) (event_met c.args.met c.args.at (c.pin-level.ensures i))))

@@ -1,8 +1,11 @@
-use Rattle.dec_onewire.specs.laws.LinkMachineLaws.{floor_is, near_below}
+use Rattle.sample_walks.specs.laws.EventDecoders.{floor_of, near_of}
+use Rattle.dec_onewire.specs.laws.LinkLaws.{link_decoder}
 use Rattle.dec_onewire.proofs.link.machine.OwLinkLogicMachine.floor.Goals as goal
 
 pub returns-clause-floor : goal.returns-clause-floor
-returns-clause-floor c = λ seen more stands none next. floor_is c.args.self.now seen more stands none _ _ next c.near.ensures
+returns-clause-floor c = λ seen more stands none next.
+    let m = c.args.self.now in floor_of (link_decoder m.line.opts m.line.rate) m.held seen more (stands.0, stands.1) none _ _ next c.near.ensures
 
 pub returns-clause-near : goal.returns-clause-near
-returns-clause-near c = λ seen more stands none next. near_below c.args.self.now seen more stands none _ _ next c.near.ensures
+returns-clause-near c = λ seen more stands none next.
+    let m = c.args.self.now in near_of (link_decoder m.line.opts m.line.rate) m.held seen more (stands.0, stands.1) none _ _ next c.near.ensures

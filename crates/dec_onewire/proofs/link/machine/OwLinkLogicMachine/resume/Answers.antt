@@ -1,15 +1,19 @@
-use Rattle.std.proofs.Common.{Bool, ◌∙◌, ap}
+use Rattle.std.proofs.Common.{◌∙◌}
+use Rattle.sample_walks.specs.laws.EventDecoders.{loud_of, holds_of}
 use Rattle.dec_onewire.specs.Link.{To}
+use Rattle.dec_onewire.specs.laws.LinkLaws.{link_decoder}
 use Rattle.dec_onewire.specs.laws.LinkMachine.{gives, next}
-use Rattle.dec_onewire.specs.laws.LinkMachineLaws.{loud_is, stands_there}
 use Rattle.dec_onewire.proofs.link.machine.OwLinkLogicMachine.resume.Goals as goal
 
 pub returns-clause-stands : goal.returns-clause-stands
-returns-clause-stands c = let m = c.args.self.now in
-    λ seen more stands stop. stands_there m seen more stands c.args.at c.args.value c.args._met stop _
-    (c.next-self.ensures ∙ ap (λ (b : Bool). next m.lengths m.held (To c.args.at b)) c.pin-level.ensures)
+returns-clause-stands c = λ seen more stands stop.
+    let m = c.args.self.now in
+    let new = holds_of (link_decoder m.line.opts m.line.rate) m.held seen more (stands.0, stands.1) c.args.at c.args.value c.args._met stop _
+    (c.next-self.ensures ∙ (λ i. next (stands.2 i) m.held (To c.args.at (c.pin-level.ensures i)))) in
+    (new.0, new.1, stands.2)
 
 pub returns-clause-loud : goal.returns-clause-loud
-returns-clause-loud c = let m = c.args.self.now in
-    λ seen more stands stop. loud_is m seen more stands c.args.at c.args.value c.args._met stop _
-    (c.give.ensures ∙ ap (λ (b : Bool). gives m.lengths m.held (To c.args.at b)) c.pin-level.ensures)
+returns-clause-loud c = λ seen more stands stop.
+    let m = c.args.self.now in
+    loud_of (link_decoder m.line.opts m.line.rate) m.held seen more (stands.0, stands.1) c.args.at c.args.value c.args._met stop _
+    (c.give.ensures ∙ (λ i. gives (stands.2 i) m.held (To c.args.at (c.pin-level.ensures i))))
