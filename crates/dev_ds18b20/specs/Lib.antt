@@ -1,5 +1,4 @@
 pub mod Probe
-pub mod Held
 pub mod Texts
 pub mod Opening
 pub mod Rows

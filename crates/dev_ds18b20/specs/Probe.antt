@@ -6,7 +6,6 @@
 -- after any command that has a ROM is this project's own, as are spans.
 use Rattle.std.specs.Prelude.{ℕ, ◌+◌, ◌-◌, ◌*◌, ◌/◌, ◌%◌, ◌^◌, Bool, true, false, cond, not, ◌==◌, if◌then◌else◌, List, [], ◌∷◌, ◌++◌, map, take, drop, get_or, Option, Some, None}
 use Rattle.std.specs.List.{filter}
-use Rattle.std.proofs.Math.Nat.{le_refl}
 use Rattle.la_base.specs.declared.wires.Out.{Out}
 use Rattle.la_base.specs.declared.wires.Packet.{Packet}
 use Rattle.la_base.specs.declared.wires.PacketKind.{PacketKind}
@@ -15,6 +14,7 @@ use Rattle.list_cuts.specs.Bits.{bit_of}
 use Rattle.decoder_core.specs.Outputs.{span_note, span_piece}
 use Rattle.dec_onewire.specs.Net.{crc8}
 use Rattle.packet_walks.specs.Transactions.{Device, transaction_outs, transaction_near}
+use Rattle.dev_ds18b20.specs.declared.spot.Spot.{Spot}
 
 abbrev pub is_reset : PacketKind → Bool
 is_reset NetReset = true
@@ -39,30 +39,30 @@ abbrev pub behind_own : List Packet → Option (List Packet)
 behind_own [] = None
 behind_own (packet ∷ packets) = cond (is_own packet) (Some packets) (behind_own packets)
 
--- the bytes among packets
-abbrev pub bytes_in : List Packet → List Packet
-bytes_in packets = filter (λ packet. is_byte packet.kind) packets
+-- the byte of a packet, the lowest eight bits of its value, and where it starts and ends
+abbrev pub spot_of : Packet → Spot
+spot_of packet = record { start = packet.start; end = packet.end; byte = packet.a % 256 }
 
--- the byte of a packet: the lowest eight bits of its value
-abbrev pub byte_of : Packet → ℕ
-byte_of packet = packet.a % 256
+-- the bytes among packets
+abbrev pub bytes_in : List Packet → List Spot
+bytes_in packets = map spot_of (filter (λ packet. is_byte packet.kind) packets)
 
 -- a byte by its place, and its value
-abbrev pub blank : Packet
-blank = record { kind = NetByte; start = 0; end = 0; a = 0; b = 0; in_order = le_refl 0 }
+abbrev pub blank : Spot
+blank = record { start = 0; end = 0; byte = 0 }
 
-abbrev pub nth : List Packet → ℕ → Packet
+abbrev pub nth : List Spot → ℕ → Spot
 nth bytes place = get_or bytes place blank
 
-abbrev pub value : List Packet → ℕ → ℕ
-value bytes place = byte_of (nth bytes place)
+abbrev pub value : List Spot → ℕ → ℕ
+value bytes place = (nth bytes place).byte
 
 -- a note from the start of one byte to the end of another, and a piece
-abbrev pub note_over : ℕ → Packet → Packet → ℕ → ℕ → Out
+abbrev pub note_over : ℕ → Spot → Spot → ℕ → ℕ → Out
 note_over class first last a b = span_note class first.start last.end a b
 
-abbrev pub byte_piece : Packet → Out
-byte_piece byte = span_piece 0 byte.start byte.end (byte_of byte)
+abbrev pub byte_piece : Spot → Out
+byte_piece byte = span_piece 0 byte.start byte.end byte.byte
 
 -- the resolution in bits is 9 and what bits 6 and 5 of the configuration say
 abbrev pub steps_of : ℕ → ℕ
@@ -78,45 +78,45 @@ temperature low high configuration =
     (high * 256 + low) / 2 ^ (3 - steps_of configuration) * 2 ^ (3 - steps_of configuration)
 
 -- the CRC of the scratchpad's first eight bytes
-unfoldable pub crc_of : List Packet → ℕ
+unfoldable pub crc_of : List Spot → ℕ
 crc_of bytes = crc8 (value bytes 0 ∷ value bytes 1 ∷ value bytes 2 ∷ value bytes 3 ∷ value bytes 4 ∷ value bytes 5 ∷ value bytes 6 ∷ value bytes 7 ∷ [])
 
 -- the scratchpad's first eight bytes, and the ninth, which is their CRC: the temperature, the limits TH and TL, the configuration
-abbrev pub scratchpad_outs : List Packet → Packet → List Out
+abbrev pub scratchpad_outs : List Spot → Spot → List Out
 scratchpad_outs bytes last =
     note_over 1 (nth bytes 0) (nth bytes 1) (temperature (value bytes 0) (value bytes 1) (value bytes 4)) 0
     ∷ note_over 2 (nth bytes 2) (nth bytes 3) (value bytes 2) (value bytes 3)
     ∷ note_over 3 (nth bytes 4) (nth bytes 4) (resolution (value bytes 4)) 0
-    ∷ note_over 4 last last (bit_of (not (crc_of bytes == byte_of last))) 0
+    ∷ note_over 4 last last (bit_of (not (crc_of bytes == last.byte))) 0
     ∷ map byte_piece bytes
     ++ byte_piece last ∷ []
 
 -- three bytes that are written: TH, TL and the configuration
-abbrev pub written_outs : List Packet → Packet → List Out
+abbrev pub written_outs : List Spot → Spot → List Out
 written_outs bytes last =
     note_over 5 (nth bytes 0) (nth bytes 1) (value bytes 0) (value bytes 1)
-    ∷ note_over 6 last last (resolution (byte_of last)) 0
+    ∷ note_over 6 last last (resolution last.byte) 0
     ∷ []
 
 -- what the first n bytes give with the one behind them, if there is one
-abbrev pub with_last : (List Packet → Packet → List Out) → List Packet → List Packet → List Out
+abbrev pub with_last : (List Spot → Spot → List Out) → List Spot → List Spot → List Out
 with_last give front [] = []
 with_last give front (last ∷ others) = give front last
 
-abbrev pub first_bytes : ℕ → (List Packet → Packet → List Out) → List Packet → List Out
+abbrev pub first_bytes : ℕ → (List Spot → Spot → List Out) → List Spot → List Out
 first_bytes n give bytes = with_last give (take n bytes) (drop n bytes)
 
 -- what the bytes behind a function give: Read Scratchpad (BEh) has nine, Write Scratchpad (4Eh) three
-abbrev pub behind_function : ℕ → List Packet → List Out
+abbrev pub behind_function : ℕ → List Spot → List Out
 behind_function function bytes =
     if function == 190 then first_bytes 8 scratchpad_outs bytes
     else if function == 78 then first_bytes 2 written_outs bytes
     else []
 
 -- the first byte is the function
-abbrev pub bytes_outs : List Packet → List Out
+abbrev pub bytes_outs : List Spot → List Out
 bytes_outs [] = []
-bytes_outs (function ∷ bytes) = note_over 0 function function (byte_of function) 0 ∷ behind_function (byte_of function) bytes
+bytes_outs (function ∷ bytes) = note_over 0 function function function.byte 0 ∷ behind_function function.byte bytes
 
 abbrev pub own_outs : Option (List Packet) → List Out
 own_outs None = []

@@ -1,31 +1,30 @@
 // The first bytes of a scratchpad.
 ghost use Rattle.std.specs.Prelude.{◌≡◌, ◌<◌, ◌≤◌, [], ◌∷◌, ◌++◌, List, length, take};
-ghost use Rattle.la_base.specs.declared.wires.Packet.{Packet};
-ghost use Rattle.dev_ds18b20.specs.Probe.{byte_of};
+ghost use Rattle.dev_ds18b20.specs.Probe.{spot_of};
+ghost use Rattle.dev_ds18b20.specs.declared.spot.Spot.{Spot};
 
-use la_base::{Packet, PacketKind};
+use crate::Spot;
+use la_base::Packet;
 use std::marker::Model;
 
 const MOST: usize = 8;
 
-const BLANK: Packet = Packet {
-    kind: PacketKind::NetByte,
+const BLANK: Spot = Spot {
     start: 0,
     end: 0,
-    a: 0,
-    b: 0,
+    byte: 0,
 };
 
 /// At most eight bytes, in order. Contracts see their list.
 #[derive(Drop)]
 pub struct Bytes {
     // the bytes, and what doesn't count behind them
-    room: [Packet; MOST],
+    room: [Spot; MOST],
     count: usize,
 }
 
 impl Model for Bytes {
-    ghost Value = { List Packet };
+    ghost Value = { List Spot };
 
     ghost view = { λ s. take s.count s.room };
 
@@ -44,7 +43,7 @@ impl Bytes {
     }
 
     /// Appends a byte.
-    pub fn push(&mut self, byte: Packet)
+    pub fn push(&mut self, byte: Spot)
         requires { length self.old < 8 }
         ensures { self.new ≡ self.old ++ byte ∷ [] }
     {
@@ -53,7 +52,7 @@ impl Bytes {
     }
 
     /// The bytes.
-    pub fn list(&self) -> &[Packet]
+    pub fn list(&self) -> &[Spot]
         ensures list { result.now ≡ self.now }
         ensures few { length result.now ≤ 8 }
     {
@@ -68,9 +67,13 @@ impl Bytes {
     }
 }
 
-/// The byte of a packet: the lowest eight bits of its value.
-pub fn byte_of(packet: Packet) -> u8
-    ensures { result ≡ byte_of packet }
+/// A packet of a byte as its byte, the lowest eight bits of its value, and where it starts and ends.
+pub fn spot_of(packet: Packet) -> Spot
+    ensures { result ≡ spot_of packet }
 {
-    (packet.a % 256) as u8
+    Spot {
+        start: packet.start,
+        end: packet.end,
+        byte: (packet.a % 256) as u8,
+    }
 }

@@ -1,5 +1,6 @@
 // What a decoder of a thermometer is made of.
 use crate::Bytes;
+use packet_walks::Transacting;
 
 /// A thermometer has no options.
 #[derive(Clone, Copy, Debug, PartialEq, Eq)]
@@ -29,7 +30,4 @@ pub struct Transaction {
 }
 
 /// A decoder of a thermometer between two packets.
-#[derive(Drop)]
-pub struct Probe {
-    pub(crate) held: Option<Transaction>,
-}
+pub type Probe = Transacting<Transaction>;

@@ -4,14 +4,15 @@
 mod bytes;
 mod held;
 mod machine;
-mod opening;
 mod rows;
 mod scratchpad;
+mod spot;
 mod texts;
 mod transaction;
 
 use bytes::Bytes;
-pub use held::{Probe, ProbeOpts};
-use held::{Stage, Transaction};
+use held::Stage;
+pub use held::{Probe, ProbeOpts, Transaction};
 pub use rows::rows_hold;
+pub use spot::Spot;
 pub use texts::text;

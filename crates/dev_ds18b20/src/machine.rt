@@ -1,13 +1,15 @@
-// A thermometer as a decoder of packets.
+// A thermometer by its transactions.
 ghost use Rattle.std.specs.Prelude.{◌≡◌, []};
-ghost use Rattle.la_base.specs.declared.wires.Wire.TheVariants.{OwNet as NetWire, Nothing as NoWire};
-ghost use Rattle.dev_ds18b20.specs.Probe.{is_reset, probe_near, probe_outs};
-ghost use Rattle.dev_ds18b20.specs.Held.{StandsFor, gives, near_by, next};
-ghost use Rattle.dev_ds18b20.specs.laws.ProbeLaws.{one_probe, probe_few, probe_nothing, probe_on_wire, probe_order, probe_prefix};
+ghost use Rattle.la_base.specs.declared.wires.Wire.TheVariants.{OwNet as NetWire};
+ghost use Rattle.dev_ds18b20.specs.Probe.{is_reset, probe};
+ghost use Rattle.dev_ds18b20.specs.laws.ByteLaws.{probe_pushed};
+ghost use Rattle.dev_ds18b20.specs.laws.Held.{probe_steps, transaction_kept};
+ghost use Rattle.dev_ds18b20.specs.laws.SoundLaws.{probe_fits, probe_sound};
 
-use crate::{Probe, ProbeOpts, Transaction};
-use decoder_core::{Outs, PacketMachine};
+use crate::{Bytes, ProbeOpts, Stage, Transaction};
+use decoder_core::Outs;
 use la_base::{Packet, PacketKind, Wire};
+use packet_walks::OpenTransaction;
 
 fn is_reset(kind: PacketKind) -> bool
     ensures { result ≡ is_reset kind }
@@ -15,73 +17,56 @@ fn is_reset(kind: PacketKind) -> bool
     matches!(kind, PacketKind::NetReset)
 }
 
-impl Probe {
-    // Puts out what a packet gives, and keeps what it changes.
-    fn take(&mut self, packet: Packet, into: &mut Outs)
-        requires { into.old ≡ [] }
-        ensures gives { into.new ≡ gives self.old.held packet }
-        ensures next { self.new.held ≡ next self.old.held packet }
-    {
-        if is_reset(packet.kind) {
-            self.held = Some(Transaction::new(packet.start));
-            return;
-        }
-        match &mut self.held {
-            None => {}
-            Some(transaction) => {
-                transaction.give(packet, into);
-                transaction.follow(packet);
-            }
-        }
-    }
+impl OpenTransaction for Transaction {
+    type Opts = ProbeOpts;
 
-    // Where the reset starts of the transaction that is open; else `from`.
-    fn near(&self, from: u64) -> u64
-        ensures { result ≡ near_by self.now.held from }
-    {
-        match &self.held {
-            None => from,
-            Some(transaction) => transaction.start,
-        }
-    }
-}
+    ghost opts = { record {} };
 
-impl PacketMachine for Probe {
-    type Setup = ProbeOpts;
+    ghost wire = { NetWire };
 
-    ghost setup = { λ _. record {} };
+    ghost device = { probe };
 
-    ghost wire = { λ _. NetWire };
+    ghost steps = { probe_steps };
 
-    ghost gives = { λ _. NoWire };
+    ghost kept = { transaction_kept };
 
-    ghost outs = { λ _ packets. probe_outs packets };
+    ghost fits = { probe_fits };
 
-    ghost near = { λ _ packets. probe_near packets };
-
-    ghost stands = { λ machine packets. StandsFor machine packets };
-
-    fn wants(&self) -> Wire {
+    fn wants() -> Wire {
         Wire::OwNet
     }
 
-    fn accept(&mut self, packet: Packet, into: &mut Outs) {
-        self.take(packet, into);
+    fn begins(packet: Packet) -> bool {
+        is_reset(packet.kind)
     }
 
-    fn floor(&self, from: u64) -> u64 {
-        self.near(from)
+    fn ends(packet: Packet) -> bool {
+        is_reset(packet.kind)
     }
 
-    ghost nothing = { λ _. probe_nothing };
+    fn begin(packet: Packet) -> Transaction {
+        Transaction {
+            start: packet.start,
+            stage: Stage::Foreign,
+            bytes: Bytes::new(),
+        }
+    }
 
-    ghost prefix = { λ _. probe_prefix };
+    fn take(&mut self, packet: Packet, into: &mut Outs) {
+        self.give(packet, into);
+        self.follow(packet);
+    }
 
-    ghost order = { λ _. probe_order };
+    fn close(&self, _into: &mut Outs) {}
 
-    ghost few = { λ _. probe_few };
+    fn near(&self, from: u64) -> u64 {
+        match self.stage {
+            Stage::Told => self.start.max(from),
+            _ => self.start,
+        }
+    }
 
-    ghost on_wire = { λ _. probe_on_wire };
+    ghost pushed = { probe_pushed };
 
-    ghost one_machine = { λ one other packets same stands also. one_probe one other packets stands also };
+    ghost sound = { probe_sound };
 }

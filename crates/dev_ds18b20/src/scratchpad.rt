@@ -2,37 +2,37 @@
 ghost use Rattle.std.specs.Prelude.{◌≡◌, ◌+◌, ◌<◌, ◌≤◌, ◌++◌, [], length, map};
 ghost use Rattle.dev_ds18b20.specs.Probe.{byte_piece, crc_of, note_over, nth, resolution, scratchpad_outs, steps_of, temperature, value, written_outs};
 
-use crate::bytes::byte_of;
+use crate::Spot;
 use dec_onewire::net::crc8;
 use decoder_core::{Outs, span_note, span_piece};
-use la_base::{Out, Packet};
+use la_base::Out;
 
 /// A note from the start of one byte to the end of another.
-pub fn note_over(class: u16, first: Packet, last: Packet, a: u64, b: u64) -> Out
+pub fn note_over(class: u16, first: Spot, last: Spot, a: u64, b: u64) -> Out
     ensures { result ≡ note_over class first last a b }
 {
     span_note(class, first.start, last.end, a, b)
 }
 
-fn byte_piece(byte: Packet) -> Out
+fn byte_piece(byte: Spot) -> Out
     ensures { result ≡ byte_piece byte }
 {
-    span_piece(0, byte.start, byte.end, byte_of(byte))
+    span_piece(0, byte.start, byte.end, byte.byte)
 }
 
 // The byte of this place.
-fn nth(bytes: &[Packet], place: usize) -> Packet
+fn nth(bytes: &[Spot], place: usize) -> Spot
     requires { place < length bytes.now }
     ensures { result ≡ nth bytes.now place }
 {
     bytes[place]
 }
 
-fn value(bytes: &[Packet], place: usize) -> u8
+fn value(bytes: &[Spot], place: usize) -> u8
     requires { place < length bytes.now }
     ensures { result ≡ value bytes.now place }
 {
-    byte_of(nth(bytes, place))
+    nth(bytes, place).byte
 }
 
 // What bits 6 and 5 of a configuration say.
@@ -59,7 +59,7 @@ fn temperature(low: u8, high: u8, configuration: u8) -> u64
 }
 
 // The CRC of the first eight bytes.
-fn crc_of(bytes: &[Packet]) -> u8
+fn crc_of(bytes: &[Spot]) -> u8
     requires { 8 ≤ length bytes.now }
     ensures { result ≡ crc_of bytes.now }
 {
@@ -76,7 +76,7 @@ fn crc_of(bytes: &[Packet]) -> u8
 }
 
 // Puts out a piece for each byte.
-fn give_pieces(bytes: &[Packet], into: &mut Outs)
+fn give_pieces(bytes: &[Spot], into: &mut Outs)
     requires { length into.old + length bytes.now ≤ 16 }
     ensures { into.new ≡ into.old ++ map byte_piece bytes.now }
 {
@@ -87,7 +87,7 @@ fn give_pieces(bytes: &[Packet], into: &mut Outs)
 
 /// Puts out what a scratchpad says whose first eight bytes these are, with the ninth: temperature, limits, resolution, whether
 /// the CRC is right, and the bytes.
-pub fn give_scratchpad(bytes: &[Packet], last: Packet, into: &mut Outs)
+pub fn give_scratchpad(bytes: &[Spot], last: Spot, into: &mut Outs)
     requires length { length bytes.now ≡ 8 }
     requires empty { into.old ≡ [] }
     ensures { into.new ≡ scratchpad_outs bytes.now last }
@@ -99,19 +99,19 @@ pub fn give_scratchpad(bytes: &[Packet], last: Packet, into: &mut Outs)
     into.push(note_over(2, nth(bytes, 2), nth(bytes, 3), high as u64, low as u64));
     let bits = resolution(configuration);
     into.push(note_over(3, nth(bytes, 4), nth(bytes, 4), bits, 0));
-    let wrong = crc_of(bytes) != byte_of(last);
+    let wrong = crc_of(bytes) != last.byte;
     into.push(note_over(4, last, last, wrong as u64, 0));
     give_pieces(bytes, into);
     into.push(byte_piece(last));
 }
 
 /// Puts out what is written to a scratchpad: the limits, which these bytes are, and the resolution.
-pub fn give_written(bytes: &[Packet], last: Packet, into: &mut Outs)
+pub fn give_written(bytes: &[Spot], last: Spot, into: &mut Outs)
     requires length { length bytes.now ≡ 2 }
     requires empty { into.old ≡ [] }
     ensures { into.new ≡ written_outs bytes.now last }
 {
     let (high, low) = (value(bytes, 0), value(bytes, 1));
     into.push(note_over(5, nth(bytes, 0), nth(bytes, 1), high as u64, low as u64));
-    into.push(note_over(6, last, last, resolution(byte_of(last)), 0));
+    into.push(note_over(6, last, last, resolution(last.byte), 0));
 }

@@ -1,11 +1,11 @@
 // A transaction, packet by packet.
 ghost use Rattle.std.specs.Prelude.{◌≡◌, ◌≤◌, [], if◌then◌else◌};
 ghost use Rattle.dev_ds18b20.specs.Probe.{is_byte, is_own};
-ghost use Rattle.dev_ds18b20.specs.Held.{byte_gives, gathers_next, opened, stage_behind, transaction_gives, transaction_next};
+ghost use Rattle.dev_ds18b20.specs.laws.Held.{byte_gives, gathers_next, stage_behind, transaction_gives, transaction_next};
 
-use crate::bytes::byte_of;
+use crate::bytes::spot_of;
 use crate::scratchpad::{give_scratchpad, give_written, note_over};
-use crate::{Bytes, Stage, Transaction};
+use crate::{Spot, Stage, Transaction};
 use decoder_core::Outs;
 use la_base::{Packet, PacketKind};
 
@@ -49,25 +49,14 @@ fn stage_by(packet: Packet) -> Stage
 }
 
 impl Transaction {
-    /// A transaction whose reset starts here.
-    pub fn new(start: u64) -> Transaction
-        ensures { result ≡ opened start Stage.Foreign [] }
-    {
-        Transaction {
-            start,
-            stage: Stage::Foreign,
-            bytes: Bytes::new(),
-        }
-    }
-
     // Puts out what a byte says.
-    fn give_byte(&self, byte: Packet, into: &mut Outs)
+    fn give_byte(&self, byte: Spot, into: &mut Outs)
         requires { into.old ≡ [] }
         ensures { into.new ≡ byte_gives self.now.stage self.now.bytes byte }
     {
         let bytes = self.bytes.list();
         match self.stage {
-            Stage::Own => into.push(note_over(0, byte, byte, byte_of(byte) as u64, 0)),
+            Stage::Own => into.push(note_over(0, byte, byte, byte.byte as u64, 0)),
             Stage::Reads => {
                 if bytes.len() >= 8 {
                     give_scratchpad(&bytes[..8], byte, into);
@@ -89,12 +78,12 @@ impl Transaction {
         ensures { into.new ≡ transaction_gives self.now packet }
     {
         if is_byte(packet.kind) {
-            self.give_byte(packet, into);
+            self.give_byte(spot_of(packet), into);
         }
     }
 
     // Keeps a byte, of which so many and one more are told together.
-    fn gather(&mut self, most: usize, byte: Packet)
+    fn gather(&mut self, most: usize, byte: Spot)
         requires { most ≤ 8 }
         ensures { self.new ≡ gathers_next self.old.start most self.old.stage self.old.bytes byte }
     {
@@ -114,17 +103,17 @@ impl Transaction {
             Stage::Foreign => self.stage = stage_by(packet),
             Stage::Own => {
                 if is_byte(packet.kind) {
-                    self.stage = stage_behind(byte_of(packet));
+                    self.stage = stage_behind(spot_of(packet).byte);
                 }
             }
             Stage::Reads => {
                 if is_byte(packet.kind) {
-                    self.gather(8, packet);
+                    self.gather(8, spot_of(packet));
                 }
             }
             Stage::Writes => {
                 if is_byte(packet.kind) {
-                    self.gather(2, packet);
+                    self.gather(2, spot_of(packet));
                 }
             }
             Stage::Told => {}

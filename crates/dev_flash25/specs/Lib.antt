@@ -1,5 +1,4 @@
 pub mod Flash
-pub mod Held
 pub mod Texts
 pub mod Opening
 pub mod Rows

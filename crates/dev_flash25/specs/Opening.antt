@@ -1,10 +1,16 @@
--- How a flash is opened.
-use Rattle.std.specs.Prelude.{[], Result, Ok, Err}
-use Rattle.decoder_core.specs.declared.faults.OptFault.{OptFault}
-use Rattle.dev_flash25.specs.declared.held.Flash.{Flash}
-use Rattle.dev_flash25.specs.Held.{StandsFor}
+-- What a decoder of a flash stands for.
+use Rattle.std.specs.Prelude.{List}
+use Rattle.la_base.specs.declared.wires.Packet.{Packet}
+use Rattle.packet_walks.specs.declared.transacting.Transacting.{Transacting}
+use Rattle.packet_walks.specs.laws.Transacting as transacting
+use Rattle.dev_flash25.specs.declared.held.FlashOpts.{FlashOpts}
+use Rattle.dev_flash25.specs.declared.held.Open.{Open}
+use Rattle.dev_flash25.specs.Flash.{flash}
+use Rattle.dev_flash25.specs.laws.Held.{flash_steps, open_kept}
 
--- a decoder that stands for no packets; nothing is refused
-abbrev pub Opens : Result Flash OptFault → Type 0
-Opens (Ok machine) = StandsFor machine []
-Opens (Err fault) = ⊥
+abbrev pub FlashDecoder : Type 0
+FlashDecoder = Transacting Open FlashOpts
+
+-- it stands for packets: it keeps what they leave
+abbrev pub StandsFor : FlashDecoder → List Packet → Type 0
+StandsFor machine packets = transacting.StandsFor flash flash_steps open_kept machine packets

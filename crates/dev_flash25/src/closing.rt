@@ -1,6 +1,6 @@
 // What the deselect says behind the words of a transaction.
 ghost use Rattle.std.specs.Prelude.{◌≡◌, []};
-ghost use Rattle.dev_flash25.specs.Held.{bare_summary, count_summary, said_summary, whole_summary, words_close};
+ghost use Rattle.dev_flash25.specs.laws.Held.{bare_summary, count_summary, said_summary, whole_summary, words_close};
 
 use crate::{Command, Said, Words};
 use decoder_core::{Outs, span_note};

@@ -1,4 +1,5 @@
 // What a decoder of a serial flash is made of.
+use packet_walks::Transacting;
 
 /// A flash has no options.
 #[derive(Clone, Copy, Debug, PartialEq, Eq)]
@@ -61,12 +62,9 @@ pub enum Words {
 /// A transaction that is open: where its select starts, and its words.
 #[derive(Clone, Copy, Debug, PartialEq, Eq)]
 pub struct Open {
-    pub start: u64,
-    pub words: Words,
+    pub(crate) start: u64,
+    pub(crate) words: Words,
 }
 
 /// A decoder of a serial flash between two packets.
-#[derive(Drop)]
-pub struct Flash {
-    pub(crate) held: Option<Open>,
-}
+pub type Flash = Transacting<Open>;

@@ -4,12 +4,11 @@
 mod closing;
 mod held;
 mod machine;
-mod opening;
 mod rows;
 mod texts;
 mod words;
 
-pub use held::{Command, Flash, FlashOpts};
-use held::{Open, Said, Words};
+pub use held::{Command, Flash, FlashOpts, Open};
+use held::{Said, Words};
 pub use rows::rows_hold;
 pub use texts::text;

@@ -1,13 +1,11 @@
 -- What the outputs of a sound walk over packets promise.
-use Rattle.std.specs.Prelude.{ℕ, ◌≡◌, List, Some}
+use Rattle.std.specs.Prelude.{ℕ, ◌≡◌, List}
 use Rattle.la_base.specs.declared.wires.Out.{Out}
 use Rattle.la_base.specs.declared.wires.Packet.{Packet}
 use Rattle.la_base.specs.declared.wires.Wire.{Wire}
-use Rattle.la_base.specs.declared.wires.Wire.TheVariants.{Nothing as NoWire}
 use Rattle.decoder_core.specs.Packets.{AllCount, IsPacketFloor, PacketsStayInOrder, last_start}
 use Rattle.decoder_core.specs.Promises.{AddsFew, GivesNothing, GivesOn, KeepsFront}
 use Rattle.packet_walks.specs.Walks.{PacketWalk, SoundPackets, PushedPackets}
-use Rattle.packet_walks.specs.Transactions.{Device, transaction_outs, transaction_near, Steps, transaction_walk, held_of, Pushed, Sound}
 
 -- nothing, prefix, few, wire, order, and the floor of all later packets
 pub record Promises {H : Type 0} (w : PacketWalk H) (wants gives : Wire) (outs : List Packet → List Out) (kept : List Packet → H) : Type 0 where
@@ -27,15 +25,3 @@ abbrev pub KeepsPromises : Type 0 → Type 0
 KeepsPromises H =
     (w : PacketWalk H) (wants gives : Wire) (outs : List Packet → List Out) (kept : List Packet → H)
     → SoundPackets w gives (Reached wants kept) → PushedPackets w outs kept → Promises w wants gives outs kept
-
--- a transaction that packets leave open which count
-abbrev pub ReachedOpen : {O : Type 0} (device : Device) → Steps O → Wire → (Packet → List Packet → O) → O → ℕ → Type 0
-ReachedOpen device steps wants kept o last = Reached wants (held_of device steps kept) (Some o) last
-
--- the outputs of a device that owes what it does with one packet of a transaction keep them, and the floor is the near place
-abbrev pub TransactionsKeepPromises : Type 0 → Type 0
-TransactionsKeepPromises O =
-    (device : Device) (steps : Steps O) (wants : Wire) (kept : Packet → List Packet → O)
-    → Sound device steps (ReachedOpen device steps wants kept) → Pushed device steps kept → ((first : Packet) (packets : List Packet) → steps.start (kept first packets) ≡ first.start)
-    → Promises (transaction_walk device steps) wants NoWire (transaction_outs device) (held_of device steps kept)
-    × ((seen : List Packet) → IsPacketFloor wants (transaction_outs device) seen (transaction_near device seen))

@@ -1,7 +1,8 @@
 // Laws of walks over packets, each on a function that does nothing.
 ghost use Rattle.std.specs.Prelude.{ℕ, List};
 ghost use Rattle.la_base.specs.declared.wires.Packet.{Packet};
-ghost use Rattle.packet_walks.specs.Promises.{KeepsPromises, TransactionsKeepPromises};
+ghost use Rattle.packet_walks.specs.Promises.{KeepsPromises};
+ghost use Rattle.packet_walks.specs.laws.TransactionPromises.{TransactionsKeepPromises};
 
 /// What follows for outputs that go on as a sound walk over packets says. No packets give nothing, what was given stays, one more
 /// packet adds at most 16 outputs, packets are of the wire that is given, their starts never fall, and nothing that more packets

@@ -18,8 +18,8 @@ use Rattle.dev_eeprom24.specs.declared.chip.Chip.{Chip}
 use Rattle.dev_eeprom24.specs.Eeprom.{pointer, reads_of, set_to, sets}
 use Rattle.dev_eeprom24.specs.laws.EepromLaws.{numbered_all}
 use Rattle.dev_eeprom24.specs.laws.HeldLaws.{pointer_keeps, pointer_sets}
-use Rattle.packet_walks.specs.Transactions.{Device, Stretch, Cut, cut_at, from_first, stretch_outs, closed_outs}
-use Rattle.packet_walks.specs.laws.CutLaws.{cut_joins, cut_closes}
+use Rattle.packet_walks.specs.Transactions.{Device, from_first, closed_outs}
+use Rattle.packet_walks.specs.laws.CutLaws.{ended_of, last_of, ended_stay, last_grows, ended_grow, last_begins}
 use Rattle.dev_flash25.specs.Flash.{last_in}
 use Rattle.dev_flash25.specs.laws.WordLaws.{last_more}
 use Rattle.plain_devices.specs.declared.phases.Meaning.{Meaning}
@@ -120,29 +120,23 @@ module _ (device : Device) (packets : List Packet) (i : ℕ) (packet : Packet) (
   abbrev front : List Packet
   front = take i packets
 
-  abbrev before : Cut
-  before = cut_at device.ends front
+  abbrev longer : List Packet
+  longer = take (i + 1) packets
 
-  abbrev after : Cut
-  after = cut_at device.ends (take (i + 1) packets)
+  grown : front ++ packet ∷ [] ≡ longer
+  grown = sym (next_taken packets i packet within is)
 
-  pub cut_round_ends : device.ends packet ≡ true → (now next : List Out) (rest last : List Packet) → now ≡ flat_map (stretch_outs device) before.ended → rest ≡ before.rest
+  pub cut_round_ends : device.ends packet ≡ true → (now next : List Out) (rest last : List Packet) → now ≡ ended_of device front → rest ≡ last_of device front
       → next ≡ now ++ closed_outs device (from_first device.begins rest) → last ≡ packet ∷ []
-      → (next ≡ flat_map (stretch_outs device) after.ended) × (last ≡ after.rest)
-  cut_round_ends ends now next rest last so_far left adds alone =
-      let cut = ap (cut_at device.ends) (next_taken packets i packet within is) ∙ cut_closes packet device.ends front ends in
-      let stretch : Stretch = record { packets = before.rest; ended_by = packet } in (
-        adds ∙ (λ j. so_far j ++ closed_outs device (from_first device.begins (left j)))
-            ∙ ap (λ (l : List Out). flat_map (stretch_outs device) before.ended ++ l) (sym (append-nil (stretch_outs device stretch)))
-            ∙ sym (flat_map-append (stretch_outs device) before.ended (stretch ∷ []))
-            ∙ ap (λ (c : Cut). flat_map (stretch_outs device) c.ended) (sym cut),
-        alone ∙ ap (λ (c : Cut). c.rest) (sym cut),
-      )
+      → (next ≡ ended_of device longer) × (last ≡ last_of device longer)
+  cut_round_ends ends now next rest last so_far left adds alone = (
+    adds ∙ (λ j. so_far j ++ closed_outs device (from_first device.begins (left j))) ∙ sym (ended_grow device packet front ends) ∙ ap (ended_of device) grown,
+    alone ∙ sym (last_begins device packet front ends) ∙ ap (last_of device) grown,
+  )
 
-  pub cut_round_joins : device.ends packet ≡ false → (now : List Out) (rest longer : List Packet) → now ≡ flat_map (stretch_outs device) before.ended → rest ≡ before.rest → longer ≡ rest ++ packet ∷ []
-      → (now ≡ flat_map (stretch_outs device) after.ended) × (longer ≡ after.rest)
-  cut_round_joins ends now rest longer so_far left adds =
-      let cut = ap (cut_at device.ends) (next_taken packets i packet within is) ∙ cut_joins packet device.ends front ends in (
-        so_far ∙ ap (λ (c : Cut). flat_map (stretch_outs device) c.ended) (sym cut),
-        adds ∙ ap (λ (l : List Packet). l ++ packet ∷ []) left ∙ ap (λ (c : Cut). c.rest) (sym cut),
-      )
+  pub cut_round_joins : device.ends packet ≡ false → (now : List Out) (rest more : List Packet) → now ≡ ended_of device front → rest ≡ last_of device front → more ≡ rest ++ packet ∷ []
+      → (now ≡ ended_of device longer) × (more ≡ last_of device longer)
+  cut_round_joins ends now rest more so_far left adds = (
+    so_far ∙ sym (ended_stay device packet front ends) ∙ ap (ended_of device) grown,
+    adds ∙ ap (λ (l : List Packet). l ++ packet ∷ []) left ∙ sym (last_grows device packet front ends) ∙ ap (last_of device) grown,
+  )

@@ -1,11 +1,12 @@
 //! A thermometer DS18B20: each transaction is told by its bytes.
 ghost use Rattle.std.specs.Prelude.{◌≡◌, ◌<◌, ◌≤◌, ◌++◌, ◌∷◌, [], Option, length, map, IfOk, OnOk};
-ghost use Rattle.dev_ds18b20.specs.Probe.{behind_function, behind_own, byte_of, byte_piece, bytes_in, bytes_outs, crc_of, first_bytes, is_byte, is_own, note_over, nth, own_outs, probe, probe_outs, resolution, scratchpad_outs, steps_of, temperature, value, written_outs};
+ghost use Rattle.dev_ds18b20.specs.Probe.{behind_function, behind_own, byte_piece, bytes_in, bytes_outs, crc_of, first_bytes, is_byte, is_own, note_over, nth, own_outs, probe, probe_outs, resolution, scratchpad_outs, spot_of, steps_of, temperature, value, written_outs};
 ghost use Rattle.plain_devices.specs.ProbeParts.{behind};
 
 use crate::transactions::{Transacts, outputs_by};
 use dec_onewire::net::crc8;
 use decoder_core::{span_note, span_piece};
+use dev_ds18b20::Spot;
 use la_base::{Out, Packet, PacketKind};
 use std::alloc::{AllocError, Global};
 
@@ -26,37 +27,42 @@ fn is_own(packet: Packet) -> bool
     }
 }
 
-fn byte_of(packet: Packet) -> u8
-    ensures { result ≡ byte_of packet }
+// A packet of a byte as its byte and its span.
+fn spot_of(packet: Packet) -> Spot
+    ensures { result ≡ spot_of packet }
 {
-    (packet.a % 256) as u8
+    Spot {
+        start: packet.start,
+        end: packet.end,
+        byte: (packet.a % 256) as u8,
+    }
 }
 
-fn note_over(class: u16, first: Packet, last: Packet, a: u64, b: u64) -> Out
+fn note_over(class: u16, first: Spot, last: Spot, a: u64, b: u64) -> Out
     ensures { result ≡ note_over class first last a b }
 {
     span_note(class, first.start, last.end, a, b)
 }
 
-fn byte_piece(byte: Packet) -> Out
+fn byte_piece(byte: Spot) -> Out
     ensures { result ≡ byte_piece byte }
 {
-    span_piece(0, byte.start, byte.end, byte_of(byte))
+    span_piece(0, byte.start, byte.end, byte.byte)
 }
 
 // The byte of this place.
-fn nth(bytes: &[Packet], place: usize) -> Packet
+fn nth(bytes: &[Spot], place: usize) -> Spot
     requires { place < length bytes.now }
     ensures { result ≡ nth bytes.now place }
 {
     bytes[place]
 }
 
-fn value(bytes: &[Packet], place: usize) -> u8
+fn value(bytes: &[Spot], place: usize) -> u8
     requires { place < length bytes.now }
     ensures { result ≡ value bytes.now place }
 {
-    byte_of(nth(bytes, place))
+    nth(bytes, place).byte
 }
 
 // What bits 6 and 5 of a configuration say.
@@ -82,7 +88,7 @@ fn temperature(low: u8, high: u8, configuration: u8) -> u64
 }
 
 // The CRC of the first eight bytes.
-fn crc_of(bytes: &[Packet]) -> u8
+fn crc_of(bytes: &[Spot]) -> u8
     requires { 8 ≤ length bytes.now }
     ensures { result ≡ crc_of bytes.now }
 {
@@ -111,19 +117,19 @@ fn behind_own(packets: &[Packet]) -> Option<&[Packet]>
     None
 }
 
-// Appends a packet to bytes, if it is one.
-fn add_if_byte(packet: Packet, bytes: &mut Vec<Packet>) -> Result<(), AllocError>
+// Appends the byte of a packet, if it is one.
+fn add_if_byte(packet: Packet, bytes: &mut Vec<Spot>) -> Result<(), AllocError>
     ensures { OnOk result (bytes.new.items ≡ bytes.old.items ++ bytes_in (packet ∷ [])) }
 {
     if !is_byte(packet.kind) {
         return Ok(());
     }
-    bytes.push(packet)?;
+    bytes.push(spot_of(packet))?;
     Ok(())
 }
 
 // The bytes among packets.
-fn bytes_in(alloc: Global, packets: &[Packet]) -> Result<Vec<Packet>, AllocError>
+fn bytes_in(alloc: Global, packets: &[Packet]) -> Result<Vec<Spot>, AllocError>
     ensures { IfOk result (λ bytes. bytes.items ≡ bytes_in packets.now) }
 {
     let mut bytes = Vec::new(alloc);
@@ -134,7 +140,7 @@ fn bytes_in(alloc: Global, packets: &[Packet]) -> Result<Vec<Packet>, AllocError
 }
 
 // Appends a piece for each byte.
-fn add_pieces(bytes: &[Packet], outs: &mut Vec<Out>) -> Result<(), AllocError>
+fn add_pieces(bytes: &[Spot], outs: &mut Vec<Out>) -> Result<(), AllocError>
     ensures { OnOk result (outs.new.items ≡ outs.old.items ++ map byte_piece bytes.now) }
 {
     for byte in bytes {
@@ -144,7 +150,7 @@ fn add_pieces(bytes: &[Packet], outs: &mut Vec<Out>) -> Result<(), AllocError>
 }
 
 // Appends what a scratchpad says whose first eight bytes these are.
-fn add_scratchpad(bytes: &[Packet], last: Packet, outs: &mut Vec<Out>) -> Result<(), AllocError>
+fn add_scratchpad(bytes: &[Spot], last: Spot, outs: &mut Vec<Out>) -> Result<(), AllocError>
     requires { length bytes.now ≡ 8 }
     ensures { OnOk result (outs.new.items ≡ outs.old.items ++ scratchpad_outs bytes.now last) }
 {
@@ -155,7 +161,7 @@ fn add_scratchpad(bytes: &[Packet], last: Packet, outs: &mut Vec<Out>) -> Result
     outs.push(note_over(2, nth(bytes, 2), nth(bytes, 3), high as u64, low as u64))?;
     let bits = resolution(configuration);
     outs.push(note_over(3, nth(bytes, 4), nth(bytes, 4), bits, 0))?;
-    let wrong = crc_of(bytes) != byte_of(last);
+    let wrong = crc_of(bytes) != last.byte;
     outs.push(note_over(4, last, last, wrong as u64, 0))?;
     add_pieces(bytes, outs)?;
     outs.push(byte_piece(last))?;
@@ -163,18 +169,18 @@ fn add_scratchpad(bytes: &[Packet], last: Packet, outs: &mut Vec<Out>) -> Result
 }
 
 // Appends what is written to a scratchpad.
-fn add_written(bytes: &[Packet], last: Packet, outs: &mut Vec<Out>) -> Result<(), AllocError>
+fn add_written(bytes: &[Spot], last: Spot, outs: &mut Vec<Out>) -> Result<(), AllocError>
     requires { length bytes.now ≡ 2 }
     ensures { OnOk result (outs.new.items ≡ outs.old.items ++ written_outs bytes.now last) }
 {
     let (high, low) = (value(bytes, 0), value(bytes, 1));
     outs.push(note_over(5, nth(bytes, 0), nth(bytes, 1), high as u64, low as u64))?;
-    outs.push(note_over(6, last, last, resolution(byte_of(last)), 0))?;
+    outs.push(note_over(6, last, last, resolution(last.byte), 0))?;
     Ok(())
 }
 
 // Appends what nine bytes say that are read, if there are so many.
-fn add_read(bytes: &[Packet], outs: &mut Vec<Out>) -> Result<(), AllocError>
+fn add_read(bytes: &[Spot], outs: &mut Vec<Out>) -> Result<(), AllocError>
     ensures { OnOk result (outs.new.items ≡ outs.old.items ++ first_bytes 8 scratchpad_outs bytes.now) }
 {
     if bytes.len() < 9 {
@@ -185,7 +191,7 @@ fn add_read(bytes: &[Packet], outs: &mut Vec<Out>) -> Result<(), AllocError>
 }
 
 // Appends what three bytes say that are written, if there are so many.
-fn add_three(bytes: &[Packet], outs: &mut Vec<Out>) -> Result<(), AllocError>
+fn add_three(bytes: &[Spot], outs: &mut Vec<Out>) -> Result<(), AllocError>
     ensures { OnOk result (outs.new.items ≡ outs.old.items ++ first_bytes 2 written_outs bytes.now) }
 {
     if bytes.len() < 3 {
@@ -196,7 +202,7 @@ fn add_three(bytes: &[Packet], outs: &mut Vec<Out>) -> Result<(), AllocError>
 }
 
 // Appends what the bytes behind a function say.
-fn add_behind(function: u8, bytes: &[Packet], outs: &mut Vec<Out>) -> Result<(), AllocError>
+fn add_behind(function: u8, bytes: &[Spot], outs: &mut Vec<Out>) -> Result<(), AllocError>
     ensures { OnOk result (outs.new.items ≡ outs.old.items ++ behind_function function bytes.now) }
 {
     match function {
@@ -207,12 +213,12 @@ fn add_behind(function: u8, bytes: &[Packet], outs: &mut Vec<Out>) -> Result<(),
 }
 
 // Appends what the bytes of a transaction say.
-fn add_bytes(bytes: &[Packet], outs: &mut Vec<Out>) -> Result<(), AllocError>
+fn add_bytes(bytes: &[Spot], outs: &mut Vec<Out>) -> Result<(), AllocError>
     ensures { OnOk result (outs.new.items ≡ outs.old.items ++ bytes_outs bytes.now) }
 {
     match bytes.split_first() {
         Some((function, others)) => {
-            let byte = byte_of(*function);
+            let byte = function.byte;
             outs.push(note_over(0, *function, *function, byte as u64, 0))?;
             add_behind(byte, others, outs)
         }

@@ -1,12 +1,12 @@
 -- The walk over packets of SPI is sound.
-use Rattle.std.proofs.Common.{◌≡◌, ℕ, ◌≤◌, Bool, true, false, if◌then◌else◌, ◌==◌, List, [], ◌∷◌, length, refl, arith}
+use Rattle.std.proofs.Common.{ℕ, ◌≤◌, Bool, true, false, if◌then◌else◌, ◌==◌, List, [], ◌∷◌, length, arith}
 use Rattle.std.specs.Prelude.{min}
 use Rattle.std.proofs.Math.Nat.{le_refl}
 use Rattle.la_base.specs.declared.wires.Out.{Out}
 use Rattle.la_base.specs.declared.wires.Packet.{Packet}
 use Rattle.decoder_core.specs.Outputs.{span_note}
 use Rattle.decoder_core.specs.Promises.{NotesFrom}
-use Rattle.packet_walks.specs.Transactions.{NoPackets, Sound}
+use Rattle.packet_walks.specs.laws.Steps.{NoPackets, Sound}
 use Rattle.dev_flash25.specs.declared.held.Command.{Command}
 use Rattle.dev_flash25.specs.declared.held.Command.TheVariants.{Id, Status, WriteStatus, Read, FastRead, Program, EraseSector, EraseBlock, EraseChip, Other}
 use Rattle.dev_flash25.specs.declared.held.Said.{Said}
@@ -15,7 +15,7 @@ use Rattle.dev_flash25.specs.declared.held.Words.{Words}
 use Rattle.dev_flash25.specs.declared.held.Words.TheVariants.{Empty, Begun}
 use Rattle.dev_flash25.specs.declared.held.Open.{Open}
 use Rattle.dev_flash25.specs.Flash.{is_word, flash}
-use Rattle.dev_flash25.specs.Held.{has_number, has_dummy, rest_begun, number_next, said_next, each_outs, data_outs, said_gives, count_summary, whole_summary, bare_summary, said_summary, words_next, words_give, words_close, open_next, open_gives, flash_steps, whole_begun}
+use Rattle.dev_flash25.specs.laws.Held.{has_number, has_dummy, rest_begun, number_next, said_next, each_outs, data_outs, said_gives, count_summary, whole_summary, bare_summary, said_summary, words_next, words_give, words_close, open_next, open_gives, flash_steps, whole_begun}
 
 -- what has begun starts no earlier than the select, and the select no later than the last packet
 abbrev said_fits : ℕ → Said → Type 0
@@ -212,20 +212,20 @@ module _ (kept : Open) (last : ℕ) (p : Packet) (fit : flash_fits kept last) (a
       by true = notes_words kept.start p later kept.words fit.1
       by false = tt
 
-start_stays : (kept : Open) (p : Packet) → (open_next kept p).start ≡ kept.start
+start_stays : (kept : Open) (p : Packet) → kept.start ≤ (open_next kept p).start
 start_stays kept p = by (is_word p.kind)
   where
-    by : (t : Bool) → (if t then record { start = kept.start; words = words_next kept.words p } else kept).start ≡ kept.start
-    by true = refl
-    by false = refl
+    by : (t : Bool) → kept.start ≤ (if t then record { start = kept.start; words = words_next kept.words p } else kept).start
+    by true = le_refl kept.start
+    by false = le_refl kept.start
 
 pub flash_sound : Sound flash flash_steps flash_fits
 flash_sound = record {
   opens_fits = λ p. (le_refl p.start, tt);
   next_fits = fits_next;
-  start_opens = λ p. refl;
-  start_next = start_stays;
-  start_below = λ kept last fit. fit.0;
+  opens_near = λ p. le_refl p.start;
+  next_near = λ kept last p fit after. start_stays kept p;
+  near_below = λ kept last fit. fit.0;
   few = λ kept p. (few_gives kept p).0;
   few_closing = λ kept. (few_closing kept.words).0;
   no_packet = λ kept p. (few_gives kept p).1;

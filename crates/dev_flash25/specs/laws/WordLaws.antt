@@ -2,7 +2,7 @@
 use Rattle.std.proofs.Common.{◌≡◌, ℕ, ◌+◌, ◌-◌, ◌%◌, Bool, true, false, if◌then◌else◌, ◌==◌, List, [], ◌∷◌, ◌++◌, length, refl, sym, ◌∙◌, ap, arith, length-append}
 use Rattle.std.specs.Prelude.{◌^◌, min}
 use Rattle.std.specs.List.{flat_map}
-use Rattle.std.proofs.Math.Nat.{mod-add-mod}
+use Rattle.std.proofs.Math.Nat.{le_refl, mod-add-mod}
 use Rattle.std.proofs.lemmas.Bool.Decides.{nat_tests}
 use Rattle.std.proofs.lemmas.Grind.{flat_map-append}
 use Rattle.std.proofs.lemmas.List.{append-nil}
@@ -11,7 +11,7 @@ use Rattle.la_base.specs.declared.wires.Out.{Out}
 use Rattle.la_base.specs.declared.wires.Packet.{Packet}
 use Rattle.decoder_core.specs.Outputs.{span_note}
 use Rattle.list_cuts.proofs.AlongLaws.{along_push}
-use Rattle.packet_walks.specs.Transactions.{Pushed}
+use Rattle.packet_walks.specs.laws.Steps.{Pushed}
 use Rattle.dev_flash25.specs.declared.held.Command.{Command}
 use Rattle.dev_flash25.specs.declared.held.Command.TheVariants.{Id, Status, WriteStatus, Read, FastRead, Program, EraseSector, EraseBlock, EraseChip, Other}
 use Rattle.dev_flash25.specs.declared.held.Said.TheVariants.{Nothing, Dummy, Whole}
@@ -19,7 +19,7 @@ use Rattle.dev_flash25.specs.declared.held.Words.{Words}
 use Rattle.dev_flash25.specs.declared.held.Words.TheVariants.{Begun}
 use Rattle.dev_flash25.specs.declared.held.Open.{Open}
 use Rattle.dev_flash25.specs.Flash.{is_word, mosi, words_in, command_of, word_note, status_outs, written_outs, address, read_outs, program_outs, in_page, reads, programs, behind, words_outs, data_summary, summary, last_in, words_summary, flash}
-use Rattle.dev_flash25.specs.Held.{has_number, has_dummy, room_of, whole_kept, dummy_kept, rest_kept, number_kept, said_kept, whole_begun, number_next, said_next, said_gives, count_summary, said_summary, words_kept, words_next, words_give, words_close, open_kept, open_next, open_gives, flash_steps}
+use Rattle.dev_flash25.specs.laws.Held.{has_number, has_dummy, room_of, whole_kept, dummy_kept, rest_kept, number_kept, said_kept, whole_begun, number_next, said_next, said_gives, count_summary, said_summary, words_kept, words_next, words_give, words_close, open_kept, open_next, open_gives, flash_steps}
 
 -- the place of a byte of data, and how many there are
 place_none : (n m : ℕ) → (n + 0) % m ≡ n % m
@@ -220,4 +220,5 @@ flash_pushed = record {
   inside_push = tells;
   kept_push = keeps;
   closing_is = λ first ps. words_closing (words_in ps);
+  near_after = λ first ps last. le_refl first.start;
 }

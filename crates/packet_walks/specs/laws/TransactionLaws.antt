@@ -1,8 +1,6 @@
 -- A device that owes what it does with one packet of a transaction walks soundly over all packets.
 use Rattle.std.proofs.Common.{◌≡◌, ℕ, ◌≤◌, Bool, true, false, cond, if◌then◌else◌, List, [], ◌∷◌, ◌++◌, length, Option, Some, None, refl, sym, ◌∙◌, ap, subst, append_assoc, arith}
 use Rattle.std.proofs.Math.Nat.{le_refl}
-use Rattle.std.specs.List.{flat_map}
-use Rattle.std.proofs.lemmas.Grind.{flat_map-append}
 use Rattle.std.proofs.lemmas.List.{append-nil}
 use Rattle.la_base.specs.declared.wires.Out.{Out}
 use Rattle.la_base.specs.declared.wires.Out.TheVariants.{Note as NoteOut, Piece as PieceOut, Packet as PacketOut}
@@ -13,10 +11,11 @@ use Rattle.decoder_core.specs.Packets.{IsPacketFloor, last_start}
 use Rattle.decoder_core.specs.Promises.{NotesFrom, PacketsOn, packet_starts}
 use Rattle.sample_walks.specs.Walks.{Between}
 use Rattle.packet_walks.specs.Walks.{SoundPackets, PushedPackets}
-use Rattle.packet_walks.specs.Transactions.{Stretch, Cut, cut_at, from_first, Device, closed_outs, open_outs, stretch_outs, cut_outs, transaction_outs, open_part, begun_at, transaction_near, NoPackets, Steps, begin_next, held_gives, held_next, held_near, transaction_walk, held_in, held_of, Pushed, Sound}
+use Rattle.packet_walks.specs.Transactions.{from_first, Device, closed_outs, open_outs, transaction_outs, open_part, begun_at, transaction_near}
 use Rattle.packet_walks.specs.Promises.{Promises}
-use Rattle.packet_walks.specs.laws.WalkLaws.{walk_nothing, walk_prefix, walk_few, walk_on, walk_order, walk_floor}
-use Rattle.packet_walks.specs.laws.CutLaws.{grown_first, cut_joins, cut_closes, first_push}
+use Rattle.packet_walks.specs.laws.Steps.{NoPackets, Steps, begin_next, held_gives, held_next, held_near, transaction_walk, held_in, held_of, Pushed, Sound}
+use Rattle.packet_walks.specs.laws.WalkLaws.{notes_from_less, walk_nothing, walk_prefix, walk_few, walk_on, walk_order, walk_floor}
+use Rattle.packet_walks.specs.laws.CutLaws.{grown_first, first_push, ended_of, last_of, ended_stay, last_grows, ended_grow, last_begins}
 
 -- outputs without a packet are of any wire
 pub any_wire : (wire : Wire) (outs : List Out) → NoPackets outs → PacketsOn wire outs
@@ -78,14 +77,14 @@ module _ {O : Type 0} (device : Device) (steps : Steps O) where
       alone_held false = refl
 
       module _ (xs : List Packet) where
-        abbrev cut : Cut
-        cut = cut_at device.ends xs
+        abbrev more : List Packet
+        more = xs ++ p ∷ []
 
         abbrev part : List Packet
-        part = from_first device.begins cut.rest
+        part = open_part device xs
 
         abbrev before : List Out
-        before = flat_map (stretch_outs device) cut.ended
+        before = ended_of device xs
 
         abbrev given : List Out
         given = before ++ open_outs device part
@@ -106,42 +105,37 @@ module _ {O : Type 0} (device : Device) (steps : Steps O) where
         next_yes None is = refl
         next_yes (Some o) is = sym (ap (λ (t : Bool). if t then begin_next device steps p else Some (steps.next o p)) is)
 
-        abbrev More : Type 0
-        More =
-            (cut_outs device (cut_at device.ends (xs ++ p ∷ [])) ≡ cut_outs device cut ++ held_gives device steps (held part) p)
-            × (held (from_first device.begins (cut_at device.ends (xs ++ p ∷ [])).rest) ≡ held_next device steps (held part) p)
+        abbrev GoesOn : Type 0
+        GoesOn =
+            (ended_of device more ++ open_outs device (open_part device more) ≡ given ++ held_gives device steps (held part) p)
+            × (held (open_part device more) ≡ held_next device steps (held part) p)
 
-        joins : device.ends p ≡ false → More
+        joins : device.ends p ≡ false → GoesOn
         joins is =
-            let now = cut_joins p device.ends xs is in
-            let grown = first_push p device.begins cut.rest in (
-              ap (cut_outs device) now
-                  ∙ ap (λ (l : List Packet). before ++ open_outs device l) grown
+            let grown : open_part device more ≡ grown_first p part (device.begins p) = ap (from_first device.begins) (last_grows device p xs is) ∙ first_push p device.begins (last_of device xs) in (
+              (λ i. ended_stay device p xs is i ++ open_outs device (grown i))
                   ∙ ap (λ (l : List Out). before ++ l) (open_gives part (device.begins p))
                   ∙ sym (append_assoc before (open_outs device part) (told (held part)))
                   ∙ ap (λ (l : List Out). given ++ l) (gives_no (held part) is),
-              ap (λ (c : Cut). held (from_first device.begins c.rest)) now ∙ ap held grown ∙ open_next part ∙ next_no (held part) is,
+              ap held grown ∙ open_next part ∙ next_no (held part) is,
             )
 
-        abbrev stretch : Stretch
-        stretch = record { packets = cut.rest; ended_by = p }
-
-        ends : device.ends p ≡ true → More
+        ends : device.ends p ≡ true → GoesOn
         ends is =
-            let now = cut_closes p device.ends xs is in (
-              ap (cut_outs device) now
-                  ∙ (λ i. flat_map-append (stretch_outs device) cut.ended (stretch ∷ []) i ++ alone_gives (device.begins p) i)
-                  ∙ append-nil (before ++ (stretch_outs device stretch ++ []))
-                  ∙ ap (λ (l : List Out). before ++ l) (append-nil (stretch_outs device stretch) ∙ closes part)
+            let alone : open_part device more ≡ cond (device.begins p) (p ∷ []) [] = ap (from_first device.begins) (last_begins device p xs is) in (
+              (λ i. ended_grow device p xs is i ++ open_outs device (alone i))
+                  ∙ ap (λ (l : List Out). (before ++ closed_outs device part) ++ l) (alone_gives (device.begins p))
+                  ∙ append-nil (before ++ closed_outs device part)
+                  ∙ ap (λ (l : List Out). before ++ l) (closes part)
                   ∙ sym (append_assoc before (open_outs device part) (ends_with (held part)))
                   ∙ ap (λ (l : List Out). given ++ l) (gives_yes (held part) is),
-              ap (λ (c : Cut). held (from_first device.begins c.rest)) now ∙ alone_held (device.begins p) ∙ next_yes (held part) is,
+              ap held alone ∙ alone_held (device.begins p) ∙ next_yes (held part) is,
             )
 
-        more : More
-        more = by (device.ends p) refl
+        goes_on : GoesOn
+        goes_on = by (device.ends p) refl
           where
-            by : (t : Bool) → device.ends p ≡ t → More
+            by : (t : Bool) → device.ends p ≡ t → GoesOn
             by true is = ends is
             by false is = joins is
 
@@ -150,8 +144,8 @@ module _ {O : Type 0} (device : Device) (steps : Steps O) where
     transactions_pushed = record {
       no_outs = refl;
       no_kept = refl;
-      outs_push = λ ps p. (more p ps).0;
-      kept_push = λ ps p. (more p ps).1;
+      outs_push = λ ps p. (goes_on p ps).0;
+      kept_push = λ ps p. (goes_on p ps).1;
     }
 
   -- nothing but an open transaction has to fit
@@ -195,7 +189,7 @@ module _ {O : Type 0} (device : Device) (steps : Steps O) where
     notes None last p fit after = tt
     notes (Some kept) last p fit after = by (device.ends p)
       where
-        by : (t : Bool) → NotesFrom (steps.start kept) (if t then steps.closes kept else steps.gives kept p)
+        by : (t : Bool) → NotesFrom (steps.near kept last) (if t then steps.closes kept else steps.gives kept p)
         by true = sound.notes_closing kept last fit
         by false = sound.notes kept last p fit after
 
@@ -204,16 +198,16 @@ module _ {O : Type 0} (device : Device) (steps : Steps O) where
     near_begin low p below = by (device.begins p)
       where
         by : (t : Bool) → low ≤ held_near device steps (if t then Some (steps.opens p) else None) p.start
-        by true = subst (λ (n : ℕ). low ≤ n) (sym (sound.start_opens p)) below
+        by true = let opens = sound.opens_near p in omega (arith, below, opens)
         by false = below
 
     near_rises : (h : Option O) (last : ℕ) (p : Packet) → held_fits fits h last → last ≤ p.start → held_near device steps h last ≤ held_near device steps (held_next device steps h p) p.start
     near_rises None last p fit after = near_begin last p after
     near_rises (Some kept) last p fit after = by (device.ends p)
       where
-        by : (t : Bool) → steps.start kept ≤ held_near device steps (if t then begin_next device steps p else Some (steps.next kept p)) p.start
-        by true = let below = sound.start_below kept last fit in near_begin (steps.start kept) p (omega (arith, below, after))
-        by false = subst (λ (n : ℕ). steps.start kept ≤ n) (sym (sound.start_next kept p)) (le_refl (steps.start kept))
+        by : (t : Bool) → steps.near kept last ≤ held_near device steps (if t then begin_next device steps p else Some (steps.next kept p)) p.start
+        by true = let below = sound.near_below kept last fit in near_begin (steps.near kept last) p (omega (arith, below, after))
+        by false = sound.next_near kept last p fit after
 
     pub transactions_sound : SoundPackets (transaction_walk device steps) NoWire (held_fits fits)
     transactions_sound = record {
@@ -225,15 +219,15 @@ module _ {O : Type 0} (device : Device) (steps : Steps O) where
       packets = λ h last p fit after. subst (Between (held_near device steps h last) (held_near device steps (held_next device steps h p) p.start)) (sym (no_starts (held_gives device steps h p) (none h p))) (near_rises h last p fit after);
     }
 
-  -- the near place is the one that is kept
-  module _ (kept : Packet → List Packet → O) (starts : (first : Packet) (packets : List Packet) → steps.start (kept first packets) ≡ first.start) where
-    pub near_is : (packets : List Packet) → transaction_near device packets ≡ held_near device steps (held_of device steps kept packets) (last_start 0 packets)
+  -- the near place is no later than the one that is kept
+  module _ (kept : Packet → List Packet → O) (pushed : Pushed device steps kept) where
+    pub near_most : (packets : List Packet) → transaction_near device packets ≤ held_near device steps (held_of device steps kept packets) (last_start 0 packets)
     unfolding transaction_near held_of
-    near_is packets = by (open_part device packets)
+    near_most packets = by (open_part device packets)
       where
-        by : (part : List Packet) → begun_at device part (last_start 0 packets) ≡ held_near device steps (held_in device steps kept part) (last_start 0 packets)
-        by [] = refl
-        by (first ∷ others) = sym (starts first others)
+        by : (part : List Packet) → begun_at device part (last_start 0 packets) ≤ held_near device steps (held_in device steps kept part) (last_start 0 packets)
+        by [] = le_refl (last_start 0 packets)
+        by (first ∷ others) = pushed.near_after first others (last_start 0 packets)
 
 -- what a device promises that owes this
 module _ {O : Type 0} (device : Device) (steps : Steps O) (wants : Wire) (fits : O → ℕ → Type 0) (kept : Packet → List Packet → O) (sound : Sound device steps fits) (pushed : Pushed device steps kept) where
@@ -253,7 +247,27 @@ module _ {O : Type 0} (device : Device) (steps : Steps O) (wants : Wire) (fits :
         floor = walk_floor w outs held walks NoWire (held_fits device steps fits) walks_soundly wants;
       }
 
-  pub transactions_keep : ((first : Packet) (packets : List Packet) → steps.start (kept first packets) ≡ first.start)
-      → Promises (transaction_walk device steps) wants NoWire (transaction_outs device) (held_of device steps kept)
-      × ((seen : List Packet) → IsPacketFloor wants (transaction_outs device) seen (transaction_near device seen))
-  transactions_keep starts = (promises, λ seen. subst (IsPacketFloor wants (transaction_outs device) seen) (sym (near_is device steps kept starts seen)) (promises.floor seen))
+  pub floor_is : (seen : List Packet) → IsPacketFloor wants (transaction_outs device) seen (transaction_near device seen)
+  floor_is seen more new all is =
+      notes_from_less new (transaction_near device seen) (held_near device steps (held_of device steps kept seen) (last_start 0 seen)) (near_most device steps kept pushed seen) (promises.floor seen more new all is)
+
+  -- what is kept of packets makes the floor and the near place, and says what one more packet does
+  module _ (held : Option O) (seen : List Packet) (stands : held ≡ held_of device steps kept seen) where
+    module _ (from result : ℕ) (from_is : from ≡ last_start 0 seen) (result_is : result ≡ held_near device steps held from) where
+      same : held_near device steps (held_of device steps kept seen) (last_start 0 seen) ≡ result
+      same = sym (result_is ∙ (λ i. held_near device steps (stands i) (from_is i)))
+
+      pub kept_floor : IsPacketFloor wants (transaction_outs device) seen result
+      kept_floor = subst (IsPacketFloor wants (transaction_outs device) seen) same (promises.floor seen)
+
+      pub kept_near : transaction_near device seen ≤ result
+      kept_near = subst (λ (n : ℕ). transaction_near device seen ≤ n) same (near_most device steps kept pushed seen)
+
+    module _ (packet : Packet) where
+      pub kept_stands : (new : Option O) → new ≡ held_next device steps held packet → new ≡ held_of device steps kept (seen ++ packet ∷ [])
+      kept_stands new is = is ∙ ap (λ (h : Option O). held_next device steps h packet) stands ∙ sym ((transactions_pushed device steps kept pushed).kept_push seen packet)
+
+      pub kept_loud : (into : List Out) → into ≡ held_gives device steps held packet → transaction_outs device (seen ++ packet ∷ []) ≡ transaction_outs device seen ++ into
+      kept_loud into is =
+          (transactions_pushed device steps kept pushed).outs_push seen packet
+          ∙ ap (λ (l : List Out). transaction_outs device seen ++ l) (ap (λ (h : Option O). held_gives device steps h packet) (sym stands) ∙ sym is)

@@ -39,6 +39,13 @@ both : (xs ys : List ℕ) (low mid high : ℕ) → Between low mid xs → Betwee
 both [] ys low mid high first rest = lower ys low mid high first rest
 both (x ∷ xs) ys low mid high first rest = (first.0, both xs ys x mid high first.1 rest)
 
+-- notes that start there or later start at any earlier place or later
+pub notes_from_less : (outs : List Out) (less low : ℕ) → less ≤ low → NotesFrom low outs → NotesFrom less outs
+notes_from_less [] less low below from = tt
+notes_from_less (NoteOut note ∷ outs) less low below from = (omega (arith, below, from.0), notes_from_less outs less low below from.1)
+notes_from_less (PieceOut piece ∷ outs) less low below from = notes_from_less outs less low below from
+notes_from_less (PacketOut packet ∷ outs) less low below from = notes_from_less outs less low below from
+
 module _ {H : Type 0} (w : PacketWalk H) where
   -- what packets give one after another, and what is then kept
   abbrev given_from : H → List Packet → List Out
@@ -106,21 +113,12 @@ module _ {H : Type 0} (w : PacketWalk H) where
             subst (λ (l : List Out). IsNonDecreasing (packet_starts l)) (sym (outs_are ps))
             (never_fall (packet_starts (given_from w.begin ps)) (w.near w.begin 0) (w.near (walk_from w.begin ps) (last_start 0 ps)) (packets_from ps w.begin 0 sound.begin_fits all))
 
-        weaker : (outs : List Out) (less low : ℕ) → less ≤ low → NotesFrom low outs → NotesFrom less outs
-        weaker outs less low below from = by outs from
-          where
-            by : (outs : List Out) → NotesFrom low outs → NotesFrom less outs
-            by [] from = tt
-            by (NoteOut note ∷ outs) from = (omega (arith, below, from.0), by outs from.1)
-            by (PieceOut piece ∷ outs) from = by outs from
-            by (PacketOut packet ∷ outs) from = by outs from
-
         notes_from : (ps : List Packet) (h : H) (low last : ℕ) → fits h last → CountFrom wire last ps → low ≤ w.near h last → NotesFrom low (given_from h ps)
         notes_from [] h low last fit all below = tt
         notes_from (p ∷ ps) h low last fit all below =
             let rise = low_high (packet_starts (w.gives h p)) (w.near h last) (w.near (w.next h p) p.start) (sound.packets h last p fit all.1) in
             NotesFrom-append low (w.gives h p) (given_from (w.next h p) ps)
-            (weaker (w.gives h p) low (w.near h last) below (sound.notes h last p fit all.1))
+            (notes_from_less (w.gives h p) low (w.near h last) below (sound.notes h last p fit all.1))
             (notes_from ps (w.next h p) low p.start (sound.next_fits h last p fit all.1) all.2 (omega (arith, below, rise)))
 
         front_counts : (last : ℕ) (ps more : List Packet) → CountFrom wire last (ps ++ more) → CountFrom wire last ps

@@ -1,7 +1,8 @@
 use Rattle.std.proofs.Common.{◌∙◌, ◌<◌, ◌++◌, List, length, sym, ap, arith}
 use Rattle.std.proofs.lemmas.List.{take_all}
 use Rattle.la_base.specs.declared.wires.Packet.{Packet}
-use Rattle.packet_walks.specs.Transactions.{cut_at, cut_outs, closed_outs, from_first, open_outs, transaction_outs}
+use Rattle.packet_walks.specs.Transactions.{closed_outs, from_first, open_outs, open_part, transaction_outs}
+use Rattle.packet_walks.specs.laws.CutLaws.{ended_of}
 use Rattle.plain_devices.proofs.Rounds.{cut_round_ends, cut_round_joins}
 use Rattle.plain_devices.proofs.transactions.outputs_by.Goals.{then-ends+in_ok-add_closed+in_ok-rest, else-ends+in_ok-push}
 use Rattle.plain_devices.proofs.transactions.outputs_by.Goals as goal
@@ -32,4 +33,4 @@ returns g c =
     let whole = take_all s.packet-index c.args.packets.now (omega arith) in
     let first = c.from_first-2.ensures ∙ ap (from_first device.begins) (c.deref-2.ensures.value ∙ s.invariant.left) in
     c.in_ok-add_open.ensures ∙ (λ i. s.invariant.told i ++ open_outs device (first i))
-    ∙ ap (λ (l : List Packet). cut_outs device (cut_at device.ends l)) whole
+    ∙ ap (λ (l : List Packet). ended_of device l ++ open_outs device (open_part device l)) whole

@@ -1,9 +1,9 @@
 -- What a flash keeps between two packets, and how one packet changes that.
-use Rattle.std.specs.Prelude.{ℕ, ◌≡◌, ◌+◌, ◌-◌, ◌%◌, ◌^◌, min, Bool, true, false, ◌==◌, if◌then◌else◌, List, [], ◌∷◌, length, Option}
+use Rattle.std.specs.Prelude.{ℕ, ◌+◌, ◌-◌, ◌%◌, ◌^◌, min, Bool, true, false, ◌==◌, if◌then◌else◌, List, [], ◌∷◌, length}
 use Rattle.la_base.specs.declared.wires.Out.{Out}
 use Rattle.la_base.specs.declared.wires.Packet.{Packet}
 use Rattle.decoder_core.specs.Outputs.{span_note}
-use Rattle.packet_walks.specs.Transactions.{Steps, held_gives, held_next, held_near, held_of}
+use Rattle.packet_walks.specs.laws.Steps.{Steps}
 use Rattle.dev_flash25.specs.declared.held.Command.{Command}
 use Rattle.dev_flash25.specs.declared.held.Command.TheVariants.{Id, Status, WriteStatus, Read, FastRead, Program, EraseSector, EraseBlock, EraseChip, Other}
 use Rattle.dev_flash25.specs.declared.held.Said.{Said}
@@ -11,8 +11,7 @@ use Rattle.dev_flash25.specs.declared.held.Said.TheVariants.{Nothing, One, Two, 
 use Rattle.dev_flash25.specs.declared.held.Words.{Words}
 use Rattle.dev_flash25.specs.declared.held.Words.TheVariants.{Empty, Begun}
 use Rattle.dev_flash25.specs.declared.held.Open.{Open}
-use Rattle.dev_flash25.specs.declared.held.Flash.{Flash}
-use Rattle.dev_flash25.specs.Flash.{is_word, mosi, miso, words_in, command_of, word_note, three_bytes, status_outs, written_outs, read_outs, program_outs, last_in, flash}
+use Rattle.dev_flash25.specs.Flash.{is_word, mosi, miso, words_in, command_of, word_note, three_bytes, status_outs, written_outs, read_outs, program_outs, last_in}
 
 -- whether three bytes behind an instruction make up a number, and whether a word behind them says nothing
 abbrev pub has_number : Command → Bool
@@ -161,19 +160,5 @@ flash_steps = record {
   next = open_next;
   gives = open_gives;
   closes = λ kept. words_close kept.words;
-  start = λ kept. kept.start;
+  near = λ kept last. kept.start;
 }
-
--- what a packet gives, what is kept behind it, and where what is open starts
-abbrev pub gives : Option Open → Packet → List Out
-gives held packet = held_gives flash flash_steps held packet
-
-abbrev pub next : Option Open → Packet → Option Open
-next held packet = held_next flash flash_steps held packet
-
-abbrev pub near_by : Option Open → ℕ → ℕ
-near_by held last = held_near flash flash_steps held last
-
--- a flash stands for packets: it keeps what they leave
-abbrev pub StandsFor : Flash → List Packet → Type 0
-StandsFor machine packets = machine.held ≡ held_of flash flash_steps open_kept packets
