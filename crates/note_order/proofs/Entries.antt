@@ -35,10 +35,13 @@ ties_alike a b i j tie = grind (arith, nat_tests)
 one_instance : (x y : Entry) → ties is_before x y ≡ true → is_of x.instance y ≡ true
 one_instance x y tie = let same : x.instance ≡ y.instance = ties_alike x.note.start y.note.start x.instance y.instance tie in grind (arith, nat_tests)
 
+-- two lists with the same ties in the same order have one listing
+pub ties_make_listing : (entries others : List Entry) → ((x : Entry) → filter (ties is_before x) entries ≡ filter (ties is_before x) others) → in_order entries ≡ in_order others
+ties_make_listing entries others same =
+    sorted_is_one is_before entries_rank others (in_order entries) (sorted_is_sorted is_before entries_rank entries) (λ x. sorted_is_stable is_before entries_rank entries x ∙ same x)
+
 pub instances_make_listing : (entries others : List Entry) → ((instance : ℕ) → filter (is_of instance) entries ≡ filter (is_of instance) others) → in_order entries ≡ in_order others
-instances_make_listing entries others same =
-    let alike : (x : Entry) → filter (ties is_before x) others ≡ filter (ties is_before x) entries = λ x.
-    sym (filter_within (ties is_before x) (is_of x.instance) (one_instance x) others)
-    ∙ ap (filter (ties is_before x)) (sym (same x.instance))
-    ∙ filter_within (ties is_before x) (is_of x.instance) (one_instance x) entries in
-    sorted_is_one is_before entries_rank others (in_order entries) (sorted_is_sorted is_before entries_rank entries) (λ x. sorted_is_stable is_before entries_rank entries x ∙ sym (alike x))
+instances_make_listing entries others same = ties_make_listing entries others (λ x.
+    sym (filter_within (ties is_before x) (is_of x.instance) (one_instance x) entries)
+    ∙ ap (filter (ties is_before x)) (same x.instance)
+    ∙ filter_within (ties is_before x) (is_of x.instance) (one_instance x) others)

@@ -1,5 +1,6 @@
 -- The order of a listing.
-use Rattle.std.specs.Prelude.{ℕ, ◌+◌, ◌==◌, Bool, List, [], ◌∷◌, ◌++◌, map}
+use Rattle.std.specs.Prelude.{◌≡◌, ℕ, ◌+◌, ◌==◌, Bool, List, [], ◌∷◌, ◌++◌, map}
+use Rattle.std.specs.List.{filter}
 use Rattle.std.specs.Ordering.{nat_cmp, ordering_then, is_lt}
 use Rattle.std.specs.declared.cmp.Ordering.{Ordering}
 use Rattle.la_base.specs.declared.wires.Note.{Note}
@@ -21,6 +22,14 @@ in_order entries = sorted is_before entries
 -- whether an instance gave an entry
 abbrev pub is_of : ℕ → Entry → Bool
 is_of instance entry = entry.instance == instance
+
+-- what an instance gave of some entries, in their order
+abbrev pub given_by : ℕ → List Entry → List Entry
+given_by instance entries = filter (is_of instance) entries
+
+-- both have the same entries of each instance, in the same order
+abbrev pub SameOfEach : List Entry → List Entry → Type 0
+SameOfEach entries others = (instance : ℕ) → given_by instance entries ≡ given_by instance others
 
 abbrev pub entry_of : ℕ → Note → Entry
 entry_of instance note = record { instance = instance; note = note }

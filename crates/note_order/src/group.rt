@@ -1,7 +1,7 @@
 // Entries grouped by their instances.
-ghost use Rattle.std.specs.Prelude.{◌≡◌, ◌≤◌, ◌<◌, ◌++◌, ℕ, IfOk, OnOk};
-ghost use Rattle.std.specs.List.{All, filter};
-ghost use Rattle.note_order.specs.Order.{is_of};
+ghost use Rattle.std.specs.Prelude.{◌≡◌, ◌≤◌, ◌<◌, ◌++◌, IfOk, OnOk};
+ghost use Rattle.std.specs.List.{All};
+ghost use Rattle.note_order.specs.Order.{given_by, SameOfEach};
 
 use crate::Entry;
 use la_base::NoMemory;
@@ -20,7 +20,7 @@ pub fn last_instance(entries: &[Entry]) -> u32
 
 // Appends the entries of an instance.
 fn push_of(entries: &[Entry], instance: u32, into: &mut Vec<Entry>) -> Result<(), NoMemory>
-    ensures { OnOk result (into.new.items ≡ into.old.items ++ filter (is_of instance) entries.now) }
+    ensures { OnOk result (into.new.items ≡ into.old.items ++ given_by instance entries.now) }
 {
     for entry in entries {
         if entry.instance == instance {
@@ -33,7 +33,7 @@ fn push_of(entries: &[Entry], instance: u32, into: &mut Vec<Entry>) -> Result<()
 /// The entries of the first instance, then those of the second, and so on, each in their order.
 pub fn by_instance(alloc: Global, entries: &[Entry], count: u32) -> Result<Vec<Entry>, NoMemory>
     requires { All (λ entry. entry.instance < count) entries.now }
-    ensures { IfOk result (λ grouped. (instance : ℕ) → filter (is_of instance) grouped.items ≡ filter (is_of instance) entries.now) }
+    ensures { IfOk result (λ grouped. SameOfEach grouped.items entries.now) }
 {
     let mut grouped = Vec::new(alloc);
     for instance in 0..count {

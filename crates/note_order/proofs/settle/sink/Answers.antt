@@ -1,5 +1,6 @@
-use Rattle.std.proofs.Common.{◌-◌, arith, ◌∙◌, refl}
+use Rattle.std.proofs.Common.{◌-◌, arith, ◌∙◌, sym}
 use Rattle.std.proofs.lemmas.List.{length-set}
+use Rattle.note_order.proofs.Entries.{ties_make_listing}
 use Rattle.note_order.proofs.Swaps.{entry_moved}
 use Rattle.note_order.proofs.settle.sink.Goals as goal
 
@@ -10,5 +11,8 @@ loop-at-preserved c =
     record {
       within = omega (arith, i.within);
       len = length-set items c.loop-at.at c.index-in-loop-at.result.now ∙ i.len;
-      each = λ instance. entry_moved instance items (c.loop-at.at - 1) c.loop-at.at c.index-in-loop-at.result.now c.index.result.now (omega arith) (omega arith) c.index-in-loop-at.ensures (c.if-not-moves_past.ensures refl) ∙ i.each instance;
+      each = λ x. entry_moved x items (c.loop-at.at - 1) c.loop-at.at c.index-in-loop-at.result.now c.index.result.now (omega arith) (omega arith) c.index-in-loop-at.ensures (sym c.if-not-is_after.ensures) ∙ i.each x;
     }
+
+pub returns-clause-listing : goal.returns-clause-listing
+returns-clause-listing c = ties_make_listing _ _ c.loop-at.invariant.each
