@@ -1,10 +1,11 @@
 -- What a follower promises, for a decoder of any kind that holds it.
 use Rattle.std.proofs.Common.{◌≡◌, ℕ, List, ◌++◌, Option, sym, ◌∙◌, ap, subst}
+use Rattle.la_base.specs.declared.samples.Run.{Run}
 use Rattle.la_base.specs.declared.wires.Feed.{Feed}
 use Rattle.la_base.specs.declared.wires.Out.{Out}
 use Rattle.la_base.specs.declared.wires.Packet.{Packet}
 use Rattle.la_base.specs.declared.wires.Wire.{Wire}
-use Rattle.decoder_core.specs.Driving.{Passes, Steps}
+use Rattle.decoder_core.specs.Driving.{Steps, StepsRuns}
 use Rattle.decoder_core.specs.Inputs.{Item}
 use Rattle.decoder_core.specs.Packets.{Follows}
 use Rattle.decoder_core.specs.Promises.{IsFloor}
@@ -14,7 +15,7 @@ use Rattle.decoder_set.specs.declared.setup.Setup.{Setup}
 use Rattle.decoder_set.specs.Opening.{FollowedBy}
 use Rattle.decoder_set.specs.Setups.{outs_of}
 use Rattle.decoder_set.proofs.Handing.{Has, IsOf}
-use Rattle.decoder_set.proofs.Seen.{passes_seen, steps_seen}
+use Rattle.decoder_set.proofs.Seen.{steps_seen}
 
 -- followers of one kind: how one is held, what it is for the decoder to have consumed an input, and what it gives
 module _ {D S : Type 0} (setup : Setup) (wrap : Follower D S → AnyMachine) (stands : D → List Packet → Type 0) (reads : Wire) (IsOwn : D → Type 0)
@@ -34,13 +35,17 @@ module _ {D S : Type 0} (setup : Setup) (wrap : Follower D S → AnyMachine) (st
   steps_followed new feed left into whole steps =
       steps_seen (λ input has. (own input has).1.follows) feed left same_outs (λ input front has follows. let o = own input has in whole (input ++ front) o.0 o.1.own follows) steps
 
-  pub passes_followed : (new : Follower D S) (more : List ℕ)
+  pub runs_followed : (new : Follower D S) (samples : List ℕ) (rest : Option Run) (into : List Out)
       → ((input : List Item) → IsOf setup (wrap follower) → IsOwn follower.machine → Follows stands reads new.machine new.from input → Has setup (wrap new) input)
-      → Passes (λ input. Follows stands reads follower.machine follower.from input) (λ input. Follows stands reads new.machine new.from input) outs more
-      → Passes (λ input. Has setup machine input) (λ input. Has setup (wrap new) input) (λ input. outs_of setup input) more
-  passes_followed new more whole passes =
-      passes_seen (λ input. Follows stands reads new.machine new.from input) (λ input. Has setup (wrap new) input) more (λ input has. (own input has).1.follows) same_outs
-      (λ input front has follows. let o = own input has in whole (input ++ front) o.0 o.1.own follows) passes
+      → StepsRuns (λ input. Follows stands reads follower.machine follower.from input) (λ input. Follows stands reads new.machine new.from input) outs samples rest into
+      → StepsRuns (λ input. Has setup machine input) (λ input. Has setup (wrap new) input) (λ input. outs_of setup input) samples rest into
+  runs_followed new samples rest into whole steps = record {
+    front = steps.front;
+    split = steps.split;
+    consumes = λ input has. let o = own input has in whole (input ++ steps.front) o.0 o.1.own (steps.consumes input o.1.follows);
+    gives = λ input has.
+        same_outs input has (input ++ steps.front) ∙ steps.gives input (own input has).1.follows ∙ ap (λ (l : List Out). l ++ into) (sym (same_outs input has input));
+  }
 
   pub floor_followed : (floor : ℕ) → ((input : List Item) → Follows stands reads follower.machine follower.from input → IsFloor outs input floor)
       → (input : List Item) → Has setup machine input → IsFloor (outs_of setup) input floor

@@ -1,10 +1,11 @@
 -- What a driver promises, for a decoder of any kind that holds it.
-use Rattle.std.proofs.Common.{◌≡◌, ◌≤◌, ℕ, List, ◌++◌, map, Option, sym, ◌∙◌, ap, subst}
+use Rattle.std.proofs.Common.{◌≡◌, ◌≤◌, ℕ, List, ◌++◌, Option, sym, ◌∙◌, ap, subst}
+use Rattle.la_base.specs.declared.samples.Run.{Run}
 use Rattle.la_base.specs.declared.wires.Feed.{Feed}
 use Rattle.la_base.specs.declared.wires.Out.{Out}
 use Rattle.wait_cond.specs.declared.alt.Alt.{Alt}
-use Rattle.decoder_core.specs.Driving.{Drives, Passes, ReachesStop, Sleeps, Steps, StopsFirst}
-use Rattle.decoder_core.specs.Inputs.{Item, Sample, counted_samples}
+use Rattle.decoder_core.specs.Driving.{Drives, ReachesStop, Sleeps, Steps, StepsRuns, StopsFirst}
+use Rattle.decoder_core.specs.Inputs.{Item, counted_samples}
 use Rattle.decoder_core.specs.Promises.{IsFloor}
 use Rattle.decoder_core.specs.declared.driver.Driver.{Driver}
 use Rattle.decoder_set.specs.declared.any.AnyMachine.{AnyMachine}
@@ -44,14 +45,17 @@ module _ {L S : Type 0} (setup : Setup) (wrap : Driver L S → AnyMachine) (stan
           same_outs input has (input ++ steps.front) ∙ steps.gives input (own input has).1.drives ∙ ap (λ (l : List Out). l ++ into) (sym (same_outs input has input));
     }
 
-    pub passes_by : (new : Driver L S) (more : List ℕ)
+    pub runs_by : (new : Driver L S) (samples : List ℕ) (rest : Option Run) (into : List Out)
         → ((input : List Item) → IsOf setup (wrap driver) → IsOwn driver.machine → Drives stands alts new.machine new.waiter input → Has setup (wrap new) input)
-        → Passes (λ input. Drives stands alts driver.machine driver.waiter input) (λ input. Drives stands alts new.machine new.waiter input) (λ input. outs (counted_samples input)) more
-        → Passes (λ input. Has setup machine input) (λ input. Has setup (wrap new) input) (λ input. outs_of setup input) more
-    passes_by new more whole passes input has =
-        let o = own input has in
-        let p = passes input o.1.drives in
-        (whole (input ++ map Sample more) o.0 o.1.own p.0, same_outs input has (input ++ map Sample more) ∙ p.1 ∙ sym (same_outs input has input))
+        → StepsRuns (λ input. Drives stands alts driver.machine driver.waiter input) (λ input. Drives stands alts new.machine new.waiter input) (λ input. outs (counted_samples input)) samples rest into
+        → StepsRuns (λ input. Has setup machine input) (λ input. Has setup (wrap new) input) (λ input. outs_of setup input) samples rest into
+    runs_by new samples rest into whole steps = record {
+      front = steps.front;
+      split = steps.split;
+      consumes = λ input has. let o = own input has in whole (input ++ steps.front) o.0 o.1.own (steps.consumes input o.1.drives);
+      gives = λ input has.
+          same_outs input has (input ++ steps.front) ∙ steps.gives input (own input has).1.drives ∙ ap (λ (l : List Out). l ++ into) (sym (same_outs input has input));
+    }
 
     pub floor_by : (floor : ℕ) → ((input : List Item) → Drives stands alts driver.machine driver.waiter input → IsFloor (λ input. outs (counted_samples input)) input floor)
         → (input : List Item) → Has setup machine input → IsFloor (outs_of setup) input floor

@@ -39,11 +39,11 @@ use Rattle.dec_uart.specs.declared.held.Uart.{Uart}
 use Rattle.dec_onewire.specs.declared.link.held.OwLink.{OwLink}
 use Rattle.dec_onewire.specs.declared.net.held.OwNet.{OwNet}
 use Rattle.dec_onewire.specs.declared.net.held.OwNetOpts.{OwNetOpts}
-use Rattle.dev_ds18b20.specs.declared.held.Probe.{Probe}
+use Rattle.dev_ds18b20.specs.Opening.{ProbeDecoder}
 use Rattle.dev_ds18b20.specs.declared.held.ProbeOpts.{ProbeOpts}
 use Rattle.dev_ds1307.specs.declared.chip.Chip.{Chip as ClockChip}
 use Rattle.dev_ds1307.specs.declared.held.Clock.{Clock}
-use Rattle.dev_flash25.specs.declared.held.Flash.{Flash}
+use Rattle.dev_flash25.specs.Opening.{FlashDecoder}
 use Rattle.dev_flash25.specs.declared.held.FlashOpts.{FlashOpts}
 use Rattle.dev_lm75.specs.declared.chip.Chip.{Chip as Lm75Chip}
 use Rattle.dev_lm75.specs.declared.held.Lm75.{Lm75}
@@ -108,8 +108,8 @@ Inner kind.OwNet = Follower OwNet OwNetOpts
 Inner kind.Eeprom24 = Follower (Phased Eeprom Chip) Chip
 Inner kind.Ds1307 = Follower (Phased Clock ClockChip) ClockChip
 Inner kind.Lm75 = Follower (Phased Lm75 Lm75Chip) Lm75Chip
-Inner kind.Ds18b20 = Follower Probe ProbeOpts
-Inner kind.Flash25 = Follower Flash FlashOpts
+Inner kind.Ds18b20 = Follower ProbeDecoder ProbeOpts
+Inner kind.Flash25 = Follower FlashDecoder FlashOpts
 
 abbrev inner : (held : AnyMachine) → Inner (kind_in held)
 inner (machine.I2c x) = x
@@ -218,12 +218,12 @@ module _ (values : List (Option ℕ)) (rate : Rate) (input : List Item) where
       (o, a.1, (one_phased lm75_laws.chip_of (λ (chip : Lm75Chip). 72 + chip.addr) (λ (chip : Lm75Chip). chip.resets) lm75_held.Knows lm75_laws.one_lm75 one.machine o.machine (counted_packets wire.I2c input) (d.own ∙ sym f.own) d.follows.machine_stands f.follows.machine_stands, d.follows.last_is ∙ sym f.follows.last_is))
   same_machine (machine.Ds18b20 one) other same d e =
       let a = of_kind kind.Ds18b20 other same in
-      let o : Follower Probe ProbeOpts = a.0 in
+      let o : Follower ProbeDecoder ProbeOpts = a.0 in
       let f = at kind.Ds18b20 other o a.1 e in
       (o, a.1, (one_probe one.machine o.machine (counted_packets wire.OwNet input) d.follows.machine_stands f.follows.machine_stands, d.follows.last_is ∙ sym f.follows.last_is))
   same_machine (machine.Flash25 one) other same d e =
       let a = of_kind kind.Flash25 other same in
-      let o : Follower Flash FlashOpts = a.0 in
+      let o : Follower FlashDecoder FlashOpts = a.0 in
       let f = at kind.Flash25 other o a.1 e in
       (o, a.1, (one_flash one.machine o.machine (counted_packets wire.Spi input) d.follows.machine_stands f.follows.machine_stands, d.follows.last_is ∙ sym f.follows.last_is))
 

@@ -1,9 +1,9 @@
 -- What a machine promises, seen by a decoder that holds it.
-use Rattle.std.proofs.Common.{◌≡◌, ℕ, List, ◌++◌, map, Option, sym, ◌∙◌, ap}
+use Rattle.std.proofs.Common.{◌≡◌, List, ◌++◌, Option, sym, ◌∙◌, ap}
 use Rattle.la_base.specs.declared.wires.Feed.{Feed}
 use Rattle.la_base.specs.declared.wires.Out.{Out}
-use Rattle.decoder_core.specs.Driving.{Passes, ReachesStop, Steps, StopsFirst}
-use Rattle.decoder_core.specs.Inputs.{Item, Sample}
+use Rattle.decoder_core.specs.Driving.{ReachesStop, Steps, StopsFirst}
+use Rattle.decoder_core.specs.Inputs.{Item}
 
 -- `has` says of which inputs the decoder stood
 module _ {before has : List Item → Type 0} (had : (input : List Item) → has input → before input) (feed : Feed) (left : Option Feed) where
@@ -36,9 +36,3 @@ module _ {before has : List Item → Type 0} (had : (input : List Item) → has 
     split = s.split;
     stop = λ some input is rests. s.stop some input (had input is) (awake input s.front rests);
   }
-
-pub passes_seen : {before has : List Item → Type 0} (after will : List Item → Type 0) {outs own : List Item → List Out} (more : List ℕ) → ((input : List Item) → has input → before input) → ((input : List Item) → has input → (other : List Item) → own other ≡ outs other)
-    → ((input front : List Item) → has input → after (input ++ front) → will (input ++ front)) → Passes before after outs more → Passes has will own more
-passes_seen after will more had same holds passes input is =
-    let p = passes input (had input is) in
-    (holds input (map Sample more) is p.0, same input is (input ++ map Sample more) ∙ p.1 ∙ sym (same input is input))

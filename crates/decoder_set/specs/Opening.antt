@@ -23,15 +23,15 @@ use Rattle.dec_onewire.specs.declared.link.options.OwLinkOpts.{OwLinkOpts}
 use Rattle.dec_onewire.specs.declared.net.held.OwNet.{OwNet}
 use Rattle.dec_onewire.specs.declared.net.held.OwNetOpts.{OwNetOpts}
 use Rattle.decoder_core.specs.Packets.{Follows, NoneCount}
-use Rattle.dev_ds18b20.specs.Held as probe
-use Rattle.dev_ds18b20.specs.declared.held.Probe.{Probe}
+use Rattle.dev_ds18b20.specs.Opening as probe
+use Rattle.dev_ds18b20.specs.Opening.{ProbeDecoder}
 use Rattle.dev_ds18b20.specs.declared.held.ProbeOpts.{ProbeOpts}
 use Rattle.dev_ds1307.specs.Opening as clock
 use Rattle.dev_ds1307.specs.declared.chip.Chip.{Chip as ClockChip}
 use Rattle.dev_ds1307.specs.declared.chip.ClockOpts.{ClockOpts}
 use Rattle.dev_ds1307.specs.declared.held.Clock.{Clock}
-use Rattle.dev_flash25.specs.Held as flash
-use Rattle.dev_flash25.specs.declared.held.Flash.{Flash}
+use Rattle.dev_flash25.specs.Opening as flash
+use Rattle.dev_flash25.specs.Opening.{FlashDecoder}
 use Rattle.dev_flash25.specs.declared.held.FlashOpts.{FlashOpts}
 use Rattle.dev_lm75.specs.Opening as lm75
 use Rattle.dev_lm75.specs.declared.chip.Chip.{Chip as Lm75Chip}
@@ -123,10 +123,10 @@ ClockConsumed options follower input = FollowedBy clock.StandsFor wire.I2c (IsCl
 abbrev pub Lm75Consumed : Lm75Opts → Follower (Phased Lm75 Lm75Chip) Lm75Chip → List Item → Type 0
 Lm75Consumed options follower input = FollowedBy lm75.StandsFor wire.I2c (IsLm75 options) follower input
 
-abbrev pub ProbeConsumed : Follower Probe ProbeOpts → List Item → Type 0
+abbrev pub ProbeConsumed : Follower ProbeDecoder ProbeOpts → List Item → Type 0
 ProbeConsumed follower input = FollowedBy probe.StandsFor wire.OwNet IsAny follower input
 
-abbrev pub FlashConsumed : Follower Flash FlashOpts → List Item → Type 0
+abbrev pub FlashConsumed : Follower FlashDecoder FlashOpts → List Item → Type 0
 FlashConsumed follower input = FollowedBy flash.StandsFor wire.Spi IsAny follower input
 
 -- the kind of a machine

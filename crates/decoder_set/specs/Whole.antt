@@ -17,11 +17,11 @@ use Rattle.dec_onewire.specs.declared.link.held.Line.{Line as DqLine}
 use Rattle.dec_onewire.specs.declared.link.held.OwLink.{OwLink}
 use Rattle.dec_onewire.specs.declared.net.held.OwNet.{OwNet}
 use Rattle.dec_onewire.specs.declared.net.held.OwNetOpts.{OwNetOpts}
-use Rattle.dev_ds18b20.specs.declared.held.Probe.{Probe}
+use Rattle.dev_ds18b20.specs.Opening.{ProbeDecoder}
 use Rattle.dev_ds18b20.specs.declared.held.ProbeOpts.{ProbeOpts}
 use Rattle.dev_ds1307.specs.declared.chip.Chip.{Chip as ClockChip}
 use Rattle.dev_ds1307.specs.declared.held.Clock.{Clock}
-use Rattle.dev_flash25.specs.declared.held.Flash.{Flash}
+use Rattle.dev_flash25.specs.Opening.{FlashDecoder}
 use Rattle.dev_flash25.specs.declared.held.FlashOpts.{FlashOpts}
 use Rattle.dev_lm75.specs.declared.chip.Chip.{Chip as Lm75Chip}
 use Rattle.dev_lm75.specs.declared.held.Lm75.{Lm75}
@@ -79,8 +79,8 @@ SameMachine (machine.OwNet one) held = (other : Follower OwNet OwNetOpts) × (he
 SameMachine (machine.Eeprom24 one) held = (other : Follower (Phased Eeprom Chip) Chip) × (held ≡ machine.Eeprom24 other) × SameFollower one other
 SameMachine (machine.Ds1307 one) held = (other : Follower (Phased Clock ClockChip) ClockChip) × (held ≡ machine.Ds1307 other) × SameFollower one other
 SameMachine (machine.Lm75 one) held = (other : Follower (Phased Lm75 Lm75Chip) Lm75Chip) × (held ≡ machine.Lm75 other) × SameFollower one other
-SameMachine (machine.Ds18b20 one) held = (other : Follower Probe ProbeOpts) × (held ≡ machine.Ds18b20 other) × SameFollower one other
-SameMachine (machine.Flash25 one) held = (other : Follower Flash FlashOpts) × (held ≡ machine.Flash25 other) × SameFollower one other
+SameMachine (machine.Ds18b20 one) held = (other : Follower ProbeDecoder ProbeOpts) × (held ≡ machine.Ds18b20 other) × SameFollower one other
+SameMachine (machine.Flash25 one) held = (other : Follower FlashDecoder FlashOpts) × (held ≡ machine.Flash25 other) × SameFollower one other
 
 -- two decoders hold the same
 pub record SameDecoder (one other : AnyDecoder) : Type 0 where

@@ -6,7 +6,7 @@ ghost use Rattle.decoder_set.specs.laws.KindLaws.{nothing_of, prefix_of, order_o
 
 use crate::any::AnyMachine;
 use crate::{AnyDecoder, Setup, input_of};
-use decoder_core::{Machine, Outs};
+use decoder_core::{Machine, Outs, Taken};
 use la_base::{Feed, Run, Wire};
 
 impl Machine for AnyDecoder {
@@ -46,18 +46,18 @@ impl Machine for AnyDecoder {
     }
 
     #[inline(always)]
-    fn pass_runs(&mut self, runs: &[Run]) -> usize {
+    fn step_runs(&mut self, runs: &[Run], into: &mut Outs) -> Taken {
         match &mut self.machine {
-            AnyMachine::I2c(driver) => driver.pass_runs(runs),
-            AnyMachine::Spi(driver) => driver.pass_runs(runs),
-            AnyMachine::Uart(driver) => driver.pass_runs(runs),
-            AnyMachine::OwLink(driver) => driver.pass_runs(runs),
-            AnyMachine::OwNet(follower) => follower.pass_runs(runs),
-            AnyMachine::Eeprom24(follower) => follower.pass_runs(runs),
-            AnyMachine::Ds1307(follower) => follower.pass_runs(runs),
-            AnyMachine::Lm75(follower) => follower.pass_runs(runs),
-            AnyMachine::Ds18b20(follower) => follower.pass_runs(runs),
-            AnyMachine::Flash25(follower) => follower.pass_runs(runs),
+            AnyMachine::I2c(driver) => driver.step_runs(runs, into),
+            AnyMachine::Spi(driver) => driver.step_runs(runs, into),
+            AnyMachine::Uart(driver) => driver.step_runs(runs, into),
+            AnyMachine::OwLink(driver) => driver.step_runs(runs, into),
+            AnyMachine::OwNet(follower) => follower.step_runs(runs, into),
+            AnyMachine::Eeprom24(follower) => follower.step_runs(runs, into),
+            AnyMachine::Ds1307(follower) => follower.step_runs(runs, into),
+            AnyMachine::Lm75(follower) => follower.step_runs(runs, into),
+            AnyMachine::Ds18b20(follower) => follower.step_runs(runs, into),
+            AnyMachine::Flash25(follower) => follower.step_runs(runs, into),
         }
     }
 

@@ -1,5 +1,5 @@
 -- The writing of a run's stops, as it goes on.
-use Rattle.std.proofs.Common.{◌≡◌, ℕ, ◌+◌, List, [], ◌∷◌, ◌++◌, take, Option, Some, None, refl, sym, ◌∙◌, subst, append_assoc}
+use Rattle.std.proofs.Common.{◌≡◌, ℕ, ◌+◌, List, [], ◌∷◌, ◌++◌, take, Option, Some, None, Result, Ok, Err, refl, sym, ◌∙◌, subst, arith, append_assoc}
 use Rattle.std.specs.Io.KnownBytes.{Appends}
 use Rattle.std.proofs.lemmas.List.{append-nil}
 use Rattle.la_base.specs.Samples.{samples}
@@ -13,7 +13,9 @@ use Rattle.wait_cond.specs.declared.scan.Waiter.{Waiter}
 use Rattle.wait_cond.specs.declared.scan.Scan.TheVariants.{Met, Through}
 use Rattle.wait_cond.proofs.ChainLemmas.{chain_longer, chain_more}
 use Rattle.listing_out.specs.StopLines.{line_of, lines_of}
-use Rattle.find_job.specs.Stopping.{AllWritten, CutOff}
+use Rattle.std.specs.Prelude.{OnOk}
+use Rattle.la_io.specs.declared.outside.Failed.{Failed}
+use Rattle.find_job.specs.Stopping.{AllWritten, CutOff, Written}
 use Rattle.la_io.proofs.Fronts.{front_on}
 use Rattle.find_job.proofs.Fronts.{lines_append, lines_more}
 
@@ -120,3 +122,18 @@ module _ (alts : List Alt) (stops : List Stop) (before : Waiter) (front : List �
     chain = subst (λ (s : List Stop). Chain (part ++ rest) alts 0 s cut.to) (append_assoc stops first.more cut.more) (chain_longer part rest alts 0 cut.to ((stops ++ first.more) ++ cut.more) cut.chain);
     written = subst (λ (l : List ℕ). AppendsFront old new l) (sym (lines_append first.more cut.more)) (front_on old now new (lines_of first.more) (lines_of cut.more) first.written cut.written);
   }
+
+-- samples behind others whose stops were written
+pub written_on : (first_waiter before after : Waiter) (stops : List Stop) (list front more all : List ℕ) (old now new : Option (List ℕ)) (result : Result (Unit {0}) Failed) → alts_of before ≡ alts_of first_waiter → front ++ more ≡ list ++ all
+    → (first : AllWritten before (alts_of first_waiter) front stops old now) → Written after before more front (stops ++ first.more) now new result → Written after first_waiter all list stops old new result
+written_on first_waiter before after stops list front more all old now new (Ok done) same whole first second =
+    subst (λ (l : List ℕ). AllWritten after (alts_of first_waiter) l stops old new) whole
+    (written_more (alts_of first_waiter) stops before front old now first after (front ++ more) new (subst (λ (a : List Alt). AllWritten after a (front ++ more) (stops ++ first.more) now new) same second))
+written_on first_waiter before after stops list front more all old now new (Err failed) same whole first second =
+    subst (λ (l : List ℕ). CutOff (alts_of first_waiter) l stops old new) (append-nil (front ++ more) ∙ whole)
+    (cut_more (alts_of first_waiter) stops before front old now first (front ++ more) [] new (subst (λ (a : List Alt). CutOff a (front ++ more) (stops ++ first.more) now new) same second))
+
+-- how many samples were consumed then
+pub consumed_on : (result : Result (Unit {0}) Failed) (last now first front rest all : ℕ) → now ≡ first + front → front + rest ≡ all → OnOk result (last ≡ now + rest) → OnOk result (last ≡ first + all)
+consumed_on (Ok done) last now first front rest all count total more = omega (arith, count, total, more)
+consumed_on (Err failed) last now first front rest all count total more = tt

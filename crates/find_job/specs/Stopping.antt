@@ -7,8 +7,6 @@ use Rattle.wait_cond.specs.Stops.{Stop, Chain}
 use Rattle.wait_cond.specs.Waiting.{Waits, alts_of, wait_from}
 use Rattle.wait_cond.specs.declared.alt.Alt.{Alt}
 use Rattle.wait_cond.specs.declared.scan.Waiter.{Waiter}
-use Rattle.capture_any.specs.Taking.{GaveHeld}
-use Rattle.capture_any.specs.declared.capture.Capture.{Capture}
 use Rattle.listing_out.specs.StopLines.{lines_of}
 
 -- all of the samples were consumed, and the lines of their stops were appended
@@ -29,8 +27,3 @@ pub record CutOff (alts : List Alt) (all : List ℕ) (stops : List Stop) (old ne
 abbrev pub Written : Waiter → Waiter → List ℕ → List ℕ → List Stop → Option (List ℕ) → Option (List ℕ) → Result (Unit {0}) Failed → Type 0
 Written waiter before samples list stops old new (Ok done) = AllWritten waiter (alts_of before) (list ++ samples) stops old new
 Written waiter before samples list stops old new (Err failed) = CutOff (alts_of before) (list ++ samples) stops old new
-
--- a capture gave samples of what it had read, and the lines of their stops were written, or a front of them
-abbrev pub WritesHeld : Capture → Capture → Waiter → Waiter → Option (List ℕ) → Option (List ℕ) → Result (Unit {0}) Failed → Type 0
-WritesHeld old_capture new_capture before waiter old new result = (samples : List ℕ) × GaveHeld old_capture new_capture samples
-    × ((list : List ℕ) (stops : List Stop) → Waits before list → Chain list (alts_of before) 0 stops (wait_from before) → Written waiter before samples list stops old new result)

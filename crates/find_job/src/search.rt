@@ -7,8 +7,8 @@ ghost use Rattle.capture_any.specs.Reading.{form_of, is_open_of, pins_of};
 ghost use Rattle.find_job.specs.Finding.{Finds};
 
 use crate::FindEnd;
-use crate::stops::{write_held, write_run};
-use capture_any::Capture;
+use crate::stops::write_runs;
+use capture_any::{Capture, Runs};
 use la_io::{Buffered, CaptureError, Failed, Sink, Source};
 use listing_out::StopLine;
 use wait_cond::{Cond, Waiter};
@@ -35,16 +35,14 @@ pub fn find<S: Source, K: Sink>(
 {
     let mut waiter = Waiter::new(cond);
     let mut line = StopLine::new();
+    let mut runs = Runs::new();
     loop {
-        match capture.next(source) {
-            Ok(Some(run)) => match write_run(&mut waiter, run, &mut line, sink) {
-                Ok(()) => match write_held(capture, &mut waiter, &mut line, sink) {
-                    Ok(()) => {}
-                    Err(Failed) => return FindEnd::Write,
-                },
+        match capture.next_runs(source, &mut runs) {
+            Ok(true) => match write_runs(&mut waiter, runs.list(), &mut line, sink) {
+                Ok(()) => {}
                 Err(Failed) => return FindEnd::Write,
             },
-            Ok(None) => return FindEnd::Done,
+            Ok(false) => return FindEnd::Done,
             Err(CaptureError::Fault(fault)) => return FindEnd::Fault(fault),
             Err(CaptureError::Read) => return FindEnd::Read,
             Err(CaptureError::NoMemory) => return FindEnd::NoMemory,

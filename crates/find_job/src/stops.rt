@@ -1,13 +1,13 @@
 // The lines of the stops in a run.
-ghost use Rattle.std.specs.Prelude.{◌≡◌, ◌+◌, ◌≤◌, ◌^◌, List, ℕ, OnOk};
+ghost use Rattle.std.specs.Prelude.{◌≡◌, ◌≢◌, ◌+◌, ◌≤◌, ◌^◌, List, ℕ, OnOk, length};
 ghost use Rattle.la_base.specs.Samples.{samples};
 ghost use Rattle.la_io.specs.Causes.{HasCause};
+ghost use Rattle.la_base.specs.Runs.{samples_of};
+ghost use Rattle.wait_cond.specs.Conds.{IsExact};
 ghost use Rattle.wait_cond.specs.Stops.{Stop, Chain};
 ghost use Rattle.wait_cond.specs.Waiting.{Waits, alts_of, wait_from, consumed_by};
-ghost use Rattle.capture_any.specs.Reading.{form_of, given_by, is_open_of, pins_of};
-ghost use Rattle.find_job.specs.Stopping.{Written, WritesHeld};
+ghost use Rattle.find_job.specs.Stopping.{Written};
 
-use capture_any::Capture;
 use la_base::Run;
 use la_io::{Failed, Sink};
 use listing_out::StopLine;
@@ -53,9 +53,9 @@ fn write_stops<K: Sink>(
     }
 }
 
-/// Writes the line of each stop in a run. `Failed` comes where the sink failed.
+// Writes the line of each stop in a run. `Failed` comes where the sink failed.
 #[inline(always)]
-pub fn write_run<K: Sink>(
+fn write_run<K: Sink>(
     waiter: &mut Waiter,
     run: Run,
     line: &mut StopLine,
@@ -76,30 +76,66 @@ pub fn write_run<K: Sink>(
     write_stops(waiter, run, line, sink)
 }
 
-/// Writes the line of each stop in the runs of a capture that were read already. `Failed` comes where the
-/// sink failed.
-pub fn write_held<K: Sink>(
-    capture: &mut Capture,
+// Writes the line of each stop in runs by the masks of what is waited for. It isn't inlined, so that the walk has its
+// registers.
+#[inline(never)]
+fn write_exact<K: Sink>(
     waiter: &mut Waiter,
+    runs: &[Run],
     line: &mut StopLine,
     sink: &mut K,
 ) -> Result<(), Failed>
-    requires room { consumed_by waiter.old ≤ given_by capture.old }
-    requires few { given_by capture.old ≤ 2 ^ 60 }
-    ensures written { WritesHeld capture.old capture.new waiter.old waiter.new (K.written sink.old) (K.written sink.new) result }
-    ensures room { OnOk result (consumed_by waiter.new ≤ given_by capture.new) }
-    ensures few { given_by capture.new ≤ 2 ^ 60 }
-    ensures rises { given_by capture.old ≤ given_by capture.new }
-    ensures is_open { is_open_of capture.new ≡ is_open_of capture.old }
-    ensures form { form_of capture.new ≡ form_of capture.old }
-    ensures pins { pins_of capture.new ≡ pins_of capture.old }
+    requires room { consumed_by waiter.old + length (samples_of runs.now) ≤ 2 ^ 60 }
+    requires exact { IsExact (alts_of waiter.old) }
+    requires some { consumed_by waiter.old ≢ 0 }
+    ensures written { (list : List ℕ) (stops : List Stop) → Waits waiter.old list → Chain list (alts_of waiter.old) 0 stops (wait_from waiter.old)
+        → Written waiter.new waiter.old (samples_of runs.now) list stops (K.written sink.old) (K.written sink.new) result }
+    ensures consumed { OnOk result (consumed_by waiter.new ≡ consumed_by waiter.old + length (samples_of runs.now)) }
     ensures alts { alts_of waiter.new ≡ alts_of waiter.old }
     ensures cause { HasCause (K.faults sink.old) (K.faults sink.new) result }
     ensures goes_on { K.goes_on sink.old sink.new }
 {
-    while let Some(run) = capture.held_run() {
-        match write_run(waiter, run, line, sink) {
-            Ok(()) => {}
+    let pair = waiter.pair();
+    let mut walk = waiter.walk();
+    for run in runs {
+        let met = pair.met(walk.last(), run.value);
+        if met == 0 {
+            walk.pass(*run);
+        } else {
+            let at = walk.consumed();
+            walk.stop(*run);
+            match line.write(sink, at, met) {
+                Ok(()) => {}
+                Err(Failed) => return Err(Failed),
+            }
+        }
+    }
+    waiter.put(walk);
+    Ok(())
+}
+
+/// Writes the line of each stop in runs. `Failed` comes where the sink failed.
+pub fn write_runs<K: Sink>(
+    waiter: &mut Waiter,
+    runs: &[Run],
+    line: &mut StopLine,
+    sink: &mut K,
+) -> Result<(), Failed>
+    requires { consumed_by waiter.old + length (samples_of runs.now) ≤ 2 ^ 60 }
+    ensures written { (list : List ℕ) (stops : List Stop) → Waits waiter.old list → Chain list (alts_of waiter.old) 0 stops (wait_from waiter.old)
+        → Written waiter.new waiter.old (samples_of runs.now) list stops (K.written sink.old) (K.written sink.new) result }
+    ensures consumed { OnOk result (consumed_by waiter.new ≡ consumed_by waiter.old + length (samples_of runs.now)) }
+    ensures alts { alts_of waiter.new ≡ alts_of waiter.old }
+    ensures cause { HasCause (K.faults sink.old) (K.faults sink.new) result }
+    ensures goes_on { K.goes_on sink.old sink.new }
+{
+    let mut at = 0;
+    while at < runs.len() {
+        if waiter.is_exact() {
+            return write_exact(waiter, &runs[at..], line, sink);
+        }
+        match write_run(waiter, runs[at], line, sink) {
+            Ok(()) => at += 1,
             Err(Failed) => return Err(Failed),
         }
     }

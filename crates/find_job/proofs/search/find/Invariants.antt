@@ -8,8 +8,8 @@ use Rattle.capture_any.proofs.ListingLemmas.{SameCapture}
 use Rattle.find_job.proofs.Searching.{Searching}
 use Rattle.find_job.proofs.search.find.Given as goal
 
-abbrev pub invariant-loop-run : goal.invariant-loop-run
-invariant-loop-run g l = record {
+abbrev pub invariant-loop-waiter : goal.invariant-loop-waiter
+invariant-loop-waiter g l = record {
   is_open : is_open_of l.capture ≡ true;
   same : SameCapture l.initial.capture l.capture;
   searching : (before : List ℕ) (told : Told) → ToldAt told (g.S.Source.left l.initial.source) → Stands l.initial.capture before told []
@@ -21,5 +21,5 @@ invariant-loop-run g l = record {
   goes_on : g.K.Sink.goes_on l.initial.sink l.sink;
 }
 
-abbrev pub decreases-loop-run : goal.decreases-loop-run
-decreases-loop-run g l = 2 ^ 60 - given_by l.capture
+abbrev pub decreases-loop-waiter : goal.decreases-loop-waiter
+decreases-loop-waiter g l = 2 ^ 60 - given_by l.capture

@@ -4,14 +4,14 @@ use Rattle.decoder_core.specs.Inputs.{left_feed}
 use Rattle.la_base.specs.declared.wires.Wire.TheVariants as wire
 use Rattle.decoder_core.specs.Packets.{counted_packets}
 use Rattle.dec_onewire.specs.Net.{net_outs}
-use Rattle.dev_ds18b20.specs.Held as probe
+use Rattle.dev_ds18b20.specs.Opening as probe
 use Rattle.dev_ds18b20.specs.Probe.{probe_outs}
 use Rattle.dev_ds1307.specs.Opening as clock
 use Rattle.dev_ds1307.specs.declared.chip.Chip.{Chip as ClockChip}
 use Rattle.dev_eeprom24.specs.Opening as eeprom
 use Rattle.dev_eeprom24.specs.declared.chip.Chip.{Chip}
 use Rattle.dev_flash25.specs.Flash.{flash_outs}
-use Rattle.dev_flash25.specs.Held as flash
+use Rattle.dev_flash25.specs.Opening as flash
 use Rattle.dev_lm75.specs.Opening as lm75
 use Rattle.dev_lm75.specs.declared.chip.Chip.{Chip as Lm75Chip}
 use Rattle.dec_i2c.specs.Opening as i2c

@@ -1,0 +1,114 @@
+use Rattle.std.proofs.Common.{◌≡◌, sym, subst, take, rules}
+use Rattle.la_base.specs.Runs.{samples_of}
+use Rattle.la_base.specs.declared.wires.Wire.TheVariants as wire
+use Rattle.decoder_core.specs.Packets.{counted_packets}
+use Rattle.dec_onewire.specs.Net.{net_outs}
+use Rattle.dev_ds18b20.specs.Opening as probe
+use Rattle.dev_ds18b20.specs.Probe.{probe_outs}
+use Rattle.dev_ds1307.specs.Opening as clock
+use Rattle.dev_ds1307.specs.declared.chip.Chip.{Chip as ClockChip}
+use Rattle.dev_eeprom24.specs.Opening as eeprom
+use Rattle.dev_eeprom24.specs.declared.chip.Chip.{Chip}
+use Rattle.dev_flash25.specs.Flash.{flash_outs}
+use Rattle.dev_flash25.specs.Opening as flash
+use Rattle.dev_lm75.specs.Opening as lm75
+use Rattle.dev_lm75.specs.declared.chip.Chip.{Chip as Lm75Chip}
+use Rattle.dec_i2c.specs.Opening as i2c
+use Rattle.dec_i2c.specs.Bus.{i2c_outs}
+use Rattle.dec_i2c.specs.declared.held.Bus.{Bus}
+use Rattle.dec_onewire.specs.Link.{link_outs}
+use Rattle.dec_onewire.specs.Opening as onewire
+use Rattle.dec_onewire.specs.declared.link.held.Line.{Line as DqLine}
+use Rattle.dec_spi.specs.Opening as spi
+use Rattle.dec_spi.specs.Bus.{spi_outs}
+use Rattle.dec_spi.specs.declared.options.SpiOpts.{SpiOpts}
+use Rattle.dec_uart.specs.Opening as uart
+use Rattle.dec_uart.specs.Frames.{uart_outs}
+use Rattle.dec_uart.specs.declared.held.Line.{Line}
+use Rattle.decoder_set.specs.declared.any.AnyMachine.TheVariants as machine
+use Rattle.decoder_set.specs.Opening.{IsAny, IsClock, IsEeprom, IsI2c, IsLink, IsLm75, IsSpi, IsUart, i2c_alts_of}
+use Rattle.decoder_set.specs.Options.{clock_options, eeprom_options, i2c_options, link_options, lm75_options, spi_options, uart_options}
+use Rattle.decoder_set.proofs.Handing.{runs_by}
+use Rattle.decoder_set.proofs.KindLemmas.{clock_gives, clock_outs_are, eeprom_gives, eeprom_outs_are, flash_outs_are, i2c_outs_are, link_outs_are, lm75_gives, lm75_outs_are, net_outs_are, probe_outs_are, spi_outs_are, uart_outs_are}
+use Rattle.decoder_set.proofs.Following.{runs_followed}
+use Rattle.decoder_set.proofs.machine.AnyDecoderMachine.step_runs.Goals as goal
+
+pub returns-in-I2c-clause-steps : goal.returns-in-I2c-clause-steps
+returns-in-I2c-clause-steps c =
+    let s = c.args.self.now.setup in
+    let driver = c.in-I2c.driver in
+    runs_by s machine.I2c i2c.StandsFor i2c_alts_of (IsI2c (i2c_options s.values.given)) (λ driver input has. has) c.args.self.now.machine driver (search rules)
+    (λ list. i2c_outs (i2c.bus_of driver.machine).scl (i2c.bus_of driver.machine).sda list) (i2c_outs_are s driver.machine) c.step_runs.new.self (samples_of (take c.step_runs.result.count c.args.runs.now)) c.step_runs.result.rest c.step_runs.new.into
+    (λ input is own drives. (is, record { own = (subst (λ (b : Bus). (b.scl ≡ (i2c_options s.values.given).scl) × (b.sda ≡ (i2c_options s.values.given).sda)) (sym c.step_runs.ensures.setup) own); drives = drives })) c.step_runs.ensures.steps
+
+pub returns-in-Spi-clause-steps : goal.returns-in-Spi-clause-steps
+returns-in-Spi-clause-steps c =
+    let s = c.args.self.now.setup in
+    let driver = c.in-Spi.driver in
+    runs_by s machine.Spi spi.StandsFor spi.alts_of (IsSpi (spi_options s.values.given)) (λ driver input has. has) c.args.self.now.machine driver (search rules)
+    (spi_outs (spi.opts_of driver.machine)) (spi_outs_are s driver.machine) c.step_runs-in-Spi.new.self (samples_of (take c.step_runs-in-Spi.result.count c.args.runs.now)) c.step_runs-in-Spi.result.rest c.step_runs-in-Spi.new.into
+    (λ input is own drives. (is, record { own = (subst (λ (o : SpiOpts). o ≡ spi_options s.values.given) (sym c.step_runs-in-Spi.ensures.setup) own); drives = drives })) c.step_runs-in-Spi.ensures.steps
+
+pub returns-in-Uart-clause-steps : goal.returns-in-Uart-clause-steps
+returns-in-Uart-clause-steps c =
+    let s = c.args.self.now.setup in
+    let driver = c.in-Uart.driver in
+    runs_by s machine.Uart uart.StandsFor uart.alts_of (IsUart (uart_options s.values.given) s.rate) (λ driver input has. has) c.args.self.now.machine driver (search rules)
+    (uart_outs (uart.line_of driver.machine).opts (uart.line_of driver.machine).rate) (uart_outs_are s driver.machine) c.step_runs-in-Uart.new.self (samples_of (take c.step_runs-in-Uart.result.count c.args.runs.now)) c.step_runs-in-Uart.result.rest c.step_runs-in-Uart.new.into
+    (λ input is own drives. (is, record { own = (subst (λ (l : Line). (l.opts ≡ uart_options s.values.given) × (l.rate ≡ s.rate)) (sym c.step_runs-in-Uart.ensures.setup) own); drives = drives })) c.step_runs-in-Uart.ensures.steps
+
+pub returns-in-OwLink-clause-steps : goal.returns-in-OwLink-clause-steps
+returns-in-OwLink-clause-steps c =
+    let s = c.args.self.now.setup in
+    let driver = c.in-OwLink.driver in
+    runs_by s machine.OwLink onewire.StandsFor onewire.alts_of (IsLink (link_options s.values.given) s.rate) (λ driver input has. has) c.args.self.now.machine driver (search rules)
+    (link_outs (onewire.line_of driver.machine).opts (onewire.line_of driver.machine).rate) (link_outs_are s driver.machine) c.step_runs-in-OwLink.new.self (samples_of (take c.step_runs-in-OwLink.result.count c.args.runs.now)) c.step_runs-in-OwLink.result.rest c.step_runs-in-OwLink.new.into
+    (λ input is own drives. (is, record { own = (subst (λ (l : DqLine). (l.opts ≡ link_options s.values.given) × (l.rate ≡ s.rate)) (sym c.step_runs-in-OwLink.ensures.setup) own); drives = drives })) c.step_runs-in-OwLink.ensures.steps
+
+pub returns-in-Eeprom24-clause-steps : goal.returns-in-Eeprom24-clause-steps
+returns-in-Eeprom24-clause-steps c =
+    let s = c.args.self.now.setup in
+    let f = c.in-Eeprom24.follower in
+    let e = c.step_runs-in-Eeprom24 in
+    runs_followed s machine.Eeprom24 eeprom.StandsFor wire.I2c (IsEeprom (eeprom_options s.values.given)) (λ follower input has. has) c.args.self.now.machine f (search rules) (eeprom_gives (eeprom.chip_in f.machine)) (eeprom_outs_are s f.machine) e.new.self (samples_of (take e.result.count c.args.runs.now)) e.result.rest e.new._into
+    (λ input is own follows. (is, record { own = subst (λ (o : Chip). o ≡ eeprom.chip_by (eeprom_options s.values.given)) (sym e.ensures.setup) own; follows = follows })) e.ensures.steps
+
+pub returns-in-Ds1307-clause-steps : goal.returns-in-Ds1307-clause-steps
+returns-in-Ds1307-clause-steps c =
+    let s = c.args.self.now.setup in
+    let f = c.in-Ds1307.follower in
+    let e = c.step_runs-in-Ds1307 in
+    runs_followed s machine.Ds1307 clock.StandsFor wire.I2c (IsClock (clock_options s.values.given)) (λ follower input has. has) c.args.self.now.machine f (search rules) (clock_gives (clock.chip_in f.machine)) (clock_outs_are s f.machine) e.new.self (samples_of (take e.result.count c.args.runs.now)) e.result.rest e.new._into
+    (λ input is own follows. (is, record { own = subst (λ (o : ClockChip). o ≡ clock.chip_by (clock_options s.values.given)) (sym e.ensures.setup) own; follows = follows })) e.ensures.steps
+
+pub returns-in-Lm75-clause-steps : goal.returns-in-Lm75-clause-steps
+returns-in-Lm75-clause-steps c =
+    let s = c.args.self.now.setup in
+    let f = c.in-Lm75.follower in
+    let e = c.step_runs-in-Lm75 in
+    runs_followed s machine.Lm75 lm75.StandsFor wire.I2c (IsLm75 (lm75_options s.values.given)) (λ follower input has. has) c.args.self.now.machine f (search rules) (lm75_gives (lm75.chip_in f.machine)) (lm75_outs_are s f.machine) e.new.self (samples_of (take e.result.count c.args.runs.now)) e.result.rest e.new._into
+    (λ input is own follows. (is, record { own = subst (λ (o : Lm75Chip). o ≡ lm75.chip_by (lm75_options s.values.given)) (sym e.ensures.setup) own; follows = follows })) e.ensures.steps
+
+pub returns-in-OwNet-clause-steps : goal.returns-in-OwNet-clause-steps
+returns-in-OwNet-clause-steps c =
+    let s = c.args.self.now.setup in
+    let f = c.in-OwNet.follower in
+    let e = c.step_runs-in-OwNet in
+    runs_followed s machine.OwNet onewire.NetStandsFor wire.OwLink IsAny (λ follower input has. has) c.args.self.now.machine f (search rules) (λ input. net_outs (counted_packets wire.OwLink input)) (λ is own. net_outs_are s is) e.new.self (samples_of (take e.result.count c.args.runs.now)) e.result.rest e.new._into
+    (λ input is own follows. (is, record { own = own; follows = follows })) e.ensures.steps
+
+pub returns-in-Ds18b20-clause-steps : goal.returns-in-Ds18b20-clause-steps
+returns-in-Ds18b20-clause-steps c =
+    let s = c.args.self.now.setup in
+    let f = c.in-Ds18b20.follower in
+    let e = c.step_runs-in-Ds18b20 in
+    runs_followed s machine.Ds18b20 probe.StandsFor wire.OwNet IsAny (λ follower input has. has) c.args.self.now.machine f (search rules) (λ input. probe_outs (counted_packets wire.OwNet input)) (λ is own. probe_outs_are s is) e.new.self (samples_of (take e.result.count c.args.runs.now)) e.result.rest e.new._into
+    (λ input is own follows. (is, record { own = own; follows = follows })) e.ensures.steps
+
+pub returns-in-Flash25-clause-steps : goal.returns-in-Flash25-clause-steps
+returns-in-Flash25-clause-steps c =
+    let s = c.args.self.now.setup in
+    let f = c.in-Flash25.follower in
+    let e = c.step_runs-in-Flash25 in
+    runs_followed s machine.Flash25 flash.StandsFor wire.Spi IsAny (λ follower input has. has) c.args.self.now.machine f (search rules) (λ input. flash_outs (counted_packets wire.Spi input)) (λ is own. flash_outs_are s is) e.new.self (samples_of (take e.result.count c.args.runs.now)) e.result.rest e.new._into
+    (λ input is own follows. (is, record { own = own; follows = follows })) e.ensures.steps
