@@ -2,7 +2,7 @@
 ghost use Rattle.std.specs.Prelude.{◌≡◌, ◌≤◌, ◌^◌, ◌++◌, ◌∷◌, [], None};
 
 use crate::moving::is_send;
-use decoder_core::{Machine, OptFault, Outs};
+use decoder_core::{Machine, OptFault, Outs, Taken};
 use decoder_set::{
     AnyDecoder, Kind, MOST_OPTIONS, OptValues, Setup, asked_of, class_of, groups_of, input_of,
     kind_name, kind_of, kinds_are_whole, kinds_read_their_wires, number_of,
@@ -289,7 +289,13 @@ fn an_opened_decoder_takes_any_feed(rt: HostRuntime) {
             assert!(rt; outs.list().is_empty());
             assert!(rt; decoder.floor() == 3);
             let low = [Run { value: 0, len: 2 }, Run { value: 1, len: 1 }];
-            assert!(rt; decoder.pass_runs(&low) == 2);
+            outs.clear();
+            let taken = Taken {
+                count: 2,
+                rest: None,
+            };
+            assert!(rt; decoder.step_runs(&low, &mut outs) == taken);
+            assert!(rt; outs.list().is_empty());
             assert!(rt; decoder.floor() == 6);
         }
         Err(_) => assert!(rt; false),

@@ -13,6 +13,9 @@ use wait_cond::{
 // More samples than come before a run, or in one.
 const FAR: u64 = 1 << 59;
 
+// The line with the highest number.
+const TOP: Word = 1 << (MOST_PINS - 1);
+
 // It asks nothing.
 const NONE: Alt = Alt {
     low: 0,
@@ -47,13 +50,33 @@ fn asks(alt: Alt, letter: Letter, lines: Word) -> Alt {
     more
 }
 
-// The stops in a list of runs, from each run the first ones, at most `most`.
+// The stop in a run, if there is one, by the masks of what is waited for. The run isn't the first one.
+fn walked(rt: &impl Abort, waiter: &mut Waiter, run: Run) -> Option<(u64, u8)> {
+    assert!(rt; waiter.is_exact());
+    let pair = waiter.pair();
+    let mut walk = waiter.walk();
+    assert!(rt; walk.has_room(run));
+    let at = walk.consumed();
+    let met = pair.met(walk.last(), run.value);
+    if met == 0 {
+        walk.pass(run);
+    } else {
+        walk.stop(run);
+    }
+    assert!(rt; walk.consumed() == at + run.len);
+    waiter.put(walk);
+    if met == 0 { None } else { Some((at, met)) }
+}
+
+// The stops in a list of runs, from each run the first ones, at most `most`; by masks where that is asked for and they
+// say all of what is waited for.
 fn scanned(
     rt: &impl Abort,
     alloc: Global,
     alts: &[Alt],
     runs: &[(Word, u64)],
     most: u32,
+    by_masks: bool,
 ) -> Result<Vec<(u64, u8)>, Fail> {
     let (first, others) = alts.split_first().ok_or("no alternative")?;
     let mut cond = Cond::one(*first);
@@ -65,10 +88,17 @@ fn scanned(
     let mut stops = Vec::new(alloc);
     for (value, len) in runs {
         assert!(rt; 0 < *len);
-        let mut next = Some(Run {
+        let whole = Run {
             value: *value,
             len: *len,
-        });
+        };
+        if by_masks && waiter.is_exact() {
+            if let Some(stop) = walked(rt, &mut waiter, whole) {
+                stops.push(stop)?;
+            }
+            continue;
+        }
+        let mut next = Some(whole);
         for _ in 0..most {
             let Some(run) = next else {
                 break;
@@ -203,10 +233,12 @@ fn compare(
 ) -> Result<(), Fail> {
     assert!(rt; alts.len() <= 8 && samples.len() as u64 <= FAR);
     let stops = all_stops(alloc, alts, samples)?;
-    assert!(rt;
-        scanned(rt, alloc, alts, runs, 4)? == stops,
-        "{alts:?} at {runs:?}"
-    );
+    for by_masks in [false, true] {
+        assert!(rt;
+            scanned(rt, alloc, alts, runs, 4, by_masks)? == stops,
+            "{alts:?} at {runs:?}"
+        );
+    }
     Ok(())
 }
 
@@ -218,7 +250,7 @@ fn compare(
 fn stops_of_runs(rt: HostRuntime) -> Result<(), Fail> {
     let alloc = rt.alloc();
     for (alts, runs, stops) in STOPS {
-        let found = scanned(&rt, alloc, alts, runs, 3)?;
+        let found = scanned(&rt, alloc, alts, runs, 3, false)?;
         assert!(rt; found.as_slice() == stops, "{alts:?} at {runs:?}");
     }
     for (values, count, lists, second) in [(2, 3, 216, 0b01), (4, 2, 144, 0b10), (4, 3, 1728, 0)] {
@@ -311,6 +343,27 @@ fn conditions_are_renewed_and_runs_passed(rt: HostRuntime) {
         len: 1 << 60,
     };
     assert!(rt; waiter.pass_runs(&[far]) == 0);
+    // no masks say that a line of the upper half rises, but it is waited for
+    let above = Alt { rise: TOP, ..NONE };
+    let mut waiter = Waiter::new(Cond::one(above));
+    assert!(rt; waiter.scan(Run { value: 1, len: 2 }) == Scan::Through);
+    assert!(rt; !waiter.is_exact());
+    let high = Run { value: TOP, len: 1 };
+    let met = Scan::Met {
+        at: 2,
+        value: TOP,
+        met: 1,
+        rest: None,
+    };
+    assert!(rt; waiter.scan(high) == met);
+    // a waiter made from what was kept goes on as the one that it was kept of
+    let (consumed, stop, last) = waiter.kept();
+    assert!(rt; (consumed, stop, last) == (3, Some(2), TOP));
+    let mut other = Waiter::made(Cond::one(above), consumed, stop, last);
+    for run in [high, Run { value: 0, len: 2 }, high] {
+        assert!(rt; waiter.consumed() <= FAR && other.consumed() <= FAR && run.len <= FAR);
+        assert!(rt; other.scan(run) == waiter.scan(run));
+    }
 }
 
 // Words, and where their first fault is.

@@ -1,6 +1,8 @@
 // A driver of edges, worked by hand from where line 0 changes.
 use crate::moving::is_send;
-use decoder_core::{Driver, LogicMachine, Machine, Outs, note_at, one_input_makes_one_driver};
+use decoder_core::{
+    Driver, LogicMachine, Machine, Outs, Taken, note_at, one_input_makes_one_driver,
+};
 use la_base::{Feed, Packet, PacketKind, Run, Wire};
 use sample_walks::{Edges, event_laws, walk_laws};
 
@@ -66,7 +68,7 @@ fn a_driver_gives_each_edge_once(rt: HostRuntime) {
         assert!(rt; outs.list().len() < 2);
         assert!(rt; driver.floor() == floor);
     }
-    // runs without an edge are passed
+    // runs without an edge are passed, up to one that has it
     let mut driver = Driver::new(Edges::new());
     let mut outs = Outs::new();
     let first = Feed::Run(Run { value: 1, len: 3 });
@@ -76,10 +78,12 @@ fn a_driver_gives_each_edge_once(rt: HostRuntime) {
         Run { value: 3, len: 1 },
         Run { value: 0, len: 2 },
     ];
-    assert!(rt; driver.pass_runs(&runs) == 2);
-    assert!(rt; driver.floor() == 6);
     outs.clear();
-    assert!(rt; driver.step_run(runs[2], &mut outs) == None);
+    let taken = Taken {
+        count: 3,
+        rest: None,
+    };
+    assert!(rt; driver.step_runs(&runs, &mut outs) == taken);
     assert!(rt; outs.list() == [note_at(0, 6, 0)].as_slice());
     assert!(rt; driver.floor() == 8);
     walk_laws::<u8>();
