@@ -2,36 +2,43 @@
 """Writes samples of an SPI bus, one byte a sample: SCK on D0, MOSI on D1, MISO on D2, and the select line
 on D3, active low.
 
-usage: bench/spi_capture.py MOSI:MISO .. [TIMES]
+usage: bench/spi_capture.py [-2] MOSI:MISO .. [TIMES]
 
 Each word is one transaction: the bytes of both lines in hexadecimal, as many on MISO as on MOSI. Four
 samples are a bit: the clock is low for two of them, and then high for two, and the most significant bit
-comes first. The bus rests for eight samples before each transaction and behind the last. They are sent
-as often as TIMES says (1).
+comes first. With -2 two samples are a bit, one of each, so that the clock changes at each sample. The bus
+rests for eight samples before each transaction and behind the last. They are sent as often as TIMES says
+(1).
+
+The busiest bus, a word for each sixteen samples with data on both lines:
+
+    bench/spi_capture.py -2 03A5C31E7F0096D8:1B2C3D4E5F607182 100000 > spi.raw
 """
 import sys
 
 SELECT = 8
 
 
-def transaction(word):
+def transaction(word, half):
     mosi, miso = (bytes.fromhex(part) for part in word.split(":"))
     line = [0, 0]
     for out, back in zip(mosi, miso, strict=True):
         for place in range(7, -1, -1):
             data = (out >> place & 1) << 1 | (back >> place & 1) << 2
-            line += [data, data, data | 1, data | 1]
+            line += [data] * half + [data | 1] * half
     return line + [0, 0]
 
 
 def main():
     words = sys.argv[1:]
+    half = 1 if words[:1] == ["-2"] else 2
+    words = words[2 - half :]
     times = int(words.pop()) if len(words) > 1 and ":" not in words[-1] else 1
     if not words:
         sys.exit(__doc__)
     once = []
     for word in words:
-        once += [SELECT] * 8 + transaction(word)
+        once += [SELECT] * 8 + transaction(word, half)
     sys.stdout.buffer.write(bytes(once) * times + bytes([SELECT] * 8))
 
 
