@@ -2,6 +2,7 @@ pub mod Buffering
 pub mod Bytes
 pub mod Calls
 pub mod Fronts
+pub mod Together
 mod Filling
 mod Dropping
 mod Pieces

@@ -17,11 +17,14 @@ abbrev pub got_by : {K : Type 0} → (K → Option (List ℕ)) → Buffered K �
 got_by written buffer = append_known (written (behind buffer)) (held_by buffer)
 
 -- the same sink is behind it, and that only went on
-abbrev pub BufferGoesOn : {K : Type 0} → (K → Option (List ℕ)) → (K → K → Type 0) → Buffered K → Buffered K → Type 0
-BufferGoesOn written goes_on old new = (new.sink.ghost_name ≡ old.sink.ghost_name) × Onward written goes_on (behind old) (behind new)
+abbrev pub BufferGoesOn : {K : Type 0} → (K → Option (List ℕ)) → (K → K → Type 0) → Buffered K
+    → Buffered K → Type 0
+BufferGoesOn written goes_on old new =
+    (new.sink.ghost_name ≡ old.sink.ghost_name) × Onward written goes_on (behind old) (behind new)
 
 -- a front of what was held went to the sink, and the rest is still held
-pub record HandsOn {K : Type 0} (written : K → Option (List ℕ)) (old new : Buffered K) : Type 0 where
+pub record HandsOn {K : Type 0} (written : K → Option (List ℕ))
+    (old new : Buffered K) : Type 0 where
   pub sent : List ℕ
   pub split : held_by old ≡ sent ++ held_by new
   pub got : Appends (written (behind old)) (written (behind new)) sent

@@ -7,7 +7,8 @@ pub data Told : Type 0 where
   AtEnd : Told
   Cut : Told
 
--- the channels' names and the rate, as so many samples in so many seconds; or a fault of the header; or the bytes are cut before the head is whole
+-- the channels' names and the rate, as so many samples in so many seconds; or a fault of the
+-- header; or the bytes are cut before the head is whole
 pub data Head : Type 0 where
   Good : (names : List (List ℕ)) (num den : ℕ) → Head
   Bad : CaptureFault → Head

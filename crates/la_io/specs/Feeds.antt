@@ -1,18 +1,31 @@
 -- What a tree of decoders is fed with, and the marks that are taken of it.
-use Rattle.std.specs.Prelude.{ℕ, ◌≡◌, ◌≢◌, ◌<◌, ◌≤◌, ◌^◌, Bool, true, false, List, [], ◌∷◌, ◌++◌, length}
+use Rattle.std.specs.Prelude.{ℕ, ◌≡◌, ◌≢◌, ◌<◌, ◌≤◌, ◌^◌, Bool, true, false, List, [], ◌∷◌, ◌++◌}
+use Rattle.std.specs.Prelude.{length}
 use Rattle.la_base.specs.Runs.{samples_of}
 use Rattle.la_base.specs.declared.samples.Run.{Run}
 use Rattle.la_base.specs.declared.wires.Mark.{Mark}
 
--- an answer says whether there was more to give; where there wasn't, no run was given, and the feed is at its end
+-- an answer says whether there was more to give; where there wasn't, no run was given, and the feed
+-- is at its end
 abbrev pub TellsMore : Bool → Bool → List Run → Type 0
 TellsMore true ended runs = ended ≡ false
 TellsMore false ended runs = (ended ≡ true) × (runs ≡ [])
 
--- runs that are given are appended; no more samples are given than are numbered
-pub record GivesRuns (old new : List Run → Type 0) (runs : List Run) : Type 0 where
-  pub gave : (before : List Run) → old before → new (before ++ runs)
-  pub few : (all : List Run) → new all → length (samples_of all) ≤ 2 ^ 60
+-- what lists hold, one list behind another
+abbrev pub together : {X : Type 0} → List (List X) → List X
+together [] = []
+together (list ∷ lists) = list ++ together lists
+
+-- the list that a call gives, where it has more to give
+abbrev pub given_now : Bool → List Run → List (List Run)
+given_now true runs = runs ∷ []
+given_now false runs = []
+
+-- runs that are given are one list more; no more samples are given than are numbered
+pub record GivesRuns (more : Bool) (old new : List (List Run) → Type 0) (runs : List Run)
+    : Type 0 where
+  pub gave : (before : List (List Run)) → old before → new (before ++ given_now more runs)
+  pub few : (all : List (List Run)) → new all → length (samples_of (together all)) ≤ 2 ^ 60
 
 -- a count grows where there was more to give, and has an end
 pub record Counts (more : Bool) (old new : ℕ) : Type 0 where
@@ -26,4 +39,5 @@ pub record AddsMark (old new : ℕ → List Mark) (instance : ℕ) (mark : Mark)
 
 -- whatever marks were taken before, one more was taken now
 abbrev pub TakesMark : ((ℕ → List Mark) → Type 0) → ((ℕ → List Mark) → Type 0) → ℕ → Mark → Type 0
-TakesMark old new instance mark = (before after : ℕ → List Mark) → old before → AddsMark before after instance mark → new after
+TakesMark old new instance mark =
+    (before after : ℕ → List Mark) → old before → AddsMark before after instance mark → new after

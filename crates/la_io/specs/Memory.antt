@@ -21,9 +21,11 @@ source_fails source = source.fails.items
 abbrev pub source_call : MemSource → ℕ
 source_call source = source.calls
 
--- a read leaves a source behind the bytes that it gave, in the piece that has them, and behind pieces of which nothing was left; or, where it failed, where it stood
+-- a read leaves a source behind the bytes that it gave, in the piece that has them, and behind
+-- pieces of which nothing was left; or, where it failed, where it stood
 abbrev pub StandsBehind : {E : Type 0} → MemSource → MemSource → Result ℕ E → Type 0
-StandsBehind old new (Ok count) = place_of new ≡ bytes_on (next_byte (pieces_of old) (place_of old)) count
+StandsBehind old new (Ok count) =
+    place_of new ≡ bytes_on (next_byte (pieces_of old) (place_of old)) count
 StandsBehind old new (Err failed) = place_of new ≡ place_of old
 
 -- a call of a source: its pieces and its calls that fail stay

@@ -5,7 +5,8 @@ use Rattle.std.proofs.Common.{refl}
 use Rattle.la_io.specs.Grown.{appends_nothing, appends_on}
 
 -- a sink's bytes only grew, and it keeps what its own calls keep
-pub record Onward {K : Type 0} (written : K → Option (List ℕ)) (goes_on : K → K → Type 0) (old new : K) : Type 0 where
+pub record Onward {K : Type 0} (written : K → Option (List ℕ)) (goes_on : K → K → Type 0)
+    (old new : K) : Type 0 where
   pub bytes : List ℕ
   pub grew : Appends (written old) (written new) bytes
   pub inner : goes_on old new
@@ -18,9 +19,11 @@ module _ {K : Type 0} (written : K → Option (List ℕ)) (goes_on : K → K →
     inner = inner;
   }
 
-  pub onward_further : (first next last : K) → Onward written goes_on first next → Onward written goes_on next last → goes_on first last → Onward written goes_on first last
+  pub onward_further : (first next last : K) → Onward written goes_on first next
+      → Onward written goes_on next last → goes_on first last → Onward written goes_on first last
   onward_further first next last a b inner = record {
     bytes = a.bytes ++ b.bytes;
-    grew = appends_on (written first) (written next) (written last) a.bytes b.bytes (a.bytes ++ b.bytes) a.grew b.grew refl;
+    grew = appends_on (written first) (written next) (written last) a.bytes b.bytes
+        (a.bytes ++ b.bytes) a.grew b.grew refl;
     inner = inner;
   }

@@ -1,5 +1,6 @@
 -- What readers of captures answer, and when.
-use Rattle.std.specs.Prelude.{ℕ, ◌≡◌, ◌≤◌, Bool, true, false, List, [], ◌++◌, Option, Some, None, Result, Ok, Err}
+use Rattle.std.specs.Prelude.{ℕ, ◌≡◌, ◌≤◌, Bool, true, false, List, [], ◌++◌, Option, Some, None}
+use Rattle.std.specs.Prelude.{Result, Ok, Err}
 use Rattle.std.specs.Io.KnownBytes.{Consumes, IsAtEnd}
 use Rattle.la_base.specs.Samples.{samples}
 use Rattle.la_base.specs.declared.samples.Run.{Run}
@@ -35,16 +36,20 @@ run_samples None = []
 run_samples (Some run) = samples run
 
 -- what is said behind bytes that were taken, none where the end was told before, and it stays told
-pub record Behind (left : Option (List ℕ)) (before : List ℕ) (early : Told) (bytes : List ℕ) (Says : List ℕ → Told → Type 0) : Type 0 where
+pub record Behind (left : Option (List ℕ)) (before : List ℕ) (early : Told) (bytes : List ℕ)
+    (Says : List ℕ → Told → Type 0) : Type 0 where
   pub told : Told
   pub none : early ≡ AtEnd → bytes ≡ []
   pub still : early ≡ AtEnd → told ≡ AtEnd
   pub at_end : told ≡ AtEnd → IsAtEnd left
   pub says : Says (before ++ bytes) told
 
--- a call: the bytes that it took, and what is said behind them of a reader that stood for those before and for what was given
-pub record Reads (left_old left_new : Option (List ℕ)) (Stood Says : List ℕ → Told → List ℕ → Type 0) : Type 0 where
+-- a call: the bytes that it took, and what is said behind them of a reader that stood for those
+-- before and for what was given
+pub record Reads (left_old left_new : Option (List ℕ))
+    (Stood Says : List ℕ → Told → List ℕ → Type 0) : Type 0 where
   pub bytes : List ℕ
   pub consumed : Consumes left_old left_new bytes
-  pub answers : (before : List ℕ) (early : Told) (given : List ℕ) → (early ≡ AtEnd → IsAtEnd left_old) → Stood before early given
+  pub answers : (before : List ℕ) (early : Told) (given : List ℕ)
+      → (early ≡ AtEnd → IsAtEnd left_old) → Stood before early given
       → Behind left_new before early bytes (λ all told. Says all told given)

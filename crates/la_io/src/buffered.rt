@@ -5,9 +5,9 @@ ghost use Rattle.la_io.specs.Causes.{HasCause};
 use crate::outgoing::Outgoing;
 use crate::{Failed, Sink};
 
-/// A buffer before a sink that was lent, and a sink itself. What it got is what the sink behind it got,
-/// and then the bytes that it holds. A write that finds no room hands on what is held first. Call
-/// `flush` before letting it go: the bytes that it then holds are lost.
+/// A buffer before a sink that was lent, and a sink itself. What it got is what the sink behind it
+/// got, and then the bytes that it holds. A write that finds no room hands on what is held first.
+/// Call `flush` before letting it go: the bytes that it then holds are lost.
 #[derive(Drop)]
 pub struct Buffered<'a, K: Sink> {
     sink: &'a mut K,
@@ -37,8 +37,8 @@ impl<'a, K: Sink> Buffered<'a, K> {
         self.held.bytes().len()
     }
 
-    /// Hands on all that is held, by as many calls as needed. After `Failed` the sink has got a front
-    /// of it, and the rest is still held.
+    /// Hands on all that is held, by as many calls as needed. After `Failed` the sink has got a
+    /// front of it, and the rest is still held.
     pub fn flush(&mut self) -> Result<(), Failed>
         ensures whole { OnOk result (held_by self.new ≡ []) }
         ensures handed { HandsOn K.written self.old self.new }
@@ -64,7 +64,8 @@ impl<K: Sink> Sink for Buffered<'_, K> {
 
     ghost goes_on = { λ a b. BufferGoesOn K.written K.goes_on a b };
 
-    ghost goes_on_still = { λ s. (refl, onward_still K.written K.goes_on (behind s) (K.goes_on_still (behind s))) };
+    ghost goes_on_still = { λ s.
+        (refl, onward_still K.written K.goes_on (behind s) (K.goes_on_still (behind s))) };
 
     ghost goes_on_further = { λ a b c first second. (
       second.0 ∙ first.0,

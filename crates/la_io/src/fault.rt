@@ -1,8 +1,8 @@
 // What is wrong with a capture, and where.
 use thiserror::Error;
 
-/// A fault of a capture. `at` is a place in its bytes, counted from 0; of a table (CSV) it is the number of
-/// a line, from 1. `line` and `column` count from 1.
+/// A fault of a capture. `at` is a place in its bytes, counted from 0; of a table (CSV) it is the
+/// number of a line, from 1. `line` and `column` count from 1.
 #[derive(Clone, Copy, Debug, PartialEq, Eq, Error)]
 pub enum CaptureFault {
     /// The bytes end inside the unit that begins at `at`.

@@ -1,5 +1,6 @@
 // What a tree of decoders reads from, and what takes its marks.
-ghost use Rattle.std.specs.Prelude.{◌≡◌, ◌<◌, List, ℕ, Bool};
+ghost use Rattle.std.specs.Prelude.{◌≡◌, ◌<◌, List, ℕ, Bool, true};
+ghost use Rattle.std.specs.Result.{is_ok};
 ghost use Rattle.la_base.specs.declared.samples.Run.{Run};
 ghost use Rattle.la_base.specs.declared.wires.Mark.{Mark};
 ghost use Rattle.la_io.specs.Causes.{HasCause};
@@ -12,11 +13,11 @@ pub trait RunFeed {
     /// What it was made over, as plain data.
     type Origin;
 
-    /// It has given these runs so far.
-    ghost gave: { Self → List Run → Type 0 };
+    /// It has given these lists of runs so far, one for each call that had more to give.
+    ghost gave: { Self → List (List Run) → Type 0 };
 
-    /// A count that grows with each call that gives runs, as that of its samples; it has an end, so every
-    /// feed ends. It is told also of a feed that stands for no runs.
+    /// A count that grows with each call that gives runs, as that of its samples; it has an end, so
+    /// every feed ends. It is told also of a feed that stands for no runs.
     ghost given: { Self → ℕ };
 
     /// The runs that the last call of `next_runs` gave.
@@ -28,11 +29,11 @@ pub trait RunFeed {
     /// What it was made over. No call changes it.
     ghost origin: { Self → Self.Origin };
 
-    /// Gives the next runs, as many as can be had at once, and answers whether there was more to give.
-    /// Where there wasn't, the feed is at its end.
+    /// Gives the next runs, as many as can be had at once, and answers whether there was more to
+    /// give. Where there wasn't, the feed is at its end.
     fn next_runs(&mut self) -> bool
         ensures more { TellsMore result (at_end self.new) (held self.new) }
-        ensures gives { GivesRuns (gave self.old) (gave self.new) (held self.new) }
+        ensures gives { GivesRuns result (gave self.old) (gave self.new) (held self.new) }
         ensures counts { Counts result (given self.old) (given self.new) }
         ensures origin { origin self.new ≡ origin self.old };
 
@@ -41,8 +42,8 @@ pub trait RunFeed {
         ensures { result.now ≡ held self.now };
 }
 
-/// The one that takes the marks wants no more of them: its count of stops rose. The mark that it was
-/// handed in that call counts as taken.
+/// The one that takes the marks wants no more of them: its count of stops rose. The mark that it
+/// was handed in that call counts as taken.
 #[derive(Clone, Copy, Debug, PartialEq, Eq)]
 pub struct Stopped;
 
@@ -60,6 +61,11 @@ pub trait MarkTake {
     /// How often it has stopped. It never falls.
     ghost stops: { Self → ℕ };
 
+    /// With true: it has stopped at no mark yet. With false: it stopped at the last mark that it
+    /// was handed, and at none before. Of one that was handed a mark behind a stop neither is
+    /// known.
+    ghost going: { Self → Bool → Type 0 };
+
     /// What it was made over. No call changes it.
     ghost origin: { Self → Self.Origin };
 
@@ -69,5 +75,6 @@ pub trait MarkTake {
         ensures adds { TakesMark (took self.old) (took self.new) instance mark }
         ensures instances { instances self.new ≡ instances self.old }
         ensures cause { HasCause (stops self.old) (stops self.new) result }
+        ensures going { going self.old true → going self.new (is_ok result) }
         ensures origin { origin self.new ≡ origin self.old };
 }

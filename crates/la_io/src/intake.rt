@@ -1,5 +1,6 @@
 // A buffer between a source and its reader.
-ghost use Rattle.std.specs.Prelude.{◌≡◌, ◌<◌, ◌≤◌, ◌+◌, ◌-◌, ◌^◌, ◌++◌, [], length, slice_range, take, drop};
+ghost use Rattle.std.specs.Prelude.{◌≡◌, ◌<◌, ◌≤◌, ◌+◌, ◌-◌, ◌^◌, ◌++◌, [], length, slice_range};
+ghost use Rattle.std.specs.Prelude.{take, drop};
 ghost use Rattle.la_io.specs.Causes.{HasCause};
 ghost use Rattle.la_io.specs.Intake.{Front, Reads, ReadsWithout, without};
 
@@ -9,8 +10,8 @@ use std::marker::Model;
 /// The most bytes that are taken from a source.
 pub const MOST_BYTES: u64 = 1 << 60;
 
-/// A buffer between a source and its reader: the bytes that were taken and are still needed, at most
-/// `ROOM`, and how many were taken so far, at most `MOST_BYTES`.
+/// A buffer between a source and its reader: the bytes that were taken and are still needed, at
+/// most `ROOM`, and how many were taken so far, at most `MOST_BYTES`.
 #[derive(Drop)]
 pub struct Intake<const ROOM: usize> {
     buf: [u8; ROOM],
@@ -24,7 +25,13 @@ impl<const ROOM: usize> Model for Intake<ROOM> {
 
     ghost view = { λ s. record { bytes = slice_range s.buf s.start s.end; taken = s.taken } };
 
-    ghost invariant = { λ s. record { in_order : s.start ≤ s.end; within : s.end ≤ ROOM; few : s.taken ≤ 2 ^ 60; held : s.end - s.start ≤ s.taken } };
+    ghost invariant = { λ s.
+        record {
+          in_order : s.start ≤ s.end;
+          within : s.end ≤ ROOM;
+          few : s.taken ≤ 2 ^ 60;
+          held : s.end - s.start ≤ s.taken;
+        } };
 }
 
 impl<const ROOM: usize> Intake<ROOM> {
@@ -69,8 +76,8 @@ impl<const ROOM: usize> Intake<ROOM> {
     }
 
     /// Reads once, behind what is held, as much as there is room for, and answers how many bytes
-    /// came: 0 is the end. No more than `MOST_BYTES` are taken in all. `Failed` comes where the source
-    /// failed, and takes nothing.
+    /// came: 0 is the end. No more than `MOST_BYTES` are taken in all. `Failed` comes where the
+    /// source failed, and takes nothing.
     pub fn more<S: Source>(&mut self, source: &mut S) -> Result<usize, Failed>
         requires room { length self.old.bytes < ROOM }
         requires few { self.old.taken < 2 ^ 60 }
@@ -92,12 +99,13 @@ impl<const ROOM: usize> Intake<ROOM> {
         }
     }
 
-    /// Reads as `more` does, and keeps no byte of what came that is `dropped`. The answer counts those
-    /// too: 0 is the end.
+    /// Reads as `more` does, and keeps no byte of what came that is `dropped`. The answer counts
+    /// those too: 0 is the end.
     pub fn more_without<S: Source>(&mut self, source: &mut S, dropped: u8) -> Result<usize, Failed>
         requires room { length self.old.bytes < ROOM }
         requires few { self.old.taken < 2 ^ 60 }
-        ensures reads { ReadsWithout dropped self.old self.new (S.left source.old) (S.left source.new) result }
+        ensures reads { ReadsWithout dropped self.old self.new (S.left source.old)
+            (S.left source.new) result }
         ensures cause { HasCause (S.faults source.old) (S.faults source.new) result }
     {
         let held = self.end - self.start;
@@ -113,12 +121,13 @@ impl<const ROOM: usize> Intake<ROOM> {
     }
 }
 
-// Takes a byte out of what stands behind the first `from` bytes, and answers how many bytes are left in
-// all. Nothing is moved before the first such byte.
+// Takes a byte out of what stands behind the first `from` bytes, and answers how many bytes are
+// left in all. Nothing is moved before the first such byte.
 fn drop_behind(bytes: &mut [u8], from: usize, dropped: u8) -> usize
     requires { from ≤ length bytes.old }
     ensures within { result ≤ length bytes.old }
-    ensures kept { take result bytes.new ≡ take from bytes.old ++ without dropped (drop from bytes.old) }
+    ensures kept { take result bytes.new
+        ≡ take from bytes.old ++ without dropped (drop from bytes.old) }
 {
     let mut to = from;
     let mut at = from;
@@ -133,14 +142,15 @@ fn drop_behind(bytes: &mut [u8], from: usize, dropped: u8) -> usize
     to
 }
 
-// Makes room behind a part of the buffer, and answers where that part begins now. It is moved to the
-// front where that is needed, or where the part is no longer than what was let go before it: so no
-// more bytes are moved in all than were taken.
+// Makes room behind a part of the buffer, and answers where that part begins now. It is moved to
+// the front where that is needed, or where the part is no longer than what was let go before it: so
+// no more bytes are moved in all than were taken.
 fn settle(buf: &mut [u8], start: usize, end: usize) -> usize
     requires order { start ≤ end }
     requires within { end ≤ length buf.old }
     requires room { end - start < length buf.old }
-    ensures kept { slice_range buf.new result (result + (end - start)) ≡ slice_range buf.old start end }
+    ensures kept { slice_range buf.new result (result + (end - start))
+        ≡ slice_range buf.old start end }
     ensures room { result + (end - start) < length buf.old }
 {
     if end < buf.len() && start < end - start {

@@ -1,5 +1,6 @@
 // A source and a sink in memory whose calls fail where they are told to.
-ghost use Rattle.std.specs.Prelude.{◌≡◌, ◌≤◌, ◌<◌, ◌+◌, ◌==◌, ◌||◌, min, [], length, vec_len, vec_capacity, IfOk, Some};
+ghost use Rattle.std.specs.Prelude.{◌≡◌, ◌≤◌, ◌<◌, ◌+◌, ◌==◌, ◌||◌, min, [], length, vec_len};
+ghost use Rattle.std.specs.Prelude.{vec_capacity, IfOk, Some};
 ghost use Rattle.std.specs.Io.{ReadsAtMost, WritesAtMost};
 ghost use Rattle.std.specs.Io.KnownBytes.{ReadConsumes, WriteAppends};
 ghost use Rattle.std.specs.Bool.{MatchBool};
@@ -12,9 +13,9 @@ use la_base::NoMemory;
 use std::alloc::Global;
 
 /// Pieces of bytes in memory. A read gives at most what is left of the present piece; empty pieces
-/// are passed over. The calls of `read`, counted from 0, whose numbers are in `fails` answer `Failed`.
-/// `read` says how many bytes each call moves: contracts name the pieces (`pieces_of`) and the place in
-/// them (`place_of`) before and behind it.
+/// are passed over. The calls of `read`, counted from 0, whose numbers are in `fails` answer
+/// `Failed`. `read` says how many bytes each call moves: contracts name the pieces (`pieces_of`)
+/// and the place in them (`place_of`) before and behind it.
 #[derive(Debug, Drop)]
 pub struct MemSource {
     pieces: Vec<Vec<u8>>,
@@ -66,7 +67,8 @@ fn fails_now(fails: &[u64], calls: &mut u64, faults: &mut u64) -> bool
 
 impl Source for MemSource {
     ghost use Rattle.la_io.specs.Kept.{left_in};
-    ghost use Rattle.la_io.specs.Memory.{pieces_of, place_of, source_fails, source_call, StandsBehind, SourceCalled};
+    ghost use Rattle.la_io.specs.Memory.{pieces_of, place_of, source_fails, source_call};
+    ghost use Rattle.la_io.specs.Memory.{StandsBehind, SourceCalled};
 
     ghost left = { λ s. Some (left_in (pieces_of s) (place_of s)) };
 
@@ -74,12 +76,16 @@ impl Source for MemSource {
 
     fn read(&mut self, buf: &mut [u8]) -> Result<usize, Failed>
         ensures bound { ReadsAtMost result buf.new }
-        ensures bytes { ReadConsumes (Some (left_in (pieces_of self.old) (place_of self.old))) (Some (left_in (pieces_of self.new) (place_of self.new))) result buf.new }
+        ensures bytes { ReadConsumes (Some (left_in (pieces_of self.old) (place_of self.old)))
+            (Some (left_in (pieces_of self.new) (place_of self.new))) result buf.new }
         ensures cause { HasCause self.old.faults self.new.faults result }
         // Failed comes exactly where the call's number is one of those that fail.
-        ensures fails { FailsExactly (is_listed (source_fails self.old) (source_call self.old)) result }
+        ensures fails { FailsExactly
+            (is_listed (source_fails self.old) (source_call self.old)) result }
         // Else as much is given as the present piece has and the buffer takes.
-        ensures count { IfOk result (λ count. count ≡ min (present (pieces_of self.old) (place_of self.old)) (length buf.old)) }
+        ensures count { IfOk result
+            (λ count. count
+            ≡ min (present (pieces_of self.old) (place_of self.old)) (length buf.old)) }
         ensures place { StandsBehind self.old self.new result }
         ensures called { SourceCalled self.old self.new }
     {
@@ -117,8 +123,8 @@ pub struct MemSink {
 impl MemSink {
     ghost use Rattle.la_io.specs.Memory.{sink_most, sink_room, sink_fails, sink_call};
 
-    /// A sink with room for `room` bytes, for which it takes memory at once, that got none and hasn't
-    /// failed yet.
+    /// A sink with room for `room` bytes, for which it takes memory at once, that got none and
+    /// hasn't failed yet.
     pub fn new(
         alloc: Global,
         most: usize,
@@ -168,13 +174,20 @@ impl Sink for MemSink {
         requires { 0 < length bytes.now }
         ensures bound { WritesAtMost result bytes.now }
         ensures some { IfOk result (λ count. 0 < count) }
-        ensures bytes { WriteAppends (Some self.old.bytes.items) (Some self.new.bytes.items) result bytes.now }
+        ensures bytes { WriteAppends (Some self.old.bytes.items)
+            (Some self.new.bytes.items) result bytes.now }
         ensures cause { HasCause self.old.faults self.new.faults result }
         ensures goes_on { Unit {0} }
-        // Failed comes exactly where the call's number is one of those that fail, or no room is left.
-        ensures fails { FailsExactly (is_listed (sink_fails self.old) (sink_call self.old) || sink_room self.old == 0) result }
+        // Failed comes exactly where the call's number is one of those that fail, or no room is
+        // left.
+        ensures fails { FailsExactly
+            (is_listed (sink_fails self.old) (sink_call self.old) || sink_room self.old == 0)
+            result }
         // Else as much is taken as it takes at once and has room for.
-        ensures count { IfOk result (λ count. (count ≡ min (length bytes.now) (min (sink_most self.old) (sink_room self.old))) × (count + sink_room self.new ≡ sink_room self.old)) }
+        ensures count { IfOk result
+            (λ count. (count ≡ min (length bytes.now)
+            (min (sink_most self.old) (sink_room self.old)))
+            × (count + sink_room self.new ≡ sink_room self.old)) }
         ensures called { SinkCalled self.old self.new }
     {
         if fails_now(&self.fails, &mut self.calls, &mut self.faults) {

@@ -1,5 +1,6 @@
 // Bytes that wait to be handed on.
-ghost use Rattle.std.specs.Prelude.{◌≡◌, ◌+◌, ◌<◌, ◌≤◌, List, ℕ, [], ◌++◌, length, take, drop, min, slice_range};
+ghost use Rattle.std.specs.Prelude.{◌≡◌, ◌+◌, ◌<◌, ◌≤◌, List, ℕ, [], ◌++◌, length, take, drop, min};
+ghost use Rattle.std.specs.Prelude.{slice_range};
 
 use crate::give::give;
 use std::marker::Model;

@@ -16,8 +16,8 @@ pub trait Source {
     /// How often it has failed. It never falls.
     ghost faults: { Self → ℕ };
 
-    /// Puts the next bytes at the front of `buf` and answers how many. Where `buf` isn't empty, 0 is
-    /// the end. `Failed` takes no byte.
+    /// Puts the next bytes at the front of `buf` and answers how many. Where `buf` isn't empty, 0
+    /// is the end. `Failed` takes no byte.
     fn read(&mut self, buf: &mut [u8]) -> Result<usize, Failed>
         ensures bound { ReadsAtMost result buf.new }
         ensures bytes { ReadConsumes (left self.old) (left self.new) result buf.new }
@@ -48,5 +48,6 @@ pub trait Sink {
 
     ghost goes_on_still: { (sink : Self) → goes_on sink sink };
 
-    ghost goes_on_further: { (first next last : Self) → goes_on first next → goes_on next last → goes_on first last };
+    ghost goes_on_further: { (first next last : Self) → goes_on first next → goes_on next last
+        → goes_on first last };
 }

@@ -37,8 +37,8 @@ impl<R: Read> Source for StdSource<R> {
     }
 }
 
-/// Any writer as a sink. Each error that it answers counts as one more fault, and so does a write that
-/// takes nothing. Of what was written it tells what the writer tells.
+/// Any writer as a sink. Each error that it answers counts as one more fault, and so does a write
+/// that takes nothing. Of what was written it tells what the writer tells.
 #[derive(Debug, Drop)]
 pub struct StdSink<W: Write> {
     writer: W,
