@@ -1,6 +1,8 @@
--- I2C on a whole list of samples, by UM10204: START and STOP conditions (3.1.4), bytes with the most significant bit
--- first (3.1.5), acknowledge (3.1.6), address and R/W (3.1.10), ten-bit addresses (3.1.11), general call (3.1.13).
-use Rattle.std.specs.Prelude.{ℕ, nat_lt, ◌&&◌, Bool, true, false, not, ◌==◌, if◌then◌else◌, List, [], ◌∷◌, ◌++◌, length, map, take, drop, Option, Some, None, is_some}
+-- I2C on a whole list of samples, by UM10204: START and STOP conditions (3.1.4), bytes with the
+-- most significant bit first (3.1.5), acknowledge (3.1.6), address and R/W (3.1.10), ten-bit
+-- addresses (3.1.11), general call (3.1.13).
+use Rattle.std.specs.Prelude.{ℕ, nat_lt, ◌&&◌, Bool, true, false, not, ◌==◌, if◌then◌else◌, List}
+use Rattle.std.specs.Prelude.{[], ◌∷◌, ◌++◌, length, map, take, drop, Option, Some, None, is_some}
 use Rattle.std.specs.List.{flat_map}
 use Rattle.la_base.specs.Samples.{is_high}
 use Rattle.la_base.specs.declared.wires.Out.{Out}
@@ -34,7 +36,8 @@ event_by k false false sda now = []
 -- the event at sample k, by the sample before it and its own; there is none at the first
 abbrev pub event_at : ℕ → ℕ → ℕ → Option ℕ → ℕ → List Event
 event_at scl sda k None now = []
-event_at scl sda k (Some before) now = event_by k (is_high before scl) (is_high now scl) (is_high before sda) (is_high now sda)
+event_at scl sda k (Some before) now =
+    event_by k (is_high before scl) (is_high now scl) (is_high before sda) (is_high now sda)
 
 -- all events of a list of samples
 abbrev pub events : ℕ → ℕ → List ℕ → List Event
@@ -63,8 +66,9 @@ abbrev pub ack_outs : ℕ → Bool → List Out
 ack_outs k false = note_at 7 k 0 ∷ packet_at I2cAck k 0 ∷ []
 ack_outs k true = note_at 8 k 0 ∷ packet_at I2cAck k 1 ∷ []
 
--- the clocks of a segment, byte by byte: eight clocks are a byte and the ninth acknowledges it; behind the whole groups of
--- nine a byte may stand without its ninth, and fewer than eight clocks are nothing
+-- the clocks of a segment, byte by byte: eight clocks are a byte and the ninth acknowledges it;
+-- behind the whole groups of nine a byte may stand without its ninth, and fewer than eight clocks
+-- are nothing
 abbrev pub last_byte : List Event → List (List Event)
 last_byte rest = if length rest == 8 then rest ∷ [] else []
 
@@ -84,14 +88,18 @@ values_of bytes = map byte_value bytes
 
 -- eight clocks, by the bytes of their segment before them
 abbrev pub eight_outs : (ℕ → Option ℕ) → List ℕ → List Event → List Out
-eight_outs known before clocks = byte_outs known (role_behind before) (first_place place_of clocks) (last_place place_of clocks) (value_of clocks)
+eight_outs known before clocks =
+    byte_outs known (role_behind before) (first_place place_of clocks) (last_place place_of clocks)
+    (value_of clocks)
 
 -- a byte with its acknowledge bit, by the bytes of its segment before it
 abbrev pub group_outs : (ℕ → Option ℕ) → List (List Event) → List Event → List Out
 group_outs known before byte =
-    eight_outs known (values_of before) (take 8 byte) ++ flat_map (λ clock. ack_outs (place_of clock) (level_of clock)) (drop 8 byte)
+    eight_outs known (values_of before) (take 8 byte)
+    ++ flat_map (λ clock. ack_outs (place_of clock) (level_of clock)) (drop 8 byte)
 
--- the clocks of a segment; `known` says from which ten-bit address it would read with this first byte
+-- the clocks of a segment; `known` says from which ten-bit address it would read with this first
+-- byte
 unfoldable pub clocks_outs : (ℕ → Option ℕ) → List Event → List Out
 clocks_outs known clocks = along (group_outs known) (bytes_of clocks)
 
@@ -121,7 +129,8 @@ abbrev pub bytes_in : Option (List Event) → List ℕ
 bytes_in None = []
 bytes_in (Some clocks) = values_of (bytes_of clocks)
 
--- whether a part is no segment that begins with this byte: a STOP, a segment without a byte, or one with another first byte
+-- whether a part is no segment that begins with this byte: a STOP, a segment without a byte, or one
+-- with another first byte
 abbrev pub begins_with : ℕ → List ℕ → Bool
 begins_with byte [] = false
 begins_with byte (first ∷ others) = first == byte
@@ -129,15 +138,19 @@ begins_with byte (first ∷ others) = first == byte
 abbrev pub is_other : ℕ → List Event → Bool
 is_other byte part = not (begins_with byte (bytes_in (segment_in part)))
 
--- the ten-bit address that a segment with this first byte reads from, by the parts before it: the last of them that doesn't
--- begin with that byte too is a segment that writes to this address, and so no STOP stands between that one and this
+-- the ten-bit address that a segment with this first byte reads from, by the parts before it: the
+-- last of them that doesn't begin with that byte too is a segment that writes to this address, and
+-- so no STOP stands between that one and this
 abbrev pub read_from : List (List Event) → ℕ → Option ℕ
-read_from earlier byte = read_by byte (written (bytes_in (segment_of (last_that (is_other byte) earlier))))
+read_from earlier byte =
+    read_by byte (written (bytes_in (segment_of (last_that (is_other byte) earlier))))
 
--- a part, by the parts before it: a START is repeated where a segment is open. Clocks behind a STOP give nothing
+-- a part, by the parts before it: a START is repeated where a segment is open. Clocks behind a STOP
+-- give nothing
 abbrev pub part_outs : List (List Event) → List Event → List Out
 part_outs earlier [] = []
-part_outs earlier (Start k ∷ clocks) = start_outs (is_some (open_segment earlier)) k ++ clocks_outs (read_from earlier) clocks
+part_outs earlier (Start k ∷ clocks) =
+    start_outs (is_some (open_segment earlier)) k ++ clocks_outs (read_from earlier) clocks
 part_outs earlier (Stop k ∷ clocks) = stop_outs k
 part_outs earlier (Clock k level ∷ clocks) = []
 
@@ -148,9 +161,11 @@ events_outs list = along part_outs (parts is_mark list)
 unfoldable pub i2c_outs : ℕ → ℕ → List ℕ → List Out
 i2c_outs scl sda samples = events_outs (events scl sda samples)
 
--- where the clocks behind the whole groups begin, if they are one to seven: a byte that isn't given yet
+-- where the clocks behind the whole groups begin, if they are one to seven: a byte that isn't given
+-- yet
 abbrev pub begun_at : List Event → ℕ → ℕ
-begun_at rest next = if nat_lt 0 (length rest) && nat_lt (length rest) 8 then first_place place_of rest else next
+begun_at rest next =
+    if nat_lt 0 (length rest) && nat_lt (length rest) 8 then first_place place_of rest else next
 
 abbrev pub near_in : Option (List Event) → ℕ → ℕ
 near_in None next = next
@@ -158,4 +173,5 @@ near_in (Some clocks) next = begun_at (after_groups 9 clocks) next
 
 -- *near*: where the byte that has begun and isn't given yet starts, else the number of samples
 unfoldable pub i2c_near : ℕ → ℕ → List ℕ → ℕ
-i2c_near scl sda samples = near_in (open_segment (parts is_mark (events scl sda samples))) (length samples)
+i2c_near scl sda samples =
+    near_in (open_segment (parts is_mark (events scl sda samples))) (length samples)

@@ -13,7 +13,8 @@ use Rattle.dec_i2c.specs.laws.Machine.{i2c_walk}
 abbrev pub bus_of : I2c → Bus
 bus_of machine = machine.bus
 
--- a decoder stands for samples that end with an event, or for none: it keeps what the walk over them leaves
+-- a decoder stands for samples that end with an event, or for none: it keeps what the walk over
+-- them leaves
 abbrev pub StandsFor : I2c → List ℕ → Type 0
 StandsFor machine list =
     let walk = by_events (i2c_walk machine.bus.scl machine.bus.sda) in
@@ -23,7 +24,10 @@ StandsFor machine list =
 abbrev pub InRange : ℕ → I2cOpts → Type 0
 InRange most opts = (opts.scl < most) × (opts.sda < most)
 
--- a decoder of these lines that stands for no samples, or Range exactly where a line is out of range
+-- a decoder of these lines that stands for no samples, or Range exactly where a line is out of
+-- range
 abbrev pub Opens : ℕ → I2cOpts → Result I2c OptFault → Type 0
-Opens most opts (Ok machine) = InRange most opts × (machine.bus.scl ≡ opts.scl) × (machine.bus.sda ≡ opts.sda) × StandsFor machine []
+Opens most opts (Ok machine) =
+    InRange most opts × (machine.bus.scl ≡ opts.scl) × (machine.bus.sda ≡ opts.sda)
+    × StandsFor machine []
 Opens most opts (Err fault) = (fault ≡ Range) × (¬ InRange most opts)

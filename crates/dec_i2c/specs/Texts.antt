@@ -2,7 +2,8 @@
 use Rattle.std.specs.Prelude.{ℕ, ◌==◌, ◌/◌, ◌%◌, List, [], ◌++◌, codes, if◌then◌else◌}
 use Rattle.line_text.specs.Texts.{hex}
 
--- the name of the command of a general call (UM10204, 3.1.13): an odd byte is the address of a hardware master, and a 1
+-- the name of the command of a general call (UM10204, 3.1.13): an odd byte is the address of a
+-- hardware master, and a 1
 abbrev pub command_name : ℕ → List ℕ
 command_name byte =
     if byte == 6 then codes "reset and write address"

@@ -21,7 +21,8 @@ pub struct Bus {
 /// What a byte of a segment is, by the bytes that stand before it there.
 #[derive(Clone, Copy, Debug, PartialEq, Eq)]
 pub enum Role {
-    /// The first one: an address with R/W, a prefix of ten-bit addresses with R/W, or a general call.
+    /// The first one: an address with R/W, a prefix of ten-bit addresses with R/W, or a general
+    /// call.
     First,
     /// Behind a prefix with R/W 0: the lower eight bits of a ten-bit address with these upper two.
     Lower(u8),
@@ -38,7 +39,8 @@ pub enum Role {
 pub struct Segment {
     /// What its next byte is.
     pub role: Role,
-    /// The ten-bit address that can be read from: before the first byte in this segment, then in the next.
+    /// The ten-bit address that can be read from: before the first byte in this segment, then in
+    /// the next.
     pub ten: Option<u16>,
     /// How many bits of the present group of nine were read.
     pub bits: u8,

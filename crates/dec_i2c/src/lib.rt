@@ -1,4 +1,5 @@
-//! I2C, by the bus specification UM10204: addresses of seven and of ten bits, data, acknowledges, general calls.
+//! I2C, by the bus specification UM10204: addresses of seven and of ten bits, data, acknowledges,
+//! general calls.
 #![tactic(auto)]
 
 mod held;

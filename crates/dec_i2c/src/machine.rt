@@ -5,14 +5,15 @@ ghost use Rattle.sample_walks.specs.laws.EventDecoders.{quiet_of};
 ghost use Rattle.dec_i2c.specs.Bus.{i2c_outs, i2c_near};
 ghost use Rattle.dec_i2c.specs.Opening.{StandsFor, Opens};
 ghost use Rattle.dec_i2c.specs.laws.Machine.{mark_alt, clock_alt, i2c_alts, near_by};
-ghost use Rattle.dec_i2c.specs.laws.I2cLaws.{i2c_decoder, i2c_nothing, i2c_prefix, i2c_order, i2c_few};
+ghost use Rattle.dec_i2c.specs.laws.I2cLaws.{i2c_decoder, i2c_nothing, i2c_prefix, i2c_order};
+ghost use Rattle.dec_i2c.specs.laws.I2cLaws.{i2c_few};
 ghost use Rattle.dec_i2c.specs.laws.WireLaws.{i2c_on_wire};
 ghost use Rattle.dec_i2c.specs.laws.MachineLaws.{one_i2c, i2c_one_stop};
 
 use crate::outputs::give;
 use crate::steps::{step, takes_bit};
 use crate::{Bus, I2c, I2cOpts, Segment};
-use decoder_core::{LogicMachine, OptFault, Outs};
+use decoder_core::{Configured, Driver, LogicMachine, OptFault, Outs, is_send};
 use la_base::{MOST_PINS, Rate, Word, mask, pin};
 use wait_cond::{Alt, Cond, Waiter};
 
@@ -64,8 +65,8 @@ fn near(held: &Option<Segment>, next: u64) -> u64
 }
 
 impl I2c {
-    /// Opens a decoder of these lines at any rate; it stands for no samples. Answers Range where a line
-    /// isn't one of the bits of a sample, and never Rate.
+    /// Opens a decoder of these lines at any rate; it stands for no samples. Answers Range where a
+    /// line isn't one of the bits of a sample, and never Rate.
     pub fn open(opts: I2cOpts, _rate: Rate) -> Result<I2c, OptFault>
         ensures { Opens MOST_PINS opts result }
     {
@@ -81,11 +82,13 @@ impl I2c {
     }
 }
 
-impl LogicMachine for I2c {
+impl Configured for I2c {
     type Setup = Bus;
 
     ghost setup = { λ machine. machine.bus };
+}
 
+impl LogicMachine for I2c {
     ghost outs = { λ bus list. i2c_outs bus.scl bus.sda list };
 
     ghost near = { λ bus list. i2c_near bus.scl bus.sda list };
@@ -122,7 +125,9 @@ impl LogicMachine for I2c {
         near(&self.held, next)
     }
 
-    ghost quiet = { λ machine seen more stands rests. quiet_of (i2c_decoder machine.bus.scl machine.bus.sda) machine.held seen more stands rests };
+    ghost quiet = { λ machine seen more stands rests.
+        quiet_of (i2c_decoder machine.bus.scl machine.bus.sda) machine.held seen more stands
+        rests };
 
     ghost nothing = { λ machine. i2c_nothing machine.bus.scl machine.bus.sda };
 
@@ -134,7 +139,14 @@ impl LogicMachine for I2c {
 
     ghost on_wire = { λ machine. i2c_on_wire machine.bus.scl machine.bus.sda };
 
-    ghost one_machine = { λ one other list same stands also. one_i2c one other list same stands also };
+    ghost one_machine = { λ one other list same stands also.
+        one_i2c one other list same stands also };
 
-    ghost one_stop = { λ one other seen more same stands also rests. i2c_one_stop one other seen more same stands also rests };
+    ghost one_stop = { λ one other seen more same stands also rests.
+        i2c_one_stop one other seen more same stands also rests };
+}
+
+// It may move to another thread, and so may what drives it.
+fn machine_is_send() {
+    is_send::<Driver<I2c>>();
 }

@@ -1,6 +1,7 @@
 // What an event puts out.
 ghost use Rattle.std.specs.Prelude.{◌≡◌, []};
-ghost use Rattle.dec_i2c.specs.Bytes.{address_outs, data_outs, first_class, first_outs, read_by, byte_outs};
+ghost use Rattle.dec_i2c.specs.Bytes.{address_outs, data_outs, first_class, first_outs, read_by};
+ghost use Rattle.dec_i2c.specs.Bytes.{byte_outs};
 ghost use Rattle.dec_i2c.specs.Bus.{start_outs, stop_outs, ack_outs};
 ghost use Rattle.dec_i2c.specs.laws.Machine.{event_met, clock_gives, gives};
 

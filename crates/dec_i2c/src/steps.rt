@@ -1,7 +1,10 @@
 // How an event changes what is kept.
 ghost use Rattle.std.specs.Prelude.{◌≡◌, ◌<◌, if◌then◌else◌, Some, None};
-ghost use Rattle.dec_i2c.specs.Bytes.{is_read, is_prefix, two_bits, ten_bits, read_by, direction, role_second};
-ghost use Rattle.dec_i2c.specs.laws.Machine.{event_met, grown, role_next, ten_next, handed_by, handed, begun, byte_next, bit_next, clock_next, next, is_bit, taken};
+ghost use Rattle.dec_i2c.specs.Bytes.{is_read, is_prefix, two_bits, ten_bits, read_by, direction};
+ghost use Rattle.dec_i2c.specs.Bytes.{role_second};
+ghost use Rattle.dec_i2c.specs.laws.Machine.{event_met, grown, role_next, ten_next, handed_by};
+ghost use Rattle.dec_i2c.specs.laws.Machine.{handed, begun, byte_next, bit_next, clock_next, next};
+ghost use Rattle.dec_i2c.specs.laws.Machine.{is_bit, taken};
 
 use crate::{Role, Segment};
 
@@ -190,8 +193,8 @@ fn clock(segment: &mut Segment, at: u64, level: bool)
     }
 }
 
-/// Takes in place what gives nothing and ends nothing: a clock before the eighth of a byte, or one outside of a segment.
-/// Answers whether it did; nothing is changed where it didn't.
+/// Takes in place what gives nothing and ends nothing: a clock before the eighth of a byte, or one
+/// outside of a segment. Answers whether it did; nothing is changed where it didn't.
 #[inline(always)]
 pub fn takes_bit(held: &mut Option<Segment>, met: u8, at: u64, level: bool) -> bool
     ensures answers { result ≡ is_bit held.old met }

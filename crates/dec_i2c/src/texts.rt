@@ -32,12 +32,12 @@ fn general_command(byte: u64, buf: &mut LineBuf)
     command(byte, buf);
 }
 
-/// Appends the text of a note, and nothing for a class that I2C doesn't have: `Start`, `Start repeat`,
-/// `Stop`; `Address write: ` and `Address read: `, `Prefix write: ` and `Prefix read: ` with the upper
-/// seven bits of the byte; `Address 10-bit write: ` and `Address 10-bit read: ` with the address in four
-/// digits; `Data write: ` and `Data read: ` with the byte; `ACK`, `NACK`; `General call`; and `General
-/// call command: ` with its name. Numbers are upper case hexadecimal, of two digits where no other number
-/// is named.
+/// Appends the text of a note, and nothing for a class that I2C doesn't have: `Start`, `Start
+/// repeat`, `Stop`; `Address write: ` and `Address read: `, `Prefix write: ` and `Prefix read: `
+/// with the upper seven bits of the byte; `Address 10-bit write: ` and `Address 10-bit read: ` with
+/// the address in four digits; `Data write: ` and `Data read: ` with the byte; `ACK`, `NACK`;
+/// `General call`; and `General call command: ` with its name. Numbers are upper case hexadecimal,
+/// of two digits where no other number is named.
 pub fn text(note: Note, buf: &mut LineBuf)
     requires { length buf.old + 64 ≤ 256 }
     ensures text { buf.new ≡ buf.old ++ note_text note.class note.a }

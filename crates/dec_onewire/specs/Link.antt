@@ -1,8 +1,10 @@
--- The link of 1-Wire on a whole list of samples, by Maxim's application note 126, "1-Wire Communication Through Software",
--- tables "1-Wire Operations" and "1-Wire Master Timing". Whoever speaks pulls the line low for a while. The master does so for
--- long to reset all devices, and they answer with a pulse soon after; of the pulses that carry bits a short one is a 1, whoever
--- sends it, and a longer one a 0. What is long, soon and short is set by options, in nanoseconds.
-use Rattle.std.specs.Prelude.{ℕ, ◌-◌, nat_lt, nat_le, Bool, true, false, ◌&&◌, if◌then◌else◌, List, [], ◌∷◌, length, Option, Some, None}
+-- The link of 1-Wire on a whole list of samples, by Maxim's application note 126, "1-Wire
+-- Communication Through Software", tables "1-Wire Operations" and "1-Wire Master Timing". Whoever
+-- speaks pulls the line low for a while. The master does so for long to reset all devices, and they
+-- answer with a pulse soon after; of the pulses that carry bits a short one is a 1, whoever sends
+-- it, and a longer one a 0. What is long, soon and short is set by options, in nanoseconds.
+use Rattle.std.specs.Prelude.{ℕ, ◌-◌, nat_lt, nat_le, Bool, true, false, ◌&&◌, if◌then◌else◌, List}
+use Rattle.std.specs.Prelude.{[], ◌∷◌, length, Option, Some, None}
 use Rattle.la_base.specs.Samples.{is_high}
 use Rattle.la_base.specs.declared.samples.Rate.{Rate}
 use Rattle.la_base.specs.declared.wires.Out.{Out}
@@ -54,8 +56,8 @@ pulse_at place (Some (To fall was)) (To rise is) = pulse_by fall was rise is
 abbrev pub pulses : List Edge → List Pulse
 pulses list = at_neighbours pulse_at list
 
--- how many samples a reset has at least, how many lie between its rise and the fall of its answer at most, and how many a 0
--- has at least: the times of the options, rounded up
+-- how many samples a reset has at least, how many lie between its rise and the fall of its answer
+-- at most, and how many a 0 has at least: the times of the options, rounded up
 abbrev pub lengths_of : OwLinkOpts → Rate → Lengths
 lengths_of opts rate = record {
   reset = samples_of_ns rate.num rate.den opts.reset;
@@ -73,13 +75,15 @@ pub data Signal : Type 0 where
 abbrev pub is_reset : Lengths → Pulse → Bool
 is_reset lengths pulse = nat_le lengths.reset (pulse.rise - pulse.fall)
 
--- a pulse answers a reset: this is the pulse right before it, and it falls soon after that has risen
+-- a pulse answers a reset: this is the pulse right before it, and it falls soon after that has
+-- risen
 abbrev pub answers : Lengths → Option Pulse → Pulse → Bool
 answers lengths None pulse = false
-answers lengths (Some before) pulse = is_reset lengths before && nat_le (pulse.fall - before.rise) lengths.window
+answers lengths (Some before) pulse =
+    is_reset lengths before && nat_le (pulse.fall - before.rise) lengths.window
 
--- what a pulse says, by the pulse before it: a long one is a reset, one that answers a reset is a presence, and any other
--- one is a bit, which is 1 where it is short
+-- what a pulse says, by the pulse before it: a long one is a reset, one that answers a reset is a
+-- presence, and any other one is a bit, which is 1 where it is short
 abbrev pub signal_of : Lengths → Option Pulse → Pulse → Signal
 signal_of lengths before pulse =
     if is_reset lengths pulse then Reset
@@ -89,12 +93,15 @@ signal_of lengths before pulse =
 -- what a pulse from its fall to its rise gives that says this
 abbrev pub signal_outs : ℕ → ℕ → Signal → List Out
 signal_outs fall rise Reset = span_note 0 fall rise 0 0 ∷ span_packet OwReset fall rise 0 0 ∷ []
-signal_outs fall rise Presence = span_note 1 fall rise 0 0 ∷ span_packet OwPresence fall rise 0 0 ∷ []
-signal_outs fall rise (Bit bit) = span_note 2 fall rise (bit_of bit) 0 ∷ span_packet OwBit fall rise (bit_of bit) 0 ∷ []
+signal_outs fall rise Presence =
+    span_note 1 fall rise 0 0 ∷ span_packet OwPresence fall rise 0 0 ∷ []
+signal_outs fall rise (Bit bit) =
+    span_note 2 fall rise (bit_of bit) 0 ∷ span_packet OwBit fall rise (bit_of bit) 0 ∷ []
 
 -- what a pulse gives, by the pulse before it
 abbrev pub pulse_outs : Lengths → ℕ → Option Pulse → Pulse → List Out
-pulse_outs lengths place before pulse = signal_outs pulse.fall pulse.rise (signal_of lengths before pulse)
+pulse_outs lengths place before pulse =
+    signal_outs pulse.fall pulse.rise (signal_of lengths before pulse)
 
 -- what the edges of a line give
 abbrev pub edges_outs : Lengths → List Edge → List Out

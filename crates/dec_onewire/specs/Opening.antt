@@ -22,8 +22,8 @@ line_of machine = machine.line
 abbrev pub alts_of : OwLink → List Alt
 alts_of machine = edge_alt machine.line.opts.dq ∷ []
 
--- a decoder of the link stands for samples that end with an edge, or for none: it keeps what they leave to keep, and has the
--- lengths of its options
+-- a decoder of the link stands for samples that end with an edge, or for none: it keeps what they
+-- leave to keep, and has the lengths of its options
 abbrev pub StandsFor : OwLink → List ℕ → Type 0
 StandsFor machine list =
     EndsAtEdge machine.line.opts machine.line.rate list
@@ -41,13 +41,15 @@ pub record LinkInRange (most : ℕ) (opts : OwLinkOpts) : Type 0 where
 abbrev pub FastEnough : Lengths → Type 0
 FastEnough lengths = (2 ≤ lengths.bit) × (lengths.bit < lengths.reset)
 
--- a decoder of these options at this rate that stands for no samples; Range exactly where an option is out of range, else Rate
--- exactly where the rate is too low
+-- a decoder of these options at this rate that stands for no samples; Range exactly where an option
+-- is out of range, else Rate exactly where the rate is too low
 abbrev pub LinkOpens : ℕ → OwLinkOpts → Rate → Result OwLink OptFault → Type 0
 LinkOpens most opts rate (Ok machine) =
-    LinkInRange most opts × FastEnough (lengths_of opts rate) × ((line_of machine).opts ≡ opts) × ((line_of machine).rate ≡ rate) × StandsFor machine []
+    LinkInRange most opts × FastEnough (lengths_of opts rate) × ((line_of machine).opts ≡ opts)
+    × ((line_of machine).rate ≡ rate) × StandsFor machine []
 LinkOpens most opts rate (Err Range) = ¬ LinkInRange most opts
-LinkOpens most opts rate (Err TooSlow) = LinkInRange most opts × (¬ FastEnough (lengths_of opts rate))
+LinkOpens most opts rate (Err TooSlow) =
+    LinkInRange most opts × (¬ FastEnough (lengths_of opts rate))
 
 -- a decoder of the network stands for packets: it keeps what they leave to keep
 abbrev pub NetStandsFor : OwNet → List Packet → Type 0

@@ -1,5 +1,6 @@
 -- What a pulse is on a line.
-use Rattle.std.specs.Prelude.{ℕ, suc, ◌≡◌, ◌≤◌, ◌<◌, true, false, List, ◌∷◌, ◌++◌, length, slice_index}
+use Rattle.std.specs.Prelude.{ℕ, suc, ◌≡◌, ◌≤◌, ◌<◌, true, false, List, ◌∷◌, ◌++◌, length}
+use Rattle.std.specs.Prelude.{slice_index}
 use Rattle.la_base.specs.Samples.{is_high}
 use Rattle.dec_onewire.specs.Link.{Pulse}
 
@@ -19,4 +20,6 @@ StandsIn pulse list = (front : List Pulse) × (back : List Pulse) × (list ≡ f
 
 -- the pulses of a line are those that stand in the list, and no others
 abbrev pub ArePulses : ℕ → List ℕ → List Pulse → Type 0
-ArePulses line samples list = ((pulse : Pulse) → StandsIn pulse list → IsPulse line samples pulse) × ((pulse : Pulse) → IsPulse line samples pulse → StandsIn pulse list)
+ArePulses line samples list =
+    ((pulse : Pulse) → StandsIn pulse list → IsPulse line samples pulse)
+    × ((pulse : Pulse) → IsPulse line samples pulse → StandsIn pulse list)

@@ -3,7 +3,8 @@ use Rattle.std.specs.Prelude.{ℕ, ◌==◌, List, [], ◌++◌, codes, if◌the
 use Rattle.std.specs.Int.{swap_bytes, w64}
 use Rattle.line_text.specs.Texts.{hex}
 
--- the text of a note of the link by its class and value; nothing for a class that isn't one of these
+-- the text of a note of the link by its class and value; nothing for a class that isn't one of
+-- these
 abbrev pub link_text : ℕ → ℕ → List ℕ
 link_text class a =
     if class == 0 then codes "Reset"
@@ -24,15 +25,18 @@ command_name command =
     else if command == 165 then codes "Resume"
     else codes "Unknown " ++ hex 2 command
 
--- the bytes of a ROM, which is a number whose lowest byte has come first, in the order in which they came
+-- the bytes of a ROM, which is a number whose lowest byte has come first, in the order in which
+-- they came
 abbrev pub rom_name : ℕ → List ℕ
 rom_name rom = hex 16 (swap_bytes w64 rom)
 
--- the text of a note of the network by its class and values; nothing for a class that isn't one of these
+-- the text of a note of the network by its class and values; nothing for a class that isn't one of
+-- these
 abbrev pub net_text : ℕ → ℕ → ℕ → List ℕ
 net_text class a b =
     if class == 0 then codes "Reset"
     else if class == 1 then codes "ROM command: " ++ command_name a
-    else if class == 2 then codes "ROM: " ++ (rom_name a ++ (if b == 0 then codes " CRC ok" else codes " CRC bad"))
+    else if class == 2 then codes "ROM: "
+    ++ (rom_name a ++ (if b == 0 then codes " CRC ok" else codes " CRC bad"))
     else if class == 3 then codes "Byte: " ++ hex 2 a
     else []

@@ -6,10 +6,11 @@ ghost use Rattle.dec_onewire.specs.Link.{edges, pulses};
 ghost use Rattle.dec_onewire.specs.Net.{crc8, segment_cut};
 ghost use Rattle.dec_onewire.specs.Shapes.{ArePulses};
 
-/// No bit of a segment is lost, and none is read twice: those of its command, its ROM and its bytes and those left over
-/// are its bits in their order.
+/// No bit of a segment is lost, and none is read twice: those of its command, its ROM and its bytes
+/// and those left over are its bits in their order.
 pub fn groups_are_the_bits()
-    ensures { (bits : List Packet) → flat_map (λ group. group.bits) (segment_cut bits).whole ++ (segment_cut bits).rest ≡ bits }
+    ensures { (bits : List Packet) → flat_map (λ group. group.bits) (segment_cut bits).whole
+        ++ (segment_cut bits).rest ≡ bits }
 {}
 
 /// Bytes with their CRC behind them have the CRC 0, as application note 27 says.

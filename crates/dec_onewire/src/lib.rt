@@ -1,5 +1,5 @@
-//! 1-Wire, by Maxim's application notes 126, 187 and 27: its link, with resets, answers and bits as pulses of a line; and its
-//! network, with commands, ROMs and bytes of these bits.
+//! 1-Wire, by Maxim's application notes 126, 187 and 27: its link, with resets, answers and bits as
+//! pulses of a line; and its network, with commands, ROMs and bytes of these bits.
 #![tactic(auto)]
 
 mod laws;

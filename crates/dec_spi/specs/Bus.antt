@@ -1,7 +1,10 @@
--- SPI on a whole list of samples, by Motorola's SPI Block Guide, "Transmission Formats": bits are read while the select line is
--- active, at the edges of the clock that its polarity and phase fix. A *stretch* is a row of selected samples, as long as it
--- goes; a *sampling edge* is one at which a bit is read, between two samples of a stretch.
-use Rattle.std.specs.Prelude.{ℕ, zero, suc, ◌+◌, ◌/◌, ◌%◌, ◌^◌, Bool, true, false, not, ◌&&◌, ◌||◌, ◌==◌, if◌then◌else◌, List, [], ◌∷◌, ◌++◌, length, map, Option, Some, None}
+-- SPI on a whole list of samples, by Motorola's SPI Block Guide, "Transmission Formats": bits are
+-- read while the select line is active, at the edges of the clock that its polarity and phase fix.
+-- A *stretch* is a row of selected samples, as long as it goes; a *sampling edge* is one at which a
+-- bit is read, between two samples of a stretch.
+use Rattle.std.specs.Prelude.{ℕ, zero, suc, ◌+◌, ◌/◌, ◌%◌, ◌^◌, Bool, true, false, not, ◌&&◌, ◌||◌}
+use Rattle.std.specs.Prelude.{◌==◌, if◌then◌else◌, List, [], ◌∷◌, ◌++◌, length, map, Option, Some}
+use Rattle.std.specs.Prelude.{None}
 use Rattle.std.specs.List.{flat_map}
 use Rattle.la_base.specs.Samples.{is_high}
 use Rattle.la_base.specs.declared.wires.Out.{Out}
@@ -14,8 +17,8 @@ use Rattle.list_cuts.specs.Places.{first_place, last_place}
 use Rattle.decoder_core.specs.Outputs.{note_at, packet_at, span_note, span_piece, span_packet}
 use Rattle.dec_spi.specs.declared.options.SpiOpts.{SpiOpts}
 
--- what happens on the bus, and at which sample: a stretch begins, or has ended; a sampling edge, with the levels of MOSI and
--- MISO
+-- what happens on the bus, and at which sample: a stretch begins, or has ended; a sampling edge,
+-- with the levels of MOSI and MISO
 pub data Event : Type 0 where
   Select : ℕ → Event
   Deselect : ℕ → Event
@@ -26,8 +29,8 @@ abbrev pub level_of : Option ℕ → ℕ → Bool
 level_of None now = false
 level_of (Some line) now = is_high now line
 
--- by the mode, which is msb_low, msb_high, lsb_low or lsb_high: the select line is active high, and the least significant bit
--- comes first
+-- by the mode, which is msb_low, msb_high, lsb_low or lsb_high: the select line is active high, and
+-- the least significant bit comes first
 abbrev pub is_active_high : SpiOpts → Bool
 is_active_high opts = opts.mode == 1 || opts.mode == 3
 
@@ -37,7 +40,8 @@ is_low_first opts = opts.mode == 2 || opts.mode == 3
 -- whether a sample is selected: the select line has its active level, or isn't given
 abbrev pub selected_by : Option ℕ → Bool → ℕ → Bool
 selected_by None active_high now = true
-selected_by (Some line) active_high now = if active_high then is_high now line else not (is_high now line)
+selected_by (Some line) active_high now =
+    if active_high then is_high now line else not (is_high now line)
 
 abbrev pub is_selected : SpiOpts → ℕ → Bool
 is_selected opts now = selected_by opts.cs (is_active_high opts) now
@@ -47,15 +51,16 @@ abbrev pub has_edge : Bool → ℕ → ℕ → ℕ → Bool
 has_edge true line before now = not (is_high before line) && is_high now line
 has_edge false line before now = is_high before line && not (is_high now line)
 
--- bits are read where the clock rises, if its polarity and its phase are equal, and else where it falls
+-- bits are read where the clock rises, if its polarity and its phase are equal, and else where it
+-- falls
 abbrev pub reads_rises : SpiOpts → Bool
 reads_rises opts = opts.cpol == opts.cpha
 
 abbrev pub is_edge : SpiOpts → ℕ → ℕ → Bool
 is_edge opts before now = has_edge (reads_rises opts) opts.sck before now
 
--- the event at sample k, by whether the sample before it and its own are selected, whether the clock has such an edge, and
--- the levels of MOSI and MISO
+-- the event at sample k, by whether the sample before it and its own are selected, whether the
+-- clock has such an edge, and the levels of MOSI and MISO
 abbrev pub event_by : ℕ → Bool → Bool → Bool → Bool → Bool → List Event
 event_by k false true edge mosi miso = Select k ∷ []
 event_by k true false edge mosi miso = Deselect k ∷ []
@@ -63,10 +68,14 @@ event_by k true true true mosi miso = Clock k mosi miso ∷ []
 event_by k true true false mosi miso = []
 event_by k false false edge mosi miso = []
 
--- the event at sample k, by the sample before it and its own; before the first one nothing is selected
+-- the event at sample k, by the sample before it and its own; before the first one nothing is
+-- selected
 abbrev pub event_at : SpiOpts → ℕ → Option ℕ → ℕ → List Event
-event_at opts k None now = event_by k false (is_selected opts now) false (level_of opts.mosi now) (level_of opts.miso now)
-event_at opts k (Some before) now = event_by k (is_selected opts before) (is_selected opts now) (is_edge opts before now) (level_of opts.mosi now) (level_of opts.miso now)
+event_at opts k None now =
+    event_by k false (is_selected opts now) false (level_of opts.mosi now) (level_of opts.miso now)
+event_at opts k (Some before) now =
+    event_by k (is_selected opts before) (is_selected opts now) (is_edge opts before now)
+    (level_of opts.mosi now) (level_of opts.miso now)
 
 -- all events of a list of samples
 abbrev pub events : SpiOpts → List ℕ → List Event
@@ -99,12 +108,14 @@ bytes_of (suc n) number = number / 256 ^ n % 256 ∷ bytes_of n number
 
 -- so many bytes of a number as pieces of a class, from one place to another
 abbrev pub byte_pieces : ℕ → ℕ → ℕ → ℕ → ℕ → List Out
-byte_pieces count class first last number = map (λ byte. span_piece class first last byte) (bytes_of count number)
+byte_pieces count class first last number =
+    map (λ byte. span_piece class first last byte) (bytes_of count number)
 
 -- the pieces of a word on a line that is given: as many bytes as hold its bits
 abbrev pub pieces : ℕ → Option ℕ → ℕ → ℕ → ℕ → ℕ → List Out
 pieces bits None class first last number = []
-pieces bits (Some line) class first last number = byte_pieces ((bits + 7) / 8) class first last number
+pieces bits (Some line) class first last number =
+    byte_pieces ((bits + 7) / 8) class first last number
 
 -- the class of a word's note, by the data lines that are given
 abbrev pub word_class : Option ℕ → Option ℕ → ℕ
@@ -127,7 +138,8 @@ group_outs opts clocks =
     (value_of (is_low_first opts) (map mosi_of clocks))
     (value_of (is_low_first opts) (map miso_of clocks))
 
--- the words of a stretch: its sampling edges go in groups of as many as a word has bits; fewer than that give nothing
+-- the words of a stretch: its sampling edges go in groups of as many as a word has bits; fewer than
+-- that give nothing
 unfoldable pub words_outs : SpiOpts → List Event → List Out
 words_outs opts clocks = flat_map (group_outs opts) (groups opts.bits clocks)
 
@@ -161,7 +173,8 @@ end_outs (Some (Clock k mosi miso)) = []
 -- what a stretch gives: its select, its words and its deselect
 abbrev pub stretch_by : SpiOpts → List Event → Option Event → List Out
 stretch_by opts [] ended_by = []
-stretch_by opts (Select k ∷ clocks) ended_by = select_outs k ++ words_outs opts clocks ++ end_outs ended_by
+stretch_by opts (Select k ∷ clocks) ended_by =
+    select_outs k ++ words_outs opts clocks ++ end_outs ended_by
 stretch_by opts (Deselect k ∷ clocks) ended_by = []
 stretch_by opts (Clock k mosi miso ∷ clocks) ended_by = []
 
@@ -194,4 +207,5 @@ begun_at (clock ∷ clocks) count = place_of clock
 
 -- *near*: where the word starts that has begun and isn't given yet, else the number of samples
 unfoldable pub spi_near : SpiOpts → List ℕ → ℕ
-spi_near opts samples = begun_at (begun_word opts (last_of (stretches (events opts samples)))) (length samples)
+spi_near opts samples =
+    begun_at (begun_word opts (last_of (stretches (events opts samples)))) (length samples)

@@ -15,9 +15,11 @@ opts_of machine = machine.bus.opts
 abbrev pub alts_of : Spi → List Alt
 alts_of machine = spi_alts machine.bus.opts machine.held
 
--- a decoder stands for samples that end with an event, or for none: it keeps what they leave to keep
+-- a decoder stands for samples that end with an event, or for none: it keeps what they leave to
+-- keep
 abbrev pub StandsFor : Spi → List ℕ → Type 0
-StandsFor machine list = EndsAtEvent machine.bus.opts list × (machine.held ≡ held_at machine.bus.opts list)
+StandsFor machine list =
+    EndsAtEvent machine.bus.opts list × (machine.held ≡ held_at machine.bus.opts list)
 
 -- each option is in its range, where a sample has `most` bits, and a data line is given
 pub record InRange (most : ℕ) (opts : SpiOpts) : Type 0 where
@@ -31,7 +33,8 @@ pub record InRange (most : ℕ) (opts : SpiOpts) : Type 0 where
   pub mode : opts.mode ≤ 3
   pub some : (is_some opts.mosi ≡ true) ⊎ (is_some opts.miso ≡ true)
 
--- a decoder with these options that stands for no samples, or Range exactly where one is out of range or no data line is given
+-- a decoder with these options that stands for no samples, or Range exactly where one is out of
+-- range or no data line is given
 abbrev pub Opens : ℕ → SpiOpts → Result Spi OptFault → Type 0
 Opens most opts (Ok machine) = InRange most opts × (opts_of machine ≡ opts) × StandsFor machine []
 Opens most opts (Err fault) = (fault ≡ Range) × (¬ InRange most opts)

@@ -4,7 +4,8 @@ ghost use Rattle.std.specs.Option.{ForSome};
 ghost use Rattle.la_base.specs.declared.samples.TheConstants.{MOST_PINS};
 ghost use Rattle.wait_cond.specs.Conds.{cond_alts};
 ghost use Rattle.dec_spi.specs.Bus.{is_active_high};
-ghost use Rattle.dec_spi.specs.laws.Machine.{mask_of, low_mask, high_mask, rise_mask, fall_mask, select_alt, clock_alt_of, change_alt, event_alts};
+ghost use Rattle.dec_spi.specs.laws.Machine.{mask_of, low_mask, high_mask, rise_mask, fall_mask};
+ghost use Rattle.dec_spi.specs.laws.Machine.{select_alt, clock_alt_of, change_alt, event_alts};
 
 use crate::Bus;
 use crate::levels::{is_active_high, reads_rises};
@@ -80,8 +81,8 @@ pub fn first_select(bus: &Bus) -> Cond
     Cond::one(select_alt(bus))
 }
 
-/// Any event behind the first select. Each alternative asks an edge, so that samples at which neither line changes are
-/// passed over at once.
+/// Any event behind the first select. Each alternative asks an edge, so that samples at which
+/// neither line changes are passed over at once.
 pub fn next_event(bus: &Bus) -> Cond
     ensures { cond_alts result ≡ event_alts bus.now.opts }
 {

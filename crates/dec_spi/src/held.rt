@@ -29,8 +29,8 @@ pub enum Held {
     Inside(Bits),
 }
 
-/// What was read of the present word: how many bits, the numbers that they make up on both lines, and
-/// the place of the first of them. Where there are none, these are 0.
+/// What was read of the present word: how many bits, the numbers that they make up on both lines,
+/// and the place of the first of them. Where there are none, these are 0.
 #[derive(Clone, Copy, Debug, PartialEq, Eq)]
 pub struct Bits {
     pub count: u8,

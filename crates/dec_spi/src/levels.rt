@@ -2,7 +2,8 @@
 ghost use Rattle.std.specs.Prelude.{◌≡◌, ◌<◌};
 ghost use Rattle.std.specs.Option.{ForSome};
 ghost use Rattle.la_base.specs.declared.samples.TheConstants.{MOST_PINS};
-ghost use Rattle.dec_spi.specs.Bus.{is_active_high, is_low_first, reads_rises, is_selected, level_of};
+ghost use Rattle.dec_spi.specs.Bus.{is_active_high, is_low_first, reads_rises, is_selected};
+ghost use Rattle.dec_spi.specs.Bus.{level_of};
 
 use crate::{Bus, SpiOpts};
 use la_base::{Word, pin};

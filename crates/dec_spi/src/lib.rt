@@ -1,5 +1,5 @@
-//! SPI, by Motorola's SPI Block Guide: words of MOSI and MISO at the sampling edges of a clock, while a
-//! device is selected.
+//! SPI, by Motorola's SPI Block Guide: words of MOSI and MISO at the sampling edges of a clock,
+//! while a device is selected.
 #![tactic(auto)]
 
 mod alternatives;

@@ -7,8 +7,8 @@ use crate::levels::{is_active_high, is_low_first};
 use crate::words::{start_of, with_bit};
 use crate::{Bits, Held, SpiOpts};
 
-/// The lines of a bus as masks of the lower half of a sample, 0 for a line that isn't given. Where one
-/// lies in the upper half, all of this is 0, and no clock is taken by it.
+/// The lines of a bus as masks of the lower half of a sample, 0 for a line that isn't given. Where
+/// one lies in the upper half, all of this is 0, and no clock is taken by it.
 #[derive(Clone, Copy, Debug, PartialEq, Eq)]
 pub struct Lines {
     pub select: u64,
@@ -97,8 +97,8 @@ fn take(lines: &Lines, word: &mut Bits, at: u64, low: u64)
     word.count += 1;
 }
 
-/// Takes in place what gives nothing and ends nothing, by the lower half of the sample: a clock before the
-/// last of a word. Answers whether it did; nothing is changed where it didn't.
+/// Takes in place what gives nothing and ends nothing, by the lower half of the sample: a clock
+/// before the last of a word. Answers whether it did; nothing is changed where it didn't.
 #[inline(always)]
 pub fn takes_bit(lines: &Lines, held: &mut Held, at: u64, low: u64) -> bool
     requires { lines.now.bits ≤ 32 }

@@ -4,7 +4,8 @@ ghost use Rattle.la_base.specs.declared.wires.Wire.TheVariants.{Spi as SpiWire};
 ghost use Rattle.sample_walks.specs.laws.EventDecoders.{quiet_of};
 ghost use Rattle.dec_spi.specs.Bus.{spi_outs, spi_near};
 ghost use Rattle.dec_spi.specs.Opening.{opts_of, alts_of, StandsFor};
-ghost use Rattle.dec_spi.specs.laws.SpiLaws.{spi_decoder, spi_nothing, spi_prefix, spi_order, spi_few, spi_on_wire};
+ghost use Rattle.dec_spi.specs.laws.SpiLaws.{spi_decoder, spi_nothing, spi_prefix, spi_order};
+ghost use Rattle.dec_spi.specs.laws.SpiLaws.{spi_few, spi_on_wire};
 ghost use Rattle.dec_spi.specs.laws.MachineLaws.{one_spi, spi_one_stop};
 
 use crate::alternatives::{first_select, next_event};
@@ -12,15 +13,17 @@ use crate::lines::takes_bit;
 use crate::stops::{is_fresh, stop};
 use crate::words::near;
 use crate::{Held, Spi, SpiOpts};
-use decoder_core::{LogicMachine, Outs};
+use decoder_core::{Configured, Driver, LogicMachine, Outs, is_send};
 use la_base::{Word, low_half};
 use wait_cond::{Cond, Waiter};
 
-impl LogicMachine for Spi {
+impl Configured for Spi {
     type Setup = SpiOpts;
 
     ghost setup = { λ machine. opts_of machine };
+}
 
+impl LogicMachine for Spi {
     ghost outs = { λ opts list. spi_outs opts list };
 
     ghost near = { λ opts list. spi_near opts list };
@@ -31,7 +34,8 @@ impl LogicMachine for Spi {
 
     ghost alts = { λ machine. alts_of machine };
 
-    // No edge is met at the first sample, so what is waited for first is a level; later it is always the same.
+    // No edge is met at the first sample, so what is waited for first is a level; later it is
+    // always the same.
     fn cond(&self) -> Cond {
         match self.held {
             Held::Fresh => first_select(&self.bus),
@@ -59,19 +63,32 @@ impl LogicMachine for Spi {
         near(self.held, next)
     }
 
-    ghost quiet = { λ machine seen more stands rests. quiet_of (spi_decoder machine.bus.opts machine.bus.bits_some machine.bus.bits_few) machine.held seen more stands rests };
+    ghost quiet = { λ machine seen more stands rests.
+        quiet_of (spi_decoder machine.bus.opts machine.bus.bits_some machine.bus.bits_few)
+        machine.held seen more stands rests };
 
-    ghost nothing = { λ machine. spi_nothing machine.bus.opts machine.bus.bits_some machine.bus.bits_few };
+    ghost nothing = { λ machine.
+        spi_nothing machine.bus.opts machine.bus.bits_some machine.bus.bits_few };
 
-    ghost prefix = { λ machine. spi_prefix machine.bus.opts machine.bus.bits_some machine.bus.bits_few };
+    ghost prefix = { λ machine.
+        spi_prefix machine.bus.opts machine.bus.bits_some machine.bus.bits_few };
 
-    ghost order = { λ machine. spi_order machine.bus.opts machine.bus.bits_some machine.bus.bits_few };
+    ghost order = { λ machine.
+        spi_order machine.bus.opts machine.bus.bits_some machine.bus.bits_few };
 
     ghost few = { λ machine. spi_few machine.bus.opts machine.bus.bits_some machine.bus.bits_few };
 
-    ghost on_wire = { λ machine. spi_on_wire machine.bus.opts machine.bus.bits_some machine.bus.bits_few };
+    ghost on_wire = { λ machine.
+        spi_on_wire machine.bus.opts machine.bus.bits_some machine.bus.bits_few };
 
-    ghost one_machine = { λ one other list same stands also. one_spi one other list same stands also };
+    ghost one_machine = { λ one other list same stands also.
+        one_spi one other list same stands also };
 
-    ghost one_stop = { λ one other seen more same stands also rests. spi_one_stop one other seen more same stands also rests };
+    ghost one_stop = { λ one other seen more same stands also rests.
+        spi_one_stop one other seen more same stands also rests };
+}
+
+// It may move to another thread, and so may what drives it.
+fn machine_is_send() {
+    is_send::<Driver<Spi>>();
 }

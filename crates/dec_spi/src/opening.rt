@@ -11,7 +11,8 @@ use la_base::{MOST_PINS, Rate};
 
 // Whether a line, if it is given, is a bit of a sample.
 fn is_pin(line: Option<u32>) -> bool
-    ensures { MatchBool result (ForSome line (λ own. own < MOST_PINS)) (¬ ForSome line (λ own. own < MOST_PINS)) }
+    ensures { MatchBool result (ForSome line (λ own. own < MOST_PINS))
+        (¬ ForSome line (λ own. own < MOST_PINS)) }
 {
     match line {
         Some(line) => line < MOST_PINS,
@@ -48,9 +49,9 @@ fn in_range(opts: SpiOpts) -> bool
 }
 
 impl Spi {
-    /// Opens a decoder of these options at any rate; it stands for no samples. Answers Range where a line
-    /// isn't one of the bits of a sample, another option is out of its range, or no data line is given;
-    /// and never Rate.
+    /// Opens a decoder of these options at any rate; it stands for no samples. Answers Range where
+    /// a line isn't one of the bits of a sample, another option is out of its range, or no data
+    /// line is given; and never Rate.
     pub fn open(opts: SpiOpts, _rate: Rate) -> Result<Spi, OptFault>
         ensures { Opens MOST_PINS opts result }
     {

@@ -1,6 +1,7 @@
 // What events put out.
 ghost use Rattle.std.specs.Prelude.{◌≡◌, ◌≤◌, ◌+◌, ◌++◌, ◌∷◌, [], length};
-ghost use Rattle.dec_spi.specs.Bus.{byte_pieces, pieces, word_class, word_outs, select_outs, deselect_outs};
+ghost use Rattle.dec_spi.specs.Bus.{byte_pieces, pieces, word_class, word_outs, select_outs};
+ghost use Rattle.dec_spi.specs.Bus.{deselect_outs};
 
 use crate::Bus;
 use decoder_core::{Outs, note_at, packet_at, span_note, span_packet, span_piece};

@@ -6,7 +6,8 @@ use la_base::Note;
 use line_text::LineBuf;
 
 /// Appends the text of a note, and nothing for a class that SPI doesn't have: `Select`, `MOSI ` and
-/// `MISO ` with the values of a word in upper case hexadecimal with at least two digits, `Deselect`.
+/// `MISO ` with the values of a word in upper case hexadecimal with at least two digits,
+/// `Deselect`.
 pub fn text(note: Note, buf: &mut LineBuf)
     requires { length buf.old + 64 ≤ 256 }
     ensures text { buf.new ≡ buf.old ++ note_text note.class note.a note.b }

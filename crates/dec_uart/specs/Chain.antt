@@ -1,7 +1,10 @@
--- Frames on a line, as a chain over the whole list of samples: the first begins at the first fall of the line, and each
--- further one at the first fall behind the last point that was looked at of the frame before. Point i of a frame that
--- begins at f is the sample f + point i; the points are 0 to `last`.
-use Rattle.std.specs.Prelude.{ℕ, zero, suc, ◌+◌, nat_lt, Bool, true, false, not, ◌&&◌, if◌then◌else◌, List, [], ◌∷◌, ◌++◌, length, drop, slice_index, Option, Some, None, is_some}
+-- Frames on a line, as a chain over the whole list of samples: the first begins at the first fall
+-- of the line, and each further one at the first fall behind the last point that was looked at of
+-- the frame before. Point i of a frame that begins at f is the sample f + point i; the points are 0
+-- to `last`.
+use Rattle.std.specs.Prelude.{ℕ, zero, suc, ◌+◌, nat_lt, Bool, true, false, not, ◌&&◌}
+use Rattle.std.specs.Prelude.{if◌then◌else◌, List, [], ◌∷◌, ◌++◌, length, drop, slice_index, Option}
+use Rattle.std.specs.Prelude.{Some, None, is_some}
 use Rattle.std.specs.List.{flat_map, list_any}
 use Rattle.la_base.specs.Samples.{is_high}
 use Rattle.la_base.specs.declared.wires.Out.{Out}
@@ -28,18 +31,19 @@ high_from rx k (now ∷ later) = if is_high now rx then Some k else high_from rx
 abbrev pub any_high : List Bool → Bool
 any_high levels = list_any (λ level. level) levels
 
--- what a frame shows: a point that has to be looked at lies behind the samples; the line is high at point 0, so that it
--- is no frame; the levels at all points, some of them high; or the levels, all of them low, and the first place behind
--- the last point at which the line is high
+-- what a frame shows: a point that has to be looked at lies behind the samples; the line is high at
+-- point 0, so that it is no frame; the levels at all points, some of them high; or the levels, all
+-- of them low, and the first place behind the last point at which the line is high
 pub data Look : Type 0 where
   Ahead : Look
   FalseStart : Look
   Whole : List Bool → Look
   AllLow : List Bool → Option ℕ → Look
 
--- frames of a line: the bit of the line in a sample, the number of the last point, where each point is, and what is
--- given: where the line is high at point 0; at the last point, with the levels at all points; and where the line gets
--- high behind points that were all low. Each is told where the frame begins and where it stands itself
+-- frames of a line: the bit of the line in a sample, the number of the last point, where each point
+-- is, and what is given: where the line is high at point 0; at the last point, with the levels at
+-- all points; and where the line gets high behind points that were all low. Each is told where the
+-- frame begins and where it stands itself
 pub record Shape : Type 0 where
   pub rx : ℕ
   pub last : ℕ
@@ -86,19 +90,22 @@ module _ (c : Shape) (samples : List ℕ) where
   abbrev pub all_points : ℕ → List Bool → Look
   all_points f levels =
       if any_high levels then Whole levels
-      else AllLow levels (high_from c.rx (f + c.point c.last + 1) (drop (f + c.point c.last + 1) samples))
+      else AllLow levels
+      (high_from c.rx (f + c.point c.last + 1) (drop (f + c.point c.last + 1) samples))
 
   abbrev pub look : ℕ → Look
   look f =
       if nat_lt (f + c.point 0) (length samples) then
       (if level (f + c.point 0) then FalseStart
-      else (if nat_lt (f + c.point c.last) (length samples) then all_points f (levels_at f (suc c.last)) else Ahead))
+      else (if nat_lt (f + c.point c.last) (length samples)
+      then all_points f (levels_at f (suc c.last)) else Ahead))
       else Ahead
 
   -- those of some falls at which a frame begins, the first of them at place `from` or later
   abbrev pub starts_from : ℕ → List ℕ → List ℕ
   starts_from from [] = []
-  starts_from from (f ∷ later) = if nat_lt f from then starts_from from later else f ∷ starts_from (behind c f (look f)) later
+  starts_from from (f ∷ later) =
+      if nat_lt f from then starts_from from later else f ∷ starts_from (behind c f (look f)) later
 
   -- where frames begin
   abbrev pub starts : List ℕ

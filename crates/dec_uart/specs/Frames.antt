@@ -1,8 +1,9 @@
--- What a serial line gives, on a whole list of samples: start-stop characters (ISO 1177), each a start bit, which is low,
--- the data with the least significant bit first, a parity bit, if there is one, and stop bits, which are high. Parities,
--- frame errors and breaks are those of the line control and line status registers of the 16550; where bits are read is
--- this project's own.
-use Rattle.std.specs.Prelude.{ℕ, ◌+◌, ◌*◌, ◌/◌, ◌%◌, ◌-◌, nat_lt, Bool, false, not, ◌==◌, if◌then◌else◌, List, [], ◌∷◌, ◌++◌, take, drop, get_or}
+-- What a serial line gives, on a whole list of samples: start-stop characters (ISO 1177), each a
+-- start bit, which is low, the data with the least significant bit first, a parity bit, if there is
+-- one, and stop bits, which are high. Parities, frame errors and breaks are those of the line
+-- control and line status registers of the 16550; where bits are read is this project's own.
+use Rattle.std.specs.Prelude.{ℕ, ◌+◌, ◌*◌, ◌/◌, ◌%◌, ◌-◌, nat_lt, Bool, false, not, ◌==◌}
+use Rattle.std.specs.Prelude.{if◌then◌else◌, List, [], ◌∷◌, ◌++◌, take, drop, get_or}
 use Rattle.std.specs.List.{list_any, count_by}
 use Rattle.la_base.specs.declared.samples.Rate.{Rate}
 use Rattle.la_base.specs.declared.wires.Out.{Out}
@@ -17,7 +18,12 @@ use Rattle.dec_uart.specs.Chain.{Shape, chain_outs, chain_near}
 
 -- the parity of its place among none, odd, even, zero, one
 abbrev pub parity_of : ℕ → Parity
-parity_of place = if place == 0 then Without else if place == 1 then Odd else if place == 2 then Even else if place == 3 then Zero else One
+parity_of place =
+    if place == 0 then Without
+    else if place == 1 then Odd
+    else if place == 2 then Even
+    else if place == 3 then Zero
+    else One
 
 abbrev pub parity_bits : Parity → ℕ
 parity_bits Without = 0
@@ -26,14 +32,16 @@ parity_bits Even = 1
 parity_bits Zero = 1
 parity_bits One = 1
 
--- how many bits of a frame stand before the stop bits, and the number of the last bit; the start bit is bit 0
+-- how many bits of a frame stand before the stop bits, and the number of the last bit; the start
+-- bit is bit 0
 abbrev pub before_stop : UartOpts → ℕ
 before_stop opts = 1 + opts.bits + parity_bits (parity_of opts.parity)
 
 abbrev pub last_bit : UartOpts → ℕ
 last_bit opts = before_stop opts + opts.stop - 1
 
--- where bit i of a frame is read, counted from its start: rounded down at each bit, so that nothing adds up
+-- where bit i of a frame is read, counted from its start: rounded down at each bit, so that nothing
+-- adds up
 abbrev pub bit_point : UartOpts → Rate → ℕ → ℕ
 bit_point opts rate i = point rate.num rate.den opts.baud opts.sp i
 
@@ -58,7 +66,8 @@ breaks Zero bit ones = bit
 breaks One bit ones = not bit
 
 abbrev pub parity_wrong : UartOpts → List Bool → Bool
-parity_wrong opts levels = breaks (parity_of opts.parity) (get_or levels (opts.bits + 1) false) (ones_of opts levels)
+parity_wrong opts levels =
+    breaks (parity_of opts.parity) (get_or levels (opts.bits + 1) false) (ones_of opts levels)
 
 -- whether a stop bit is low
 abbrev pub stop_wrong : UartOpts → List Bool → Bool
@@ -67,7 +76,8 @@ stop_wrong opts levels = list_any not (drop (before_stop opts) levels)
 -- a byte, or two bytes with the higher first
 abbrev pub pieces : UartOpts → ℕ → ℕ → ℕ → List Out
 pieces opts f end value =
-    if opts.bits == 9 then span_piece 0 f end (value / 256) ∷ span_piece 0 f end (value % 256) ∷ [] else span_piece 0 f end value ∷ []
+    if opts.bits == 9 then span_piece 0 f end (value / 256) ∷ span_piece 0 f end (value % 256) ∷ []
+    else span_piece 0 f end value ∷ []
 
 -- a frame from f to end with this data, and whether its parity and a stop bit are wrong
 abbrev pub told_outs : UartOpts → ℕ → ℕ → ℕ → Bool → Bool → List Out
@@ -79,11 +89,15 @@ told_outs opts f end value parity stop =
     ++ span_packet UartFrame f end value (bit_of parity + 2 * bit_of stop) ∷ []
 
 abbrev pub frame_outs : UartOpts → ℕ → ℕ → List Bool → List Out
-frame_outs opts f end levels = told_outs opts f end (data_of opts levels) (parity_wrong opts levels) (stop_wrong opts levels)
+frame_outs opts f end levels =
+    told_outs opts f end (data_of opts levels) (parity_wrong opts levels) (stop_wrong opts levels)
 
--- a line that is low from f up to r, where a frame was low at all its points: a break, if it is long enough
+-- a line that is low from f up to r, where a frame was low at all its points: a break, if it is
+-- long enough
 abbrev pub break_outs : UartOpts → Rate → ℕ → ℕ → List Out
-break_outs opts rate f r = if nat_lt (r - f) (break_length opts rate) then [] else span_note 4 f r 0 0 ∷ span_packet UartBreak f r 0 0 ∷ []
+break_outs opts rate f r =
+    if nat_lt (r - f) (break_length opts rate) then []
+    else span_note 4 f r 0 0 ∷ span_packet UartBreak f r 0 0 ∷ []
 
 -- a false start, whole frames and breaks
 abbrev pub shape_of : UartOpts → Rate → Shape
@@ -100,6 +114,7 @@ shape_of opts rate = record {
 abbrev pub uart_outs : UartOpts → Rate → List ℕ → List Out
 uart_outs opts rate samples = chain_outs (shape_of opts rate) samples
 
--- *near*: where the frame starts that has begun and has something still to give, else the number of samples
+-- *near*: where the frame starts that has begun and has something still to give, else the number of
+-- samples
 abbrev pub uart_near : UartOpts → Rate → List ℕ → ℕ
 uart_near opts rate samples = chain_near (shape_of opts rate) samples

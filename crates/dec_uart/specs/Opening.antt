@@ -24,11 +24,14 @@ alts_of machine = held_alt machine.line.opts machine.line.rate machine.held ∷ 
 abbrev pub StandsFor : Uart → List ℕ → Type 0
 StandsFor machine list =
     EndsThere (line_walk (shape_of machine.line.opts machine.line.rate)) list
-    × (machine.held ≡ held_of (shape_of machine.line.opts machine.line.rate) (walked (line_walk (shape_of machine.line.opts machine.line.rate)) list))
+    × (machine.held ≡ held_of (shape_of machine.line.opts machine.line.rate)
+    (walked (line_walk (shape_of machine.line.opts machine.line.rate)) list))
 
--- a decoder of these options at this rate that stands for no samples; Range exactly where an option is out of range, else Rate exactly where the rate is too low
+-- a decoder of these options at this rate that stands for no samples; Range exactly where an option
+-- is out of range, else Rate exactly where the rate is too low
 abbrev pub Opens : ℕ → UartOpts → Rate → Result Uart OptFault → Type 0
 Opens most opts rate (Ok machine) =
-    InRange most opts × FastEnough opts rate × ((line_of machine).opts ≡ opts) × ((line_of machine).rate ≡ rate) × StandsFor machine []
+    InRange most opts × FastEnough opts rate × ((line_of machine).opts ≡ opts)
+    × ((line_of machine).rate ≡ rate) × StandsFor machine []
 Opens most opts rate (Err Range) = ¬ InRange most opts
 Opens most opts rate (Err TooSlow) = InRange most opts × (¬ FastEnough opts rate)

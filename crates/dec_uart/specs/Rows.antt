@@ -19,26 +19,33 @@ line baud parity = record { rx = 0; baud = baud; bits = 8; parity = parity; stop
 
 -- the letter A, with bits of three and of four samples
 pub a_letter :
-    uart_outs (line 300 0) kilohertz (replicate 4 1 ++ replicate 3 0 ++ replicate 3 1 ++ replicate 17 0 ++ replicate 3 1 ++ replicate 4 0 ++ replicate 6 1)
+    uart_outs (line 300 0) kilohertz
+    (replicate 4 1 ++ replicate 3 0 ++ replicate 3 1 ++ replicate 17 0 ++ replicate 3 1
+    ++ replicate 4 0 ++ replicate 6 1)
     ≡ span_note 1 4 35 65 0 ∷ span_piece 0 4 35 65 ∷ span_packet UartFrame 4 35 65 0 ∷ []
 unfolding chain_outs
 a_letter = refl
 
 -- two frames without a one under odd parity, the second without its stop bit: it goes on as a break
 pub a_break :
-    uart_outs (line 250 1) kilohertz (replicate 2 1 ++ replicate 40 0 ++ replicate 4 1 ++ replicate 54 0 ++ replicate 2 1)
-    ≡ span_note 1 2 44 0 0 ∷ span_note 2 2 44 0 0 ∷ span_piece 0 2 44 0 ∷ span_packet UartFrame 2 44 0 1
-    ∷ span_note 1 46 88 0 0 ∷ span_note 2 46 88 0 0 ∷ span_note 3 46 88 0 0 ∷ span_piece 0 46 88 0 ∷ span_packet UartFrame 46 88 0 3
+    uart_outs (line 250 1) kilohertz
+    (replicate 2 1 ++ replicate 40 0 ++ replicate 4 1 ++ replicate 54 0 ++ replicate 2 1)
+    ≡ span_note 1 2 44 0 0 ∷ span_note 2 2 44 0 0 ∷ span_piece 0 2 44 0
+    ∷ span_packet UartFrame 2 44 0 1
+    ∷ span_note 1 46 88 0 0 ∷ span_note 2 46 88 0 0 ∷ span_note 3 46 88 0 0 ∷ span_piece 0 46 88 0
+    ∷ span_packet UartFrame 46 88 0 3
     ∷ span_note 4 46 100 0 0 ∷ span_packet UartBreak 46 100 0 0 ∷ []
 unfolding chain_outs
 a_break = refl
 
 -- a pulse that is shorter than half a bit
-pub a_false_start : uart_outs (line 100 0) kilohertz (replicate 2 1 ++ replicate 2 0 ++ replicate 17 1) ≡ span_note 0 2 7 0 0 ∷ []
+pub a_false_start : uart_outs (line 100 0) kilohertz
+    (replicate 2 1 ++ replicate 2 0 ++ replicate 17 1) ≡ span_note 0 2 7 0 0 ∷ []
 unfolding chain_outs
 a_false_start = refl
 
 -- a frame that may still become a break has begun at 46
-pub before_a_break : uart_near (line 250 1) kilohertz (replicate 2 1 ++ replicate 40 0 ++ replicate 4 1 ++ replicate 50 0) ≡ 46
+pub before_a_break : uart_near (line 250 1) kilohertz
+    (replicate 2 1 ++ replicate 40 0 ++ replicate 4 1 ++ replicate 50 0) ≡ 46
 unfolding chain_near
 before_a_break = refl

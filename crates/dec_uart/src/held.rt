@@ -21,8 +21,8 @@ pub struct Line {
 pub enum Held {
     /// No frame is open.
     Idle,
-    /// In the frame that starts at this place: how many of its points were read, their levels as a number,
-    /// the first the lowest, and how far behind the start the last of them is.
+    /// In the frame that starts at this place: how many of its points were read, their levels as a
+    /// number, the first the lowest, and how far behind the start the last of them is.
     Inside {
         start: u64,
         points: u8,

@@ -1,4 +1,5 @@
-//! Asynchronous serial: frames with a start bit, data with the least significant bit first, parity and stop bits.
+//! Asynchronous serial: frames with a start bit, data with the least significant bit first, parity
+//! and stop bits.
 #![tactic(auto)]
 
 mod frames;

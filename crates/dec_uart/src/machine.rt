@@ -5,19 +5,29 @@ ghost use Rattle.dec_uart.specs.Frames.{uart_outs, uart_near};
 ghost use Rattle.dec_uart.specs.Opening.{StandsFor, alts_of};
 ghost use Rattle.dec_uart.specs.laws.LineLaws.{uart_on_wire};
 ghost use Rattle.dec_uart.specs.laws.Machine.{held_alt, held_near};
-ghost use Rattle.dec_uart.specs.laws.MachineLaws.{uart_quiet, uart_nothing, uart_prefix, uart_order, uart_few, one_uart, uart_one_stop};
+ghost use Rattle.dec_uart.specs.laws.MachineLaws.{uart_quiet, uart_nothing, uart_prefix};
+ghost use Rattle.dec_uart.specs.laws.MachineLaws.{uart_order, uart_few, one_uart, uart_one_stop};
 
 use crate::outputs::give;
 use crate::points::{bit_point, last_bit};
 use crate::steps::step;
 use crate::{Held, Line, Uart};
-use decoder_core::{LogicMachine, Outs};
+use decoder_core::{Configured, Driver, LogicMachine, Outs, is_send};
 use la_base::{Word, mask, pin};
 use wait_cond::{Alt, Cond, Waiter};
 
 // A line that is high, one that falls, or so many samples behind the last stop.
 fn alt(high: Word, fall: Word, skip: u64) -> Alt
-    ensures { result ≡ record { low = 0; high = high; rise = 0; fall = fall; edge = 0; steady = 0; skip = skip } }
+    ensures { result
+        ≡ record {
+          low = 0;
+          high = high;
+          rise = 0;
+          fall = fall;
+          edge = 0;
+          steady = 0;
+          skip = skip;
+        } }
 {
     Alt {
         low: 0,
@@ -59,11 +69,13 @@ fn near(held: Held, next: u64) -> u64
     }
 }
 
-impl LogicMachine for Uart {
+impl Configured for Uart {
     type Setup = Line;
 
     ghost setup = { λ machine. machine.line };
+}
 
+impl LogicMachine for Uart {
     ghost outs = { λ line list. uart_outs line.opts line.rate list };
 
     ghost near = { λ line list. uart_near line.opts line.rate list };
@@ -97,17 +109,28 @@ impl LogicMachine for Uart {
 
     ghost quiet = { λ machine seen more stands rests. uart_quiet machine seen more stands rests };
 
-    ghost nothing = { λ machine. uart_nothing machine.line.opts machine.line.rate machine.line.in_range machine.line.fast };
+    ghost nothing = { λ machine.
+        uart_nothing machine.line.opts machine.line.rate machine.line.in_range machine.line.fast };
 
-    ghost prefix = { λ machine. uart_prefix machine.line.opts machine.line.rate machine.line.in_range machine.line.fast };
+    ghost prefix = { λ machine.
+        uart_prefix machine.line.opts machine.line.rate machine.line.in_range machine.line.fast };
 
-    ghost order = { λ machine. uart_order machine.line.opts machine.line.rate machine.line.in_range machine.line.fast };
+    ghost order = { λ machine.
+        uart_order machine.line.opts machine.line.rate machine.line.in_range machine.line.fast };
 
-    ghost few = { λ machine. uart_few machine.line.opts machine.line.rate machine.line.in_range machine.line.fast };
+    ghost few = { λ machine.
+        uart_few machine.line.opts machine.line.rate machine.line.in_range machine.line.fast };
 
     ghost on_wire = { λ machine. uart_on_wire machine.line.opts machine.line.rate };
 
-    ghost one_machine = { λ one other list same stands also. one_uart one other list same stands also };
+    ghost one_machine = { λ one other list same stands also.
+        one_uart one other list same stands also };
 
-    ghost one_stop = { λ one other seen more same stands also rests. uart_one_stop one other seen more same stands also rests };
+    ghost one_stop = { λ one other seen more same stands also rests.
+        uart_one_stop one other seen more same stands also rests };
+}
+
+// It may move to another thread, and so may what drives it.
+fn machine_is_send() {
+    is_send::<Driver<Uart>>();
 }

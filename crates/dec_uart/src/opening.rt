@@ -30,7 +30,8 @@ fn in_range(opts: UartOpts) -> bool
     opts.sp >= 1 && opts.sp <= 99
 }
 
-// Whether point 0 of a frame lies behind its first sample. The left side may have more than 64 bits.
+// Whether point 0 of a frame lies behind its first sample. The left side may have more than 64
+// bits.
 fn is_fast(opts: UartOpts, rate: Rate) -> bool
     requires range { InRange MOST_PINS opts }
     requires rate { rate.num ≤ 10 ^ 15 }
@@ -40,10 +41,11 @@ fn is_fast(opts: UartOpts, rate: Rate) -> bool
 }
 
 impl Uart {
-    /// Opens a decoder of these options at this rate; it stands for no samples. Answers Range exactly where
-    /// an option is out of range: `rx` isn't a bit of a sample, or not 1 to 10,000,000 for `baud`, 5 to 9
-    /// for `bits`, 0 to 4 for `parity`, 1 to 2 for `stop`, 1 to 99 for `sp`. Else it answers Rate exactly
-    /// where `sp` hundredths of a bit are less than one sample.
+    /// Opens a decoder of these options at this rate; it stands for no samples. Answers Range
+    /// exactly where an option is out of range: `rx` isn't a bit of a sample, or not 1 to
+    /// 10,000,000 for `baud`, 5 to 9 for `bits`, 0 to 4 for `parity`, 1 to 2 for `stop`, 1 to 99
+    /// for `sp`. Else it answers Rate exactly where `sp` hundredths of a bit are less than one
+    /// sample.
     pub fn open(opts: UartOpts, rate: Rate) -> Result<Uart, OptFault>
         requires { rate.num ≤ 10 ^ 15 }
         ensures { Opens MOST_PINS opts rate result }

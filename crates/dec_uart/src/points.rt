@@ -1,6 +1,7 @@
 // The bits of a frame, and where they are read.
 ghost use Rattle.std.specs.Prelude.{◌≡◌, ◌≤◌};
-ghost use Rattle.dec_uart.specs.Frames.{parity_of, parity_bits, before_stop, last_bit, bit_point, break_length};
+ghost use Rattle.dec_uart.specs.Frames.{parity_of, parity_bits, before_stop, last_bit, bit_point};
+ghost use Rattle.dec_uart.specs.Frames.{break_length};
 
 use crate::{Line, Parity};
 use rate_math::{point, samples_of_bits};

@@ -5,8 +5,9 @@ ghost use Rattle.dec_uart.specs.Texts.{note_text};
 use la_base::Note;
 use line_text::LineBuf;
 
-/// Appends the text of a note, and nothing for a class that a serial line doesn't have: `False start`, the
-/// data in upper case hexadecimal with at least two digits, `Parity error`, `Frame error`, `Break`.
+/// Appends the text of a note, and nothing for a class that a serial line doesn't have: `False
+/// start`, the data in upper case hexadecimal with at least two digits, `Parity error`, `Frame
+/// error`, `Break`.
 #[tactic(auto, using(line_text::proofs::Widths::hex_room))]
 pub fn text(note: Note, buf: &mut LineBuf)
     requires { length buf.old + 64 ≤ 256 }

@@ -1,9 +1,11 @@
 -- What is taken of a decoder: its notes and pieces, and floors between them.
 use Rattle.std.specs.Prelude.{ℕ, ◌≤◌, List, [], ◌∷◌}
 use Rattle.la_base.specs.declared.wires.Mark.{Mark}
-use Rattle.la_base.specs.declared.wires.Mark.TheVariants.{Note as NoteMark, Piece as PieceMark, Floor as FloorMark, End as EndMark}
+use Rattle.la_base.specs.declared.wires.Mark.TheVariants.{Note as NoteMark, Piece as PieceMark}
+use Rattle.la_base.specs.declared.wires.Mark.TheVariants.{Floor as FloorMark, End as EndMark}
 use Rattle.la_base.specs.declared.wires.Out.{Out}
-use Rattle.la_base.specs.declared.wires.Out.TheVariants.{Note as NoteOut, Piece as PieceOut, Packet as PacketOut}
+use Rattle.la_base.specs.declared.wires.Out.TheVariants.{Note as NoteOut, Piece as PieceOut}
+use Rattle.la_base.specs.declared.wires.Out.TheVariants.{Packet as PacketOut}
 
 -- the notes and pieces among outputs
 abbrev pub marks_of : List Out → List Mark
@@ -32,7 +34,9 @@ abbrev pub rest_behind : List Mark → List Mark
 rest_behind [] = []
 rest_behind (mark ∷ marks) = marks
 
--- behind each floor among the first marks all notes start at it or later. The second list has the notes and pieces from the first of these marks on: those that were taken, and behind them those that are still to come
+-- behind each floor among the first marks all notes start at it or later. The second list has the
+-- notes and pieces from the first of these marks on: those that were taken, and behind them those
+-- that are still to come
 abbrev pub FloorsHold : List Mark → List Mark → Type 0
 FloorsHold [] all = Unit {0}
 FloorsHold (NoteMark note ∷ marks) all = FloorsHold marks (rest_behind all)

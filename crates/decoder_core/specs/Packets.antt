@@ -16,7 +16,9 @@ counts wire last packet = same_wire (wire_of packet.kind) wire && nat_le last pa
 abbrev pub counting : Wire → ℕ → List Item → List Packet
 counting wire last [] = []
 counting wire last (Sample value ∷ items) = counting wire last items
-counting wire last (Pack packet ∷ items) = if counts wire last packet then packet ∷ counting wire packet.start items else counting wire last items
+counting wire last (Pack packet ∷ items) =
+    if counts wire last packet then packet ∷ counting wire packet.start items
+    else counting wire last items
 
 -- those that count of a whole input
 unfoldable pub counted_packets : Wire → List Item → List Packet
@@ -30,7 +32,8 @@ last_start last (packet ∷ packets) = last_start packet.start packets
 -- packets that all count, behind one that starts at `last`
 abbrev pub CountFrom : Wire → ℕ → List Packet → Type 0
 CountFrom wire last [] = Unit {0}
-CountFrom wire last (packet ∷ packets) = (wire_of packet.kind ≡ wire) × (last ≤ packet.start) × CountFrom wire packet.start packets
+CountFrom wire last (packet ∷ packets) =
+    (wire_of packet.kind ≡ wire) × (last ≤ packet.start) × CountFrom wire packet.start packets
 
 -- packets that all count
 abbrev pub AllCount : Wire → List Packet → Type 0
@@ -38,21 +41,28 @@ AllCount wire packets = CountFrom wire 0 packets
 
 -- *floor* of packets: each note that further packets add, which count, starts there or later
 abbrev pub IsPacketFloor : Wire → (List Packet → List Out) → List Packet → ℕ → Type 0
-IsPacketFloor wire outs seen floor = (more : List Packet) (new : List Out) → AllCount wire (seen ++ more) → outs (seen ++ more) ≡ outs seen ++ new → NotesFrom floor new
+IsPacketFloor wire outs seen floor =
+    (more : List Packet) (new : List Out) → AllCount wire (seen ++ more)
+    → outs (seen ++ more) ≡ outs seen ++ new → NotesFrom floor new
 
 -- *order* of packets: where packets count, the starts of those that are put out never fall
 abbrev pub PacketsStayInOrder : Wire → (List Packet → List Out) → Type 0
-PacketsStayInOrder wire outs = (packets : List Packet) → AllCount wire packets → IsNonDecreasing (packet_starts (outs packets))
+PacketsStayInOrder wire outs =
+    (packets : List Packet) → AllCount wire packets → IsNonDecreasing (packet_starts (outs packets))
 
 -- *one machine*: two machines of one setup that stand for the same packets are equal
 abbrev pub OnePacketMachine : {D S : Type 0} → (D → S) → (D → List Packet → Type 0) → Type 0
-OnePacketMachine {D} setup stands = (one other : D) (packets : List Packet) → setup one ≡ setup other → stands one packets → stands other packets → one ≡ other
+OnePacketMachine {D} setup stands =
+    (one other : D) (packets : List Packet) → setup one ≡ setup other → stands one packets
+    → stands other packets → one ≡ other
 
 -- behind an input, none of these items counts
 abbrev pub NoneCount : Wire → List Item → List Item → Type 0
 NoneCount wire input more = counted_packets wire (input ++ more) ≡ counted_packets wire input
 
--- a follower has consumed this input: its machine stands for the packets that count, the last of which starts at `last`
-pub record Follows {D : Type 0} (stands : D → List Packet → Type 0) (wire : Wire) (machine : D) (last : ℕ) (input : List Item) : Type 0 where
+-- a follower has consumed this input: its machine stands for the packets that count, the last of
+-- which starts at `last`
+pub record Follows {D : Type 0} (stands : D → List Packet → Type 0) (wire : Wire) (machine : D)
+    (last : ℕ) (input : List Item) : Type 0 where
   pub machine_stands : stands machine (counted_packets wire input)
   pub last_is : last ≡ last_start 0 (counted_packets wire input)

@@ -1,12 +1,14 @@
--- What a decoder promises. *Outputs*: `outs` is all that the decoder's definition gives on a whole input, at one
--- setup. *Stands for*: `stands` says that a machine holds what it has to know of a list of samples, which ends with
--- the machine's last stop; its condition `alts` is pending from there on.
+-- What a decoder promises. *Outputs*: `outs` is all that the decoder's definition gives on a whole
+-- input, at one setup. *Stands for*: `stands` says that a machine holds what it has to know of a
+-- list of samples, which ends with the machine's last stop; its condition `alts` is pending from
+-- there on.
 use Rattle.std.specs.Prelude.{ℕ, ◌≡◌, ◌+◌, ◌≤◌, List, [], ◌∷◌, ◌++◌, take, length, slice_index}
 use Rattle.std.specs.List.Sorted.{IsNonDecreasing}
 use Rattle.la_base.specs.Kinds.{wire_of}
 use Rattle.la_base.specs.declared.wires.Wire.{Wire}
 use Rattle.la_base.specs.declared.wires.Out.{Out}
-use Rattle.la_base.specs.declared.wires.Out.TheVariants.{Note as NoteOut, Piece as PieceOut, Packet as PacketOut}
+use Rattle.la_base.specs.declared.wires.Out.TheVariants.{Note as NoteOut, Piece as PieceOut}
+use Rattle.la_base.specs.declared.wires.Out.TheVariants.{Packet as PacketOut}
 use Rattle.wait_cond.specs.declared.alt.Alt.{Alt}
 use Rattle.wait_cond.specs.Stops.{IsStop, NoneMet}
 
@@ -26,7 +28,9 @@ packet_starts (PacketOut packet ∷ outs) = packet.start ∷ packet_starts outs
 
 -- *floor*: each note that a longer input adds starts at this sample or later
 abbrev pub IsFloor : {X : Type 0} → (List X → List Out) → List X → ℕ → Type 0
-IsFloor {X} outs input floor = (more : List X) (new : List Out) → outs (input ++ more) ≡ outs input ++ new → NotesFrom floor new
+IsFloor {X} outs input floor =
+    (more : List X) (new : List Out) → outs (input ++ more) ≡ outs input ++ new
+    → NotesFrom floor new
 
 -- *nothing*: no input gives nothing
 abbrev pub GivesNothing : {X : Type 0} → (List X → List Out) → Type 0
@@ -34,7 +38,8 @@ GivesNothing outs = outs [] ≡ []
 
 -- *prefix*: the outputs of a longer input begin with those of this one
 abbrev pub KeepsFront : {X : Type 0} → (List X → List Out) → Type 0
-KeepsFront {X} outs = (input more : List X) → (new : List Out) × (outs (input ++ more) ≡ outs input ++ new)
+KeepsFront {X} outs =
+    (input more : List X) → (new : List Out) × (outs (input ++ more) ≡ outs input ++ new)
 
 -- *order*: the starts of the packets never fall
 abbrev pub PacketsInOrder : {X : Type 0} → (List X → List Out) → Type 0
@@ -42,7 +47,8 @@ PacketsInOrder {X} outs = (input : List X) → IsNonDecreasing (packet_starts (o
 
 -- *few*: one more sample or packet adds at most 16 outputs
 abbrev pub AddsFew : {X : Type 0} → (List X → List Out) → Type 0
-AddsFew {X} outs = (input : List X) (item : X) → length (outs (input ++ item ∷ [])) ≤ length (outs input) + 16
+AddsFew {X} outs =
+    (input : List X) (item : X) → length (outs (input ++ item ∷ [])) ≤ length (outs input) + 16
 
 -- no sample of `more` meets an alternative, in the wait that began behind `seen`
 abbrev pub Rests : List Alt → List ℕ → List ℕ → Type 0
@@ -55,25 +61,34 @@ pub record StopsIn (alts : List Alt) (seen more : List ℕ) (at value met : ℕ)
 
 -- *quiet*: samples that don't meet the condition leave the outputs as they were
 abbrev pub IsQuiet : (List ℕ → List Out) → (List ℕ → Type 0) → List Alt → Type 0
-IsQuiet outs stands alts = (seen more : List ℕ) → stands seen → Rests alts seen more → outs (seen ++ more) ≡ outs seen
+IsQuiet outs stands alts =
+    (seen more : List ℕ) → stands seen → Rests alts seen more → outs (seen ++ more) ≡ outs seen
 
 -- *loud*: a stop extends the outputs by those that were put out, and by nothing else
-abbrev pub IsLoud : (List ℕ → List Out) → (List ℕ → Type 0) → List Alt → ℕ → ℕ → ℕ → List Out → Type 0
+abbrev pub IsLoud : (List ℕ → List Out) → (List ℕ → Type 0) → List Alt → ℕ → ℕ → ℕ → List Out
+    → Type 0
 IsLoud outs stands alts at value met into =
-    (seen more : List ℕ) → stands seen → StopsIn alts seen more at value met → outs (take (at + 1) (seen ++ more)) ≡ outs seen ++ into
+    (seen more : List ℕ) → stands seen → StopsIn alts seen more at value met
+    → outs (take (at + 1) (seen ++ more)) ≡ outs seen ++ into
 
 -- after a stop a machine stands for the samples up to it, and the stop itself
 abbrev pub StandsThere : (List ℕ → Type 0) → (List ℕ → Type 0) → List Alt → ℕ → ℕ → ℕ → Type 0
-StandsThere old new alts at value met = (seen more : List ℕ) → old seen → StopsIn alts seen more at value met → new (take (at + 1) (seen ++ more))
+StandsThere old new alts at value met =
+    (seen more : List ℕ) → old seen → StopsIn alts seen more at value met
+    → new (take (at + 1) (seen ++ more))
 
 -- *one machine*: two machines of one setup that stand for the same samples are equal
 abbrev pub OneMachine : {L S : Type 0} → (L → S) → (L → List ℕ → Type 0) → Type 0
-OneMachine {L} setup stands = (one other : L) (list : List ℕ) → setup one ≡ setup other → stands one list → stands other list → one ≡ other
+OneMachine {L} setup stands =
+    (one other : L) (list : List ℕ) → setup one ≡ setup other → stands one list → stands other list
+    → one ≡ other
 
--- *one stop*: setup and samples fix the place of the last stop; where one machine has no further stop, no other has one
+-- *one stop*: setup and samples fix the place of the last stop; where one machine has no further
+-- stop, no other has one
 abbrev pub OneLastStop : {L S : Type 0} → (L → S) → (L → List ℕ → Type 0) → (L → List Alt) → Type 0
 OneLastStop {L} setup stands alts =
-    (one other : L) (seen more : List ℕ) → setup one ≡ setup other → stands one seen → stands other (seen ++ more) → Rests (alts one) seen more → more ≡ []
+    (one other : L) (seen more : List ℕ) → setup one ≡ setup other → stands one seen
+    → stands other (seen ++ more) → Rests (alts one) seen more → more ≡ []
 
 -- each packet among outputs is of this wire
 abbrev pub PacketsOn : Wire → List Out → Type 0

@@ -1,7 +1,8 @@
 -- What decoders that stand on one another read and give.
 use Rattle.std.specs.Prelude.{ℕ, List, [], ◌∷◌, ◌++◌, map, slice_get, Option, Some, None}
 use Rattle.la_base.specs.declared.wires.Out.{Out}
-use Rattle.la_base.specs.declared.wires.Out.TheVariants.{Note as NoteOut, Piece as PieceOut, Packet as PacketOut}
+use Rattle.la_base.specs.declared.wires.Out.TheVariants.{Note as NoteOut, Piece as PieceOut}
+use Rattle.la_base.specs.declared.wires.Out.TheVariants.{Packet as PacketOut}
 use Rattle.decoder_core.specs.Inputs.{Item, Sample, Pack}
 
 -- the packets among outputs, as the input of what stands on them
@@ -16,7 +17,8 @@ abbrev pub packets_in : Option (List Out) → List Item
 packets_in None = []
 packets_in (Some outs) = packets_of outs
 
--- what an instance reads: the samples, or the packets of the instance that it stands on, of those before it
+-- what an instance reads: the samples, or the packets of the instance that it stands on, of those
+-- before it
 abbrev pub input_of : List ℕ → List (List Out) → Option ℕ → List Item
 input_of samples before None = map Sample samples
 input_of samples before (Some parent) = packets_in (slice_get before parent)
@@ -30,7 +32,8 @@ module _ {S : Type 0} (outputs : S → List Item → List Out) (samples : List �
   -- all outputs of decoders on samples, behind those of the decoders before them
   abbrev pub outputs_behind : List (List Out) → List (Node S) → List (List Out)
   outputs_behind before [] = before
-  outputs_behind before (node ∷ nodes) = outputs_behind (before ++ outputs node.setup (input_of samples before node.parent) ∷ []) nodes
+  outputs_behind before (node ∷ nodes) =
+      outputs_behind (before ++ outputs node.setup (input_of samples before node.parent) ∷ []) nodes
 
   -- all outputs of the decoders of a tree on samples
   abbrev pub given : List (Node S) → List (List Out)

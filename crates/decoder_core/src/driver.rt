@@ -1,12 +1,15 @@
 // Drives a decoder of samples by the waits that it asks for.
-ghost use Rattle.std.specs.Prelude.{◌≡◌, ◌≤◌, ◌<◌, ◌+◌, ◌^◌, [], ◌∷◌, ◌++◌, ℕ, List, length, min, replicate, take, ◌≢◌, ◌-◌, true, false, IfSome};
+ghost use Rattle.std.specs.Prelude.{◌≡◌, ◌≤◌, ◌<◌, ◌+◌, ◌^◌, [], ◌∷◌, ◌++◌, ℕ, List, length, min};
+ghost use Rattle.std.specs.Prelude.{replicate, take, ◌≢◌, ◌-◌, true, false, IfSome};
 ghost use Rattle.la_base.specs.Samples.{samples};
 ghost use Rattle.la_base.specs.declared.wires.Wire.TheVariants.{Logic};
 ghost use Rattle.wait_cond.specs.Conds.{IsExact};
 ghost use Rattle.la_base.specs.Runs.{samples_of};
-ghost use Rattle.wait_cond.specs.Waiting.{Waits, alts_of, wait_from, consumed_by};
-ghost use Rattle.decoder_core.specs.Inputs.{Item, Sample, counted_samples, items_of, left_feed, left_items};
-ghost use Rattle.decoder_core.specs.Driving.{Passes, ReachesStop, Steps, StepsRuns, StopsFirst, Drives, Sleeps, SameState};
+ghost use Rattle.wait_cond.specs.Waiting.{Waits, alts_of, wait_from, consumed_by, last_of};
+ghost use Rattle.decoder_core.specs.Inputs.{Item, Sample, counted_samples, items_of, left_feed};
+ghost use Rattle.decoder_core.specs.Inputs.{left_items};
+ghost use Rattle.decoder_core.specs.Driving.{Passes, ReachesStop, Steps, StepsRuns, StopsFirst};
+ghost use Rattle.decoder_core.specs.Driving.{Drives, Sleeps, SameState};
 ghost use Rattle.decoder_core.specs.laws.CountedLaws.{nothing_counted, front_counted, few_counted};
 
 use crate::walks::walk_runs;
@@ -18,7 +21,8 @@ use wait_cond::{Scan, Waiter};
 const MOST_SAMPLES: u64 = 1 << 60;
 
 /// A decoder of samples as a machine of any input: it waits for the samples that the decoder asks
-/// for, and stands for the samples that count. Those are all that are numbered below 2^60; packets don't count.
+/// for, and stands for the samples that count. Those are all that are numbered below 2^60; packets
+/// don't count.
 #[derive(Drop)]
 pub struct Driver<L: LogicMachine> {
     machine: L,
@@ -36,11 +40,13 @@ impl<L: LogicMachine> Driver<L> {
         Driver { machine, waiter }
     }
 
-    // Consumes what is left of a run where it is plain that it has no stop, and answers whether it did. Else
-    // nothing changes.
+    // Consumes what is left of a run where it is plain that it has no stop, and answers whether it
+    // did. Else nothing changes.
     #[inline(always)]
     fn pass_rest(&mut self, rest: Run) -> bool
-        ensures passes { result ≡ true → Passes (Drives L.stands L.alts self.old.machine self.old.waiter) (Drives L.stands L.alts self.new.machine self.new.waiter)
+        ensures passes { result ≡ true → Passes
+            (Drives L.stands L.alts self.old.machine self.old.waiter)
+            (Drives L.stands L.alts self.new.machine self.new.waiter)
             (λ input. L.outs (L.setup self.old.machine) (counted_samples input)) (samples rest) }
         ensures setup { L.setup self.new.machine ≡ L.setup self.old.machine }
         ensures kept { result ≡ false → self.new ≡ self.old }
@@ -59,15 +65,22 @@ impl<L: LogicMachine> Driver<L> {
         false
     }
 
-    // Consumes samples up to their first stop, and those behind it if it is plain that they have none. It isn't
-    // inlined, so that the loop over runs has its registers for those without a stop.
+    // Consumes samples up to their first stop, and those behind it if it is plain that they have
+    // none. It isn't inlined, so that the loop over runs has its registers for those without a
+    // stop.
     #[inline(never)]
     fn look_on(&mut self, run: Run, into: &mut Outs) -> Option<Run>
         requires { into.old ≡ [] }
         ensures setup { L.setup self.new.machine ≡ L.setup self.old.machine }
-        ensures step { Steps (Drives L.stands L.alts self.old.machine self.old.waiter) (Drives L.stands L.alts self.new.machine self.new.waiter)
-            (λ input. L.outs (L.setup self.old.machine) (counted_samples input)) (Feed.Run run) (left_feed result) into.new }
-        ensures stops { ReachesStop (Drives L.stands L.alts self.old.machine self.old.waiter) (Sleeps L.alts self.old.machine self.old.waiter) (Feed.Run run) (left_feed result) }
+        ensures step { Steps
+            (Drives L.stands L.alts self.old.machine self.old.waiter)
+            (Drives L.stands L.alts self.new.machine self.new.waiter)
+            (λ input. L.outs (L.setup self.old.machine) (counted_samples input))
+            (Feed.Run run) (left_feed result) into.new }
+        ensures stops { ReachesStop
+            (Drives L.stands L.alts self.old.machine self.old.waiter)
+            (Sleeps L.alts self.old.machine self.old.waiter)
+            (Feed.Run run) (left_feed result) }
     {
         match self.look(run, into) {
             Some(rest) => {
@@ -80,7 +93,8 @@ impl<L: LogicMachine> Driver<L> {
         }
     }
 
-    // Consumes runs by the masks of what is waited for. It isn't inlined, so that the walk has its registers.
+    // Consumes runs by the masks of what is waited for. It isn't inlined, so that the walk has its
+    // registers.
     #[inline(never)]
     fn step_exact(&mut self, runs: &[Run], into: &mut Outs) -> Taken
         requires empty { into.old ≡ [] }
@@ -89,8 +103,11 @@ impl<L: LogicMachine> Driver<L> {
         ensures setup { L.setup self.new.machine ≡ L.setup self.old.machine }
         ensures within { result.count ≤ length runs.now }
         ensures none { result.count ≡ 0 → into.new ≡ [] }
-        ensures steps { StepsRuns (Drives L.stands L.alts self.old.machine self.old.waiter) (Drives L.stands L.alts self.new.machine self.new.waiter)
-            (λ input. L.outs (L.setup self.old.machine) (counted_samples input)) (samples_of (take result.count runs.now)) result.rest into.new }
+        ensures steps { StepsRuns
+            (Drives L.stands L.alts self.old.machine self.old.waiter)
+            (Drives L.stands L.alts self.new.machine self.new.waiter)
+            (λ input. L.outs (L.setup self.old.machine) (counted_samples input))
+            (samples_of (take result.count runs.now)) result.rest into.new }
     {
         let pair = self.waiter.pair();
         let mut walk = self.waiter.walk();
@@ -109,12 +126,16 @@ impl<L: LogicMachine> Driver<L> {
         }
     }
 
-    // Consumes what is behind the first sample of a run where it is plain that it has no stop, or answers it.
+    // Consumes what is behind the first sample of a run where it is plain that it has no stop, or
+    // answers it.
     #[inline(always)]
     fn pass_behind(&mut self, run: Run) -> Option<Run>
         ensures setup { L.setup self.new.machine ≡ L.setup self.old.machine }
-        ensures steps { StepsRuns (Drives L.stands L.alts self.old.machine self.old.waiter) (Drives L.stands L.alts self.new.machine self.new.waiter)
-            (λ input. L.outs (L.setup self.old.machine) (counted_samples input)) (replicate (run.len - 1) run.value) result [] }
+        ensures steps { StepsRuns
+            (Drives L.stands L.alts self.old.machine self.old.waiter)
+            (Drives L.stands L.alts self.new.machine self.new.waiter)
+            (λ input. L.outs (L.setup self.old.machine) (counted_samples input))
+            (replicate (run.len - 1) run.value) result [] }
     {
         match behind(run, 1) {
             Some(rest) => {
@@ -127,15 +148,19 @@ impl<L: LogicMachine> Driver<L> {
         }
     }
 
-    // Consumes runs as long as it is plain that they have no stop, and then one up to its first stop.
+    // Consumes runs as long as it is plain that they have no stop, and then one up to its first
+    // stop.
     #[inline(never)]
     fn step_any(&mut self, runs: &[Run], into: &mut Outs) -> Taken
         requires { into.old ≡ [] }
         ensures setup { L.setup self.new.machine ≡ L.setup self.old.machine }
         ensures within { result.count ≤ length runs.now }
         ensures some { 0 < length runs.now → 0 < result.count }
-        ensures steps { StepsRuns (Drives L.stands L.alts self.old.machine self.old.waiter) (Drives L.stands L.alts self.new.machine self.new.waiter)
-            (λ input. L.outs (L.setup self.old.machine) (counted_samples input)) (samples_of (take result.count runs.now)) result.rest into.new }
+        ensures steps { StepsRuns
+            (Drives L.stands L.alts self.old.machine self.old.waiter)
+            (Drives L.stands L.alts self.new.machine self.new.waiter)
+            (λ input. L.outs (L.setup self.old.machine) (counted_samples input))
+            (samples_of (take result.count runs.now)) result.rest into.new }
     {
         let passed = self.waiter.pass_runs(runs);
         if passed >= runs.len() {
@@ -150,14 +175,21 @@ impl<L: LogicMachine> Driver<L> {
         }
     }
 
-    // Consumes samples up to their first stop. It is inlined into both steps: a call would cost a tenth of a decode.
+    // Consumes samples up to their first stop. It is inlined into both steps: a call would cost a
+    // tenth of a decode.
     #[inline(always)]
     fn look(&mut self, run: Run, into: &mut Outs) -> Option<Run>
         requires { into.old ≡ [] }
         ensures setup { L.setup self.new.machine ≡ L.setup self.old.machine }
-        ensures step { Steps (Drives L.stands L.alts self.old.machine self.old.waiter) (Drives L.stands L.alts self.new.machine self.new.waiter)
-            (λ input. L.outs (L.setup self.old.machine) (counted_samples input)) (Feed.Run run) (left_feed result) into.new }
-        ensures stops { StopsFirst (Drives L.stands L.alts self.old.machine self.old.waiter) (Sleeps L.alts self.old.machine self.old.waiter) (Feed.Run run) (left_feed result) }
+        ensures step { Steps
+            (Drives L.stands L.alts self.old.machine self.old.waiter)
+            (Drives L.stands L.alts self.new.machine self.new.waiter)
+            (λ input. L.outs (L.setup self.old.machine) (counted_samples input))
+            (Feed.Run run) (left_feed result) into.new }
+        ensures stops { StopsFirst
+            (Drives L.stands L.alts self.old.machine self.old.waiter)
+            (Sleeps L.alts self.old.machine self.old.waiter)
+            (Feed.Run run) (left_feed result) }
     {
         let before = self.waiter.consumed();
         if before >= MOST_SAMPLES {
@@ -174,13 +206,17 @@ impl<L: LogicMachine> Driver<L> {
     }
 }
 
-// Begins the wait for what a machine waits for, behind its last stop. Where that is what it waited for
-// before, the waiter has it already: to make it anew at each stop would take a third of a decode.
+// Begins the wait for what a machine waits for, behind its last stop. Where that is what it waited
+// for before, the waiter has it already: to make it anew at each stop would take a third of a
+// decode.
 fn wait_on<L: LogicMachine>(machine: &L, anew: bool, waiter: &mut Waiter)
     requires { wait_from waiter.old ≡ consumed_by waiter.old }
     ensures waits { (list : List ℕ) → Waits waiter.old list → Waits waiter.new list }
     ensures from { wait_from waiter.new ≡ wait_from waiter.old }
-    ensures alts { (anew ≡ false → alts_of waiter.old ≡ L.alts machine.now) → alts_of waiter.new ≡ L.alts machine.now }
+    ensures alts { (anew ≡ false → alts_of waiter.old ≡ L.alts machine.now)
+        → alts_of waiter.new ≡ L.alts machine.now }
+    ensures consumed { consumed_by waiter.new ≡ consumed_by waiter.old }
+    ensures last { last_of waiter.new ≡ last_of waiter.old }
 {
     if anew {
         machine.wait(waiter);
@@ -276,10 +312,12 @@ impl<L: LogicMachine> Machine for Driver<L> {
     ghost on_wire = { λ d input. L.on_wire d.machine (counted_samples input) };
 }
 
-/// The input makes the driver: two drivers of one setup that have consumed the same input hold equal
-/// machines and equal counts of samples, last stops, last samples and alternatives. (A law; nothing is done.)
+/// The input makes the driver: two drivers of one setup that have consumed the same input hold
+/// equal machines and equal counts of samples, last stops, last samples and alternatives. (A law;
+/// nothing is done.)
 pub fn one_input_makes_one_driver<L: LogicMachine>(one: &Driver<L>, other: &Driver<L>)
     ensures { (input : List Item) → L.setup one.now.machine ≡ L.setup other.now.machine
-        → Drives L.stands L.alts one.now.machine one.now.waiter input → Drives L.stands L.alts other.now.machine other.now.waiter input
+        → Drives L.stands L.alts one.now.machine one.now.waiter input
+        → Drives L.stands L.alts other.now.machine other.now.waiter input
         → SameState one.now.machine other.now.machine one.now.waiter other.now.waiter }
 {}

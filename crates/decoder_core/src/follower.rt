@@ -2,14 +2,15 @@
 ghost use Rattle.std.specs.Prelude.{◌≡◌, [], ◌∷◌, List};
 ghost use Rattle.decoder_core.specs.Inputs.{Item, Pack};
 ghost use Rattle.decoder_core.specs.Packets.{Follows, NoneCount, counted_packets, counts};
-ghost use Rattle.decoder_core.specs.laws.PacketLaws.{nothing_followed, front_followed, order_followed, few_followed, wire_followed};
+ghost use Rattle.decoder_core.specs.laws.PacketLaws.{nothing_followed, front_followed};
+ghost use Rattle.decoder_core.specs.laws.PacketLaws.{order_followed, few_followed, wire_followed};
 
 use crate::{Machine, Outs, PacketMachine, Taken};
 use la_base::{Feed, Packet, Run, Wire, same_wire, wire_of};
 
-/// A decoder of packets as a machine of any input: it hands on the packets that count. Those are the
-/// packets of the wire that it wants which start no earlier than the one that counted before; samples
-/// don't count.
+/// A decoder of packets as a machine of any input: it hands on the packets that count. Those are
+/// the packets of the wire that it wants which start no earlier than the one that counted before;
+/// samples don't count.
 #[derive(Drop)]
 pub struct Follower<D: PacketMachine> {
     machine: D,
@@ -28,7 +29,8 @@ impl<D: PacketMachine> Follower<D> {
     /// A follower that has consumed nothing. The machine must stand for no packets.
     pub fn new(machine: D) -> Follower<D>
         requires { D.stands machine [] }
-        ensures stands { Follows D.stands (D.wire (D.setup result.machine)) result.machine result.from [] }
+        ensures stands { Follows D.stands
+            (D.wire (D.setup result.machine)) result.machine result.from [] }
         ensures machine { result.machine ≡ machine }
     {
         Follower { machine, from: 0 }
@@ -48,7 +50,8 @@ impl<D: PacketMachine> Machine for Follower<D> {
 
     ghost gives = { λ setup. D.gives setup };
 
-    ghost consumed = { λ f input. Follows D.stands (D.wire (D.setup f.machine)) f.machine f.from input };
+    ghost consumed = { λ f input. Follows D.stands
+        (D.wire (D.setup f.machine)) f.machine f.from input };
 
     ghost sleeps = { λ f input more. NoneCount (D.wire (D.setup f.machine)) input more };
 
@@ -85,21 +88,29 @@ impl<D: PacketMachine> Machine for Follower<D> {
         self.machine.floor(self.from)
     }
 
-    ghost nothing = { λ f. nothing_followed (D.wire (D.setup f.machine)) (D.outs (D.setup f.machine)) (D.nothing f.machine) };
+    ghost nothing = { λ f. nothing_followed (D.wire (D.setup f.machine))
+        (D.outs (D.setup f.machine)) (D.nothing f.machine) };
 
-    ghost prefix = { λ f. front_followed (D.wire (D.setup f.machine)) (D.outs (D.setup f.machine)) (D.prefix f.machine) };
+    ghost prefix = { λ f. front_followed (D.wire (D.setup f.machine)) (D.outs (D.setup f.machine))
+        (D.prefix f.machine) };
 
-    ghost order = { λ f. order_followed (D.wire (D.setup f.machine)) (D.outs (D.setup f.machine)) (D.order f.machine) };
+    ghost order = { λ f. order_followed (D.wire (D.setup f.machine)) (D.outs (D.setup f.machine))
+        (D.order f.machine) };
 
-    ghost few = { λ f. few_followed (D.wire (D.setup f.machine)) (D.outs (D.setup f.machine)) (D.few f.machine) };
+    ghost few = { λ f. few_followed (D.wire (D.setup f.machine)) (D.outs (D.setup f.machine))
+        (D.few f.machine) };
 
-    ghost on_wire = { λ f. wire_followed (D.wire (D.setup f.machine)) (D.outs (D.setup f.machine)) (D.gives (D.setup f.machine)) (D.on_wire f.machine) };
+    ghost on_wire = { λ f. wire_followed (D.wire (D.setup f.machine)) (D.outs (D.setup f.machine))
+        (D.gives (D.setup f.machine)) (D.on_wire f.machine) };
 }
 
-/// The input makes the follower: two followers of one setup that have consumed the same input hold equal
-/// machines, and the last packet that counted starts at the same sample. (A law; nothing is done.)
+/// The input makes the follower: two followers of one setup that have consumed the same input hold
+/// equal machines, and the last packet that counted starts at the same sample. (A law; nothing is
+/// done.)
 pub fn one_input_makes_one_follower<D: PacketMachine>(one: &Follower<D>, other: &Follower<D>)
     ensures { (input : List Item) → D.setup one.now.machine ≡ D.setup other.now.machine
-        → Follows D.stands (D.wire (D.setup one.now.machine)) one.now.machine one.now.from input → Follows D.stands (D.wire (D.setup other.now.machine)) other.now.machine other.now.from input
+        → Follows D.stands (D.wire (D.setup one.now.machine)) one.now.machine one.now.from input
+        → Follows D.stands (D.wire (D.setup other.now.machine))
+        other.now.machine other.now.from input
         → (one.now.machine ≡ other.now.machine) × (one.now.from ≡ other.now.from) }
 {}

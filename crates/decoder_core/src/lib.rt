@@ -1,4 +1,5 @@
-//! Decoders as machines: what they wait for, what they put out, and the driver or follower that feeds them.
+//! Decoders as machines: what they wait for, what they put out, and the driver or follower that
+//! feeds them.
 #![tactic(auto)]
 
 mod driver;
@@ -15,7 +16,7 @@ pub use driver::{Driver, one_input_makes_one_driver};
 pub use end::RunEnd;
 pub use faults::OptFault;
 pub use follower::{Follower, one_input_makes_one_follower};
-pub use laws::packets_of_a_parent_count;
-pub use machine::{LogicMachine, Machine, PacketMachine, Taken};
+pub use laws::{is_send, packets_of_a_parent_count};
+pub use machine::{Configured, LogicMachine, Machine, PacketMachine, Taken};
 pub use outputs::{note_at, packet_at, span_note, span_packet, span_piece};
 pub use outs::Outs;

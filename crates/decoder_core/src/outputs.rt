@@ -1,6 +1,7 @@
 // Outputs of one sample, and from one sample up to another.
 ghost use Rattle.std.specs.Prelude.{◌≡◌};
-ghost use Rattle.decoder_core.specs.Outputs.{note_at, packet_at, span_note, span_piece, span_packet};
+ghost use Rattle.decoder_core.specs.Outputs.{note_at, packet_at, span_note, span_piece};
+ghost use Rattle.decoder_core.specs.Outputs.{span_packet};
 
 use la_base::{Note, Out, Packet, PacketKind, Piece};
 
@@ -30,8 +31,8 @@ pub fn packet_at(kind: PacketKind, at: u64, a: u64) -> Out
     })
 }
 
-/// A note from sample `first` up to sample `last`; of `last` alone where `first` lies behind it. Only a
-/// machine that stands for no samples keeps such a place.
+/// A note from sample `first` up to sample `last`; of `last` alone where `first` lies behind it.
+/// Only a machine that stands for no samples keeps such a place.
 pub fn span_note(class: u16, first: u64, last: u64, a: u64, b: u64) -> Out
     ensures { result ≡ span_note class first last a b }
 {

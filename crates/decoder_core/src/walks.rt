@@ -1,5 +1,6 @@
 // A decoder of samples over many runs.
-ghost use Rattle.std.specs.Prelude.{◌≡◌, ◌≢◌, ◌≤◌, ◌<◌, ◌++◌, [], ℕ, List, length, take, false, true, OnErr};
+ghost use Rattle.std.specs.Prelude.{◌≡◌, ◌≢◌, ◌≤◌, ◌<◌, ◌++◌, [], ℕ, List, length, take, false};
+ghost use Rattle.std.specs.Prelude.{true, OnErr};
 ghost use Rattle.la_base.specs.Runs.{samples_of};
 ghost use Rattle.wait_cond.specs.Walks.{walk_from, walked};
 ghost use Rattle.decoder_core.specs.Treading.{Treads};
@@ -8,8 +9,8 @@ use crate::{LogicMachine, Outs};
 use la_base::Run;
 use wait_cond::{Pair, Walk};
 
-/// What a walk took of runs: how many, and whether another wait begins behind the last stop. Then of the last of them
-/// the first sample alone was consumed, which is that stop.
+/// What a walk took of runs: how many, and whether another wait begins behind the last stop. Then
+/// of the last of them the first sample alone was consumed, which is that stop.
 #[derive(Clone, Copy, Debug, PartialEq, Eq)]
 pub struct Walked {
     pub count: usize,
@@ -28,9 +29,9 @@ fn first_of(run: Run) -> Run
     }
 }
 
-/// Takes a machine through runs, by the masks of the alternatives that it waits for: over those without a stop, and
-/// over stops at which it puts out nothing and waits on for the same. It ends behind a stop with outputs, or behind
-/// which it waits for something else.
+/// Takes a machine through runs, by the masks of the alternatives that it waits for: over those
+/// without a stop, and over stops at which it puts out nothing and waits on for the same. It ends
+/// behind a stop with outputs, or behind which it waits for something else.
 #[inline(always)]
 pub fn walk_runs<L: LogicMachine>(
     machine: &mut L,
@@ -48,7 +49,8 @@ pub fn walk_runs<L: LogicMachine>(
     ensures begun { result.anew ≡ true → 0 < result.count }
     ensures none { result.count ≡ 0 → into.new ≡ [] }
     ensures there { result.anew ≡ true → walk_from walk.new ≡ walked walk.new }
-    ensures treads { Treads (L.outs (L.setup machine.old)) L.stands (L.alts machine.old) pair machine.old machine.new
+    ensures treads { Treads (L.outs (L.setup machine.old)) L.stands
+        (L.alts machine.old) pair machine.old machine.new
         walk.old walk.new runs.now result.count result.anew into.new }
 {
     for (place, run) in runs.iter().enumerate() {

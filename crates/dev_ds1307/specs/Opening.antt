@@ -8,7 +8,7 @@ use Rattle.i2c_phases.specs.Devices as devices
 use Rattle.dev_ds1307.specs.declared.chip.Chip.{Chip}
 use Rattle.dev_ds1307.specs.declared.chip.ClockOpts.{ClockOpts}
 use Rattle.dev_ds1307.specs.declared.held.Clock.{Clock}
-use Rattle.dev_ds1307.specs.Held.{Knows}
+use Rattle.dev_ds1307.specs.laws.Held.{Knows}
 
 -- the DS1307 of this option
 abbrev pub chip_by : ClockOpts → Chip
@@ -24,7 +24,8 @@ chip_in machine = machine.device.chip
 
 -- a decoder stands for packets: its DS1307 knows their phases, and what is kept is what they leave
 abbrev pub StandsFor : Phased Clock Chip → List Packet → Type 0
-StandsFor machine packets = devices.StandsFor (Knows machine.device) 104 machine.device.chip.resets machine.kept packets
+StandsFor machine packets =
+    devices.StandsFor (Knows machine.device) 104 machine.device.chip.resets machine.kept packets
 
 -- a decoder of this option that stands for no packets, or Range exactly where it is out of range
 abbrev pub Opens : ClockOpts → Result (Phased Clock Chip) OptFault → Type 0

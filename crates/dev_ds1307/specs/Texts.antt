@@ -1,4 +1,5 @@
--- The texts of notes, by the table of timekeeper registers (DS1307 data sheet, "Clock and Calendar").
+-- The texts of notes, by the table of timekeeper registers (DS1307 data sheet, "Clock and
+-- Calendar").
 use Rattle.std.specs.Prelude.{ℕ, ◌/◌, ◌%◌, ◌^◌, ◌==◌, Bool, List, [], ◌++◌, codes, if◌then◌else◌}
 use Rattle.line_text.specs.Texts.{hex}
 
@@ -23,7 +24,8 @@ half_of_day hours = if bit hours 64 then (if bit hours 32 then codes " PM" else 
 -- a register by its name, and its value; bit 7 of the seconds stops the clock
 abbrev pub register_text : ℕ → ℕ → List ℕ
 register_text register byte =
-    if register == 0 then labelled (codes "seconds: ") (byte % 128) ++ if_set byte 128 (codes " stopped")
+    if register == 0
+    then labelled (codes "seconds: ") (byte % 128) ++ if_set byte 128 (codes " stopped")
     else if register == 1 then labelled (codes "minutes: ") (byte % 128)
     else if register == 2 then labelled (codes "hours: ") (hour_digits byte) ++ half_of_day byte
     else if register == 3 then codes "day: " ++ hex 1 (byte % 8)
@@ -37,15 +39,19 @@ register_text register byte =
 abbrev pub byte_in : ℕ → ℕ → ℕ
 byte_in time register = time / 256 ^ register % 256
 
--- a time: hours, minutes and seconds, the half of the day; year, month, date, the day of the week, and whether it stands
+-- a time: hours, minutes and seconds, the half of the day; year, month, date, the day of the week,
+-- and whether it stands
 abbrev pub clock_text : ℕ → List ℕ
 clock_text time =
-    labelled [] (hour_digits (byte_in time 2)) ++ labelled (codes ":") (byte_in time 1 % 128) ++ labelled (codes ":") (byte_in time 0 % 128) ++ half_of_day (byte_in time 2)
+    labelled [] (hour_digits (byte_in time 2)) ++ labelled (codes ":") (byte_in time 1 % 128)
+    ++ labelled (codes ":") (byte_in time 0 % 128) ++ half_of_day (byte_in time 2)
 
 abbrev pub date_text : ℕ → List ℕ
 date_text time =
-    labelled (codes ", ") (byte_in time 6) ++ labelled (codes "-") (byte_in time 5 % 32) ++ labelled (codes "-") (byte_in time 4 % 64)
-    ++ (codes ", day " ++ hex 1 (byte_in time 3 % 8)) ++ if_set (byte_in time 0) 128 (codes ", stopped")
+    labelled (codes ", ") (byte_in time 6) ++ labelled (codes "-") (byte_in time 5 % 32)
+    ++ labelled (codes "-") (byte_in time 4 % 64)
+    ++ (codes ", day " ++ hex 1 (byte_in time 3 % 8))
+    ++ if_set (byte_in time 0) 128 (codes ", stopped")
 
 abbrev pub time_text : ℕ → List ℕ
 time_text time = clock_text time ++ date_text time

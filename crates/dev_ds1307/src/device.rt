@@ -4,11 +4,13 @@ ghost use Rattle.i2c_phases.specs.Phases.{Nothing, Reads, Reset, Writes};
 ghost use Rattle.dev_ds1307.specs.Clock.{step};
 ghost use Rattle.dev_ds1307.specs.laws.GivenLaws.{clock_by_byte, clock_no_packets};
 ghost use Rattle.dev_ds1307.specs.laws.KnowingLaws.{knows_opened, one_clock};
-ghost use Rattle.dev_ds1307.specs.Held.{Knows, byte_gives, collect, moved, next_part, next_row, put_by, put_gives, row_gives};
+ghost use Rattle.dev_ds1307.specs.laws.Held.{Knows, byte_gives, collect, moved, next_part};
+ghost use Rattle.dev_ds1307.specs.laws.Held.{next_row};
+ghost use Rattle.dev_ds1307.specs.laws.Held.{put_by, put_gives, row_gives};
 
 use crate::{Chip, Clock, Held, Part};
-use decoder_core::{Outs, span_note};
-use i2c_phases::{I2cDevice, byte_note, byte_of, byte_piece};
+use decoder_core::{Configured, Follower, Outs, is_send, span_note};
+use i2c_phases::{I2cDevice, Phased, byte_note, byte_of, byte_piece};
 use la_base::Packet;
 
 // The highest of seven bytes.
@@ -28,7 +30,8 @@ fn next_register(register: u8) -> u8
     ((register as u16 + 1) % 64) as u8
 }
 
-// What a phase has behind a byte of registers 1 to 5: a row goes on, and where there is none it stays `none`.
+// What a phase has behind a byte of registers 1 to 5: a row goes on, and where there is none it
+// stays `none`.
 fn next_row(none: Part, part: Part, packet: Packet) -> Part
     ensures { result ≡ next_row none part packet }
 {
@@ -126,11 +129,13 @@ fn moved(none: Part, register: u8, part: Part, packet: Packet) -> Held
     }
 }
 
-impl I2cDevice for Clock {
+impl Configured for Clock {
     type Setup = Chip;
 
     ghost setup = { λ device. device.chip };
+}
 
+impl I2cDevice for Clock {
     ghost bus_address = { λ _. 104 };
 
     ghost takes_reset = { λ chip. chip.resets };
@@ -178,4 +183,9 @@ impl I2cDevice for Clock {
     ghost no_packets = { λ _. clock_no_packets };
 
     ghost one_device = { one_clock };
+}
+
+// It may move to another thread, and so may what hands it its phases and packets.
+fn machine_is_send() {
+    is_send::<Follower<Phased<Clock>>>();
 }

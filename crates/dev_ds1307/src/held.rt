@@ -1,9 +1,9 @@
 // What a clock keeps between two packets.
 use crate::Chip;
 
-/// What the open phase has: no byte of a register that is written; bytes of which the last aren't those of
-/// registers from 0 on; or such bytes, with the start of the first, and their number in the upper bytes of
-/// seven. A phase that reads begins with no byte, and comes back to that.
+/// What the open phase has: no byte of a register that is written; bytes of which the last aren't
+/// those of registers from 0 on; or such bytes, with the start of the first, and their number in
+/// the upper bytes of seven. A phase that reads begins with no byte, and comes back to that.
 #[derive(Clone, Copy, Debug, PartialEq, Eq)]
 pub enum Part {
     Fresh,

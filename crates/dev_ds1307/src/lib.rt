@@ -1,4 +1,5 @@
-//! The DS1307 clock on I2C: what is written to its registers and read from them, and the time in them.
+//! The DS1307 clock on I2C: what is written to its registers and read from them, and the time in
+//! them.
 #![tactic(auto)]
 
 mod chip;

@@ -29,8 +29,8 @@ impl Clock {
         }
     }
 
-    /// Opens a decoder of these options at any rate; it stands for no packets. Answers Range exactly where
-    /// `gcall` is neither 0 nor 1; and never Rate.
+    /// Opens a decoder of these options at any rate; it stands for no packets. Answers Range
+    /// exactly where `gcall` is neither 0 nor 1; and never Rate.
     pub fn open(opts: ClockOpts, _rate: Rate) -> Result<Phased<Clock>, OptFault>
         ensures { Opens opts result }
     {

@@ -1,6 +1,7 @@
 // Rows that are worked by hand.
 ghost use Rattle.std.specs.Prelude.{◌≡◌};
-ghost use Rattle.dev_ds1307.specs.Rows.{KeptRegister, NothingOfOthers, ReadTime, ResetRegister, RolledOver, SetTime, TimeFromTheMiddle};
+ghost use Rattle.dev_ds1307.specs.Rows.{KeptRegister, NothingOfOthers, ReadTime, ResetRegister};
+ghost use Rattle.dev_ds1307.specs.Rows.{RolledOver, SetTime, TimeFromTheMiddle};
 
 /// The definition gives what was worked by hand. (Nothing is done.)
 pub fn rows_hold()

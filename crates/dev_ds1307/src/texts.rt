@@ -1,9 +1,9 @@
 // Notes as text.
 ghost use Rattle.std.specs.Prelude.{◌≡◌, ◌+◌, ◌*◌, ◌/◌, ◌%◌, ◌≤◌, ◌<◌, ◌==◌, ◌++◌, codes, length};
 ghost use Rattle.line_text.specs.Texts.{hex};
-ghost use Rattle.dev_ds1307.specs.Texts.{bit, clock_text, date_text, half_of_day, hour_digits, if_set, labelled, note_text, register_text, time_text};
+ghost use Rattle.dev_ds1307.specs.Texts.{bit, clock_text, date_text, half_of_day, hour_digits};
+ghost use Rattle.dev_ds1307.specs.Texts.{if_set, labelled, note_text, register_text, time_text};
 
-use i2c_phases::push_labelled;
 use la_base::Note;
 use line_text::LineBuf;
 
@@ -99,11 +99,11 @@ fn push_register(register: u64, byte: u64, buf: &mut LineBuf)
         3 => push_one(b"day: ", byte % 8, buf),
         4 => push_two(b"date: ", byte % 64, buf),
         5 => push_two(b"month: ", byte % 32, buf),
-        6 => push_labelled(b"year: ", byte, 2, buf),
-        7 => push_labelled(b"control: ", byte, 2, buf),
+        6 => buf.push_labelled(b"year: ", byte, 2),
+        7 => buf.push_labelled(b"control: ", byte, 2),
         _ => {
-            push_labelled(b"RAM ", register, 2, buf);
-            push_labelled(b": ", byte, 2, buf);
+            buf.push_labelled(b"RAM ", register, 2);
+            buf.push_labelled(b": ", byte, 2);
         }
     }
 }
@@ -134,17 +134,17 @@ fn push_date(time: u64, buf: &mut LineBuf)
     push_if(time % 256, 128, b", stopped", buf);
 }
 
-/// Appends the text of a note, and nothing for a class that a DS1307 doesn't have: `Pointer: ` with a
-/// register; `Write ` and `Read ` with the name of a register and its value; `Set time: ` and `Time: ` with
-/// the time of seven registers. Digits are those of the registers, which hold them in BCD; registers and
-/// whole bytes are upper case hexadecimal.
+/// Appends the text of a note, and nothing for a class that a DS1307 doesn't have: `Pointer: ` with
+/// a register; `Write ` and `Read ` with the name of a register and its value; `Set time: ` and
+/// `Time: ` with the time of seven registers. Digits are those of the registers, which hold them in
+/// BCD; registers and whole bytes are upper case hexadecimal.
 pub fn text(note: Note, buf: &mut LineBuf)
     requires { length buf.old + 64 ≤ 256 }
     ensures text { buf.new ≡ buf.old ++ note_text note.class note.a note.b }
     ensures short { length buf.new ≤ length buf.old + 64 }
 {
     match note.class {
-        0 => push_labelled(b"Pointer: ", note.a, 2, buf),
+        0 => buf.push_labelled(b"Pointer: ", note.a, 2),
         1 => {
             buf.push_bytes(b"Write ");
             push_register(note.b, note.a, buf);

@@ -1,15 +1,20 @@
--- A DS18B20 thermometer on 1-Wire, on a whole list of packets of its network: what is told of its *transactions*, each of which
--- runs from a reset to the next. By Maxim's data sheet "DS18B20 Programmable Resolution 1-Wire Digital Thermometer", sections
--- "64-Bit Lasered ROM Code", "Transaction Sequence" and "DS18B20 Function Commands" for what a transaction says; "Memory" with
--- its figure "DS18B20 Memory Map", and "Configuration Register" for the scratchpad; and "Operation - Measuring Temperature" with
--- its figure "Temperature Register Format" for the temperature. That a ROM of its family makes a transaction the thermometer's
--- after any command that has a ROM is this project's own, as are spans.
-use Rattle.std.specs.Prelude.{ℕ, ◌+◌, ◌-◌, ◌*◌, ◌/◌, ◌%◌, ◌^◌, Bool, true, false, cond, not, ◌==◌, if◌then◌else◌, List, [], ◌∷◌, ◌++◌, map, take, drop, get_or, Option, Some, None}
+-- A DS18B20 thermometer on 1-Wire, on a whole list of packets of its network: what is told of its
+-- *transactions*, each of which runs from a reset to the next. By Maxim's data sheet "DS18B20
+-- Programmable Resolution 1-Wire Digital Thermometer", sections "64-Bit Lasered ROM Code",
+-- "Transaction Sequence" and "DS18B20 Function Commands" for what a transaction says; "Memory" with
+-- its figure "DS18B20 Memory Map", and "Configuration Register" for the scratchpad; and "Operation
+-- - Measuring Temperature" with its figure "Temperature Register Format" for the temperature. That
+-- a ROM of its family makes a transaction the thermometer's after any command that has a ROM is
+-- this project's own, as are spans.
+use Rattle.std.specs.Prelude.{ℕ, ◌+◌, ◌-◌, ◌*◌, ◌/◌, ◌%◌, ◌^◌, Bool, true, false, cond, not, ◌==◌}
+use Rattle.std.specs.Prelude.{if◌then◌else◌, List, [], ◌∷◌, ◌++◌, map, take, drop, get_or, Option}
+use Rattle.std.specs.Prelude.{Some, None}
 use Rattle.std.specs.List.{filter}
 use Rattle.la_base.specs.declared.wires.Out.{Out}
 use Rattle.la_base.specs.declared.wires.Packet.{Packet}
 use Rattle.la_base.specs.declared.wires.PacketKind.{PacketKind}
-use Rattle.la_base.specs.declared.wires.PacketKind.TheVariants.{NetReset, NetCommand, NetRom, NetByte}
+use Rattle.la_base.specs.declared.wires.PacketKind.TheVariants.{NetReset, NetCommand, NetRom}
+use Rattle.la_base.specs.declared.wires.PacketKind.TheVariants.{NetByte}
 use Rattle.list_cuts.specs.Bits.{bit_of}
 use Rattle.decoder_core.specs.Outputs.{span_note, span_piece}
 use Rattle.dec_onewire.specs.Net.{crc8}
@@ -24,8 +29,8 @@ abbrev pub is_byte : PacketKind → Bool
 is_byte NetByte = true
 is_byte other = false
 
--- what makes a transaction the thermometer's: Skip ROM (CCh), which is for all devices, or a ROM of its family (28h), which is
--- the lowest byte
+-- what makes a transaction the thermometer's: Skip ROM (CCh), which is for all devices, or a ROM of
+-- its family (28h), which is the lowest byte
 abbrev pub makes_own : PacketKind → ℕ → Bool
 makes_own NetCommand a = a == 204
 makes_own NetRom a = a % 256 == 40
@@ -71,20 +76,24 @@ steps_of configuration = configuration / 32 % 4
 abbrev pub resolution : ℕ → ℕ
 resolution configuration = 9 + steps_of configuration
 
--- the temperature in 16 bits, the second byte the higher one; of the lowest bits, which a resolution of less than twelve bits
--- leaves undefined, each is 0
+-- the temperature in 16 bits, the second byte the higher one; of the lowest bits, which a
+-- resolution of less than twelve bits leaves undefined, each is 0
 abbrev pub temperature : ℕ → ℕ → ℕ → ℕ
 temperature low high configuration =
     (high * 256 + low) / 2 ^ (3 - steps_of configuration) * 2 ^ (3 - steps_of configuration)
 
 -- the CRC of the scratchpad's first eight bytes
 unfoldable pub crc_of : List Spot → ℕ
-crc_of bytes = crc8 (value bytes 0 ∷ value bytes 1 ∷ value bytes 2 ∷ value bytes 3 ∷ value bytes 4 ∷ value bytes 5 ∷ value bytes 6 ∷ value bytes 7 ∷ [])
+crc_of bytes =
+    crc8 (value bytes 0 ∷ value bytes 1 ∷ value bytes 2 ∷ value bytes 3 ∷ value bytes 4
+    ∷ value bytes 5 ∷ value bytes 6 ∷ value bytes 7 ∷ [])
 
--- the scratchpad's first eight bytes, and the ninth, which is their CRC: the temperature, the limits TH and TL, the configuration
+-- the scratchpad's first eight bytes, and the ninth, which is their CRC: the temperature, the
+-- limits TH and TL, the configuration
 abbrev pub scratchpad_outs : List Spot → Spot → List Out
 scratchpad_outs bytes last =
-    note_over 1 (nth bytes 0) (nth bytes 1) (temperature (value bytes 0) (value bytes 1) (value bytes 4)) 0
+    note_over 1 (nth bytes 0) (nth bytes 1)
+    (temperature (value bytes 0) (value bytes 1) (value bytes 4)) 0
     ∷ note_over 2 (nth bytes 2) (nth bytes 3) (value bytes 2) (value bytes 3)
     ∷ note_over 3 (nth bytes 4) (nth bytes 4) (resolution (value bytes 4)) 0
     ∷ note_over 4 last last (bit_of (not (crc_of bytes == last.byte))) 0
@@ -106,7 +115,8 @@ with_last give front (last ∷ others) = give front last
 abbrev pub first_bytes : ℕ → (List Spot → Spot → List Out) → List Spot → List Out
 first_bytes n give bytes = with_last give (take n bytes) (drop n bytes)
 
--- what the bytes behind a function give: Read Scratchpad (BEh) has nine, Write Scratchpad (4Eh) three
+-- what the bytes behind a function give: Read Scratchpad (BEh) has nine, Write Scratchpad (4Eh)
+-- three
 abbrev pub behind_function : ℕ → List Spot → List Out
 behind_function function bytes =
     if function == 190 then first_bytes 8 scratchpad_outs bytes
@@ -116,7 +126,8 @@ behind_function function bytes =
 -- the first byte is the function
 abbrev pub bytes_outs : List Spot → List Out
 bytes_outs [] = []
-bytes_outs (function ∷ bytes) = note_over 0 function function function.byte 0 ∷ behind_function function.byte bytes
+bytes_outs (function ∷ bytes) =
+    note_over 0 function function function.byte 0 ∷ behind_function function.byte bytes
 
 abbrev pub own_outs : Option (List Packet) → List Out
 own_outs None = []
@@ -135,6 +146,7 @@ probe = record {
 abbrev pub probe_outs : List Packet → List Out
 probe_outs packets = transaction_outs probe packets
 
--- *near*: the start of the reset that opened the present transaction; that of the last packet where none is open
+-- *near*: the start of the reset that opened the present transaction; that of the last packet where
+-- none is open
 abbrev pub probe_near : List Packet → ℕ
 probe_near packets = transaction_near probe packets

@@ -1,5 +1,6 @@
 -- The texts of notes.
-use Rattle.std.specs.Prelude.{ℕ, ◌-◌, ◌*◌, ◌/◌, ◌%◌, nat_lt, ◌==◌, List, [], ◌++◌, codes, if◌then◌else◌}
+use Rattle.std.specs.Prelude.{ℕ, ◌-◌, ◌*◌, ◌/◌, ◌%◌, nat_lt, ◌==◌, List, [], ◌++◌, codes}
+use Rattle.std.specs.Prelude.{if◌then◌else◌}
 use Rattle.std.specs.Fmt.{decimal}
 use Rattle.line_text.specs.Texts.{hex, sign, fixed}
 
@@ -20,7 +21,8 @@ size_of count number = if nat_lt number (count / 2) then number else count - num
 
 -- a temperature of 16 bits in sixteenths of a degree
 abbrev pub degrees_name : ℕ → List ℕ
-degrees_name number = fixed (nat_lt 32767 number) (size_of 65536 number / 16) (size_of 65536 number % 16 * 625) 4
+degrees_name number =
+    fixed (nat_lt 32767 number) (size_of 65536 number / 16) (size_of 65536 number % 16 * 625) 4
 
 -- a limit of eight bits in degrees
 abbrev pub limit_name : ℕ → List ℕ

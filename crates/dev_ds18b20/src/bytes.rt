@@ -67,7 +67,8 @@ impl Bytes {
     }
 }
 
-/// A packet of a byte as its byte, the lowest eight bits of its value, and where it starts and ends.
+/// A packet of a byte as its byte, the lowest eight bits of its value, and where it starts and
+/// ends.
 pub fn spot_of(packet: Packet) -> Spot
     ensures { result ≡ spot_of packet }
 {

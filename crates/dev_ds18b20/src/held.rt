@@ -21,7 +21,8 @@ pub enum Stage {
     Told,
 }
 
-/// A transaction that is open: where its reset starts, how far it has come, and the bytes of a scratchpad so far.
+/// A transaction that is open: where its reset starts, how far it has come, and the bytes of a
+/// scratchpad so far.
 #[derive(Drop)]
 pub struct Transaction {
     pub(crate) start: u64,

@@ -1,4 +1,5 @@
-//! The thermometer DS18B20 on 1-Wire: its functions, and what its scratchpad says of temperature, limits and resolution.
+//! The thermometer DS18B20 on 1-Wire: its functions, and what its scratchpad says of temperature,
+//! limits and resolution.
 #![tactic(auto)]
 
 mod bytes;

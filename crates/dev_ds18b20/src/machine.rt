@@ -6,8 +6,8 @@ ghost use Rattle.dev_ds18b20.specs.laws.ByteLaws.{probe_pushed};
 ghost use Rattle.dev_ds18b20.specs.laws.Held.{probe_steps, transaction_kept};
 ghost use Rattle.dev_ds18b20.specs.laws.SoundLaws.{probe_fits, probe_sound};
 
-use crate::{Bytes, ProbeOpts, Stage, Transaction};
-use decoder_core::Outs;
+use crate::{Bytes, Probe, ProbeOpts, Stage, Transaction};
+use decoder_core::{Follower, Outs, is_send};
 use la_base::{Packet, PacketKind, Wire};
 use packet_walks::OpenTransaction;
 
@@ -69,4 +69,9 @@ impl OpenTransaction for Transaction {
     ghost pushed = { probe_pushed };
 
     ghost sound = { probe_sound };
+}
+
+// It may move to another thread, and so may what feeds it.
+fn machine_is_send() {
+    is_send::<Follower<Probe>>();
 }

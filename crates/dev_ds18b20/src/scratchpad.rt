@@ -1,6 +1,8 @@
 // What the bytes of a scratchpad say together.
 ghost use Rattle.std.specs.Prelude.{◌≡◌, ◌+◌, ◌<◌, ◌≤◌, ◌++◌, [], length, map};
-ghost use Rattle.dev_ds18b20.specs.Probe.{byte_piece, crc_of, note_over, nth, resolution, scratchpad_outs, steps_of, temperature, value, written_outs};
+ghost use Rattle.dev_ds18b20.specs.Probe.{byte_piece, crc_of, note_over, nth, resolution};
+ghost use Rattle.dev_ds18b20.specs.Probe.{scratchpad_outs, steps_of, temperature, value};
+ghost use Rattle.dev_ds18b20.specs.Probe.{written_outs};
 
 use crate::Spot;
 use dec_onewire::net::crc8;
@@ -85,8 +87,8 @@ fn give_pieces(bytes: &[Spot], into: &mut Outs)
     }
 }
 
-/// Puts out what a scratchpad says whose first eight bytes these are, with the ninth: temperature, limits, resolution, whether
-/// the CRC is right, and the bytes.
+/// Puts out what a scratchpad says whose first eight bytes these are, with the ninth: temperature,
+/// limits, resolution, whether the CRC is right, and the bytes.
 pub fn give_scratchpad(bytes: &[Spot], last: Spot, into: &mut Outs)
     requires length { length bytes.now ≡ 8 }
     requires empty { into.old ≡ [] }

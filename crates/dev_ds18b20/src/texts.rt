@@ -1,8 +1,10 @@
 // Notes as text.
-ghost use Rattle.std.specs.Prelude.{◌≡◌, ◌<◌, ◌≤◌, ◌+◌, ◌++◌, [], length, codes, if◌then◌else◌, ◌==◌};
+ghost use Rattle.std.specs.Prelude.{◌≡◌, ◌<◌, ◌≤◌, ◌+◌, ◌++◌, [], length, codes, if◌then◌else◌};
+ghost use Rattle.std.specs.Prelude.{◌==◌};
 ghost use Rattle.line_text.specs.Texts.{hex};
 ghost use Rattle.std.specs.Fmt.{decimal};
-ghost use Rattle.dev_ds18b20.specs.Texts.{degrees_name, function_name, limit_name, limits_name, note_text, size_of};
+ghost use Rattle.dev_ds18b20.specs.Texts.{degrees_name, function_name, limit_name, limits_name};
+ghost use Rattle.dev_ds18b20.specs.Texts.{note_text, size_of};
 
 use la_base::Note;
 use line_text::LineBuf;
@@ -115,9 +117,10 @@ fn crc(wrong: u64, buf: &mut LineBuf)
     }
 }
 
-/// Appends the text of a note, and nothing for a class that the thermometer doesn't have: the function's name, or `Function ` and
-/// its byte in upper case hexadecimal; `Temperature: ` with degrees of four decimals; `Limits: ` with both limits in degrees;
-/// `Resolution: ` with its bits; `CRC ok` or `CRC bad`; `Write limits: ` and `Write resolution: `, alike.
+/// Appends the text of a note, and nothing for a class that the thermometer doesn't have: the
+/// function's name, or `Function ` and its byte in upper case hexadecimal; `Temperature: ` with
+/// degrees of four decimals; `Limits: ` with both limits in degrees; `Resolution: ` with its bits;
+/// `CRC ok` or `CRC bad`; `Write limits: ` and `Write resolution: `, alike.
 pub fn text(note: Note, buf: &mut LineBuf)
     requires { length buf.old + 64 ≤ 256 }
     ensures text { buf.new ≡ buf.old ++ note_text note.class note.a note.b }

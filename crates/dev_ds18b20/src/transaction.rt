@@ -1,7 +1,8 @@
 // A transaction, packet by packet.
 ghost use Rattle.std.specs.Prelude.{◌≡◌, ◌≤◌, [], if◌then◌else◌};
 ghost use Rattle.dev_ds18b20.specs.Probe.{is_byte, is_own};
-ghost use Rattle.dev_ds18b20.specs.laws.Held.{byte_gives, gathers_next, stage_behind, transaction_gives, transaction_next};
+ghost use Rattle.dev_ds18b20.specs.laws.Held.{byte_gives, gathers_next, stage_behind};
+ghost use Rattle.dev_ds18b20.specs.laws.Held.{transaction_gives, transaction_next};
 
 use crate::bytes::spot_of;
 use crate::scratchpad::{give_scratchpad, give_written, note_over};

@@ -1,5 +1,6 @@
 -- A serial EEPROM on a whole list of packets that count.
-use Rattle.std.specs.Prelude.{ℕ, ◌+◌, ◌-◌, ◌*◌, ◌%◌, nat_le, Bool, true, false, if◌then◌else◌, List, [], ◌∷◌, ◌++◌, length, take, drop}
+use Rattle.std.specs.Prelude.{ℕ, ◌+◌, ◌-◌, ◌*◌, ◌%◌, nat_le, Bool, true, false, if◌then◌else◌, List}
+use Rattle.std.specs.Prelude.{[], ◌∷◌, ◌++◌, length, take, drop}
 use Rattle.std.specs.List.{fold, flat_map, enumerate_from}
 use Rattle.decoder_core.specs.Outputs.{span_note}
 use Rattle.la_base.specs.declared.wires.Packet.{Packet}
@@ -60,22 +61,26 @@ module _ (o : Chip) where
   reads_of (Reads bytes) = length bytes
   reads_of Reset = 0
 
-  -- the pointer behind some phases: what the last phase that sets it made it, and as many bytes on as were read since
+  -- the pointer behind some phases: what the last phase that sets it made it, and as many bytes on
+  -- as were read since
   abbrev pub pointer : List Meaning → ℕ
   pointer before = pointer_behind sets set_to reads_of before % o.size
 
   -- data byte i of a write phase, and byte i of a read phase
   abbrev pub write_outs : ℕ → ℕ × Packet → List Out
-  write_outs w part = byte_note 1 part.1 (byte_of part.1) (in_page w part.0) ∷ byte_piece 0 part.1 ∷ []
+  write_outs w part =
+      byte_note 1 part.1 (byte_of part.1) (in_page w part.0) ∷ byte_piece 0 part.1 ∷ []
 
   abbrev pub read_outs : ℕ → ℕ × Packet → List Out
-  read_outs from part = byte_note 2 part.1 (byte_of part.1) ((from + part.0) % o.size) ∷ byte_piece 1 part.1 ∷ []
+  read_outs from part =
+      byte_note 2 part.1 (byte_of part.1) ((from + part.0) % o.size) ∷ byte_piece 1 part.1 ∷ []
 
   -- what a phase gives, by the pointer before it
   abbrev pub phase_outs : ℕ → Meaning → List Out
   phase_outs from Nothing = []
   phase_outs from (Writes bytes) =
-      if has_word bytes then word_note (take (address_len o.size) bytes) (word_of bytes) ++ flat_map (write_outs (word_of bytes)) (enumerate_from 0 (data_of bytes)) else []
+      if has_word bytes then word_note (take (address_len o.size) bytes) (word_of bytes)
+      ++ flat_map (write_outs (word_of bytes)) (enumerate_from 0 (data_of bytes)) else []
   phase_outs from (Reads bytes) = flat_map (read_outs from) (enumerate_from 0 bytes)
   phase_outs from Reset = []
 

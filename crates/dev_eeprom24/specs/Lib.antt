@@ -1,5 +1,4 @@
 pub mod Eeprom
-pub mod Held
 pub mod Opening
 pub mod Texts
 pub mod Rows

@@ -1,5 +1,6 @@
 -- How an EEPROM is opened.
-use Rattle.std.specs.Prelude.{ℕ, zero, suc, ◌+◌, ◌≡◌, ◌<◌, ◌≤◌, ◌==◌, List, [], ◌∷◌, Result, Ok, Err, get_or}
+use Rattle.std.specs.Prelude.{ℕ, zero, suc, ◌+◌, ◌≡◌, ◌<◌, ◌≤◌, ◌==◌, List, [], ◌∷◌, Result, Ok}
+use Rattle.std.specs.Prelude.{Err, get_or}
 use Rattle.std.proofs.Math.Nat.{le-add_right}
 use Rattle.la_base.specs.declared.wires.Packet.{Packet}
 use Rattle.decoder_core.specs.declared.faults.OptFault.{OptFault}
@@ -9,7 +10,7 @@ use Rattle.i2c_phases.specs.Devices as devices
 use Rattle.dev_eeprom24.specs.declared.chip.Chip.{Chip}
 use Rattle.dev_eeprom24.specs.declared.chip.EepromOpts.{EepromOpts}
 use Rattle.dev_eeprom24.specs.declared.held.Eeprom.{Eeprom}
-use Rattle.dev_eeprom24.specs.Held.{Knows}
+use Rattle.dev_eeprom24.specs.laws.Held.{Knows}
 
 -- the words of the sizes and of the pages, in bytes; the first ones are the usual ones
 abbrev pub sizes : List ℕ
@@ -29,10 +30,25 @@ positive (x ∷ xs) zero usual all some = all.0
 positive (x ∷ xs) (suc place) usual all some = positive xs place usual all.1 some
 
 pub some_sizes : Positive sizes
-some_sizes = (le-add_right 1 255, (le-add_right 1 127, (le-add_right 1 4095, (le-add_right 1 8191, (le-add_right 1 16383, (le-add_right 1 32767, (le-add_right 1 65535, tt)))))))
+some_sizes = (
+  le-add_right 1 255,
+  (
+    le-add_right 1 127,
+    (
+      le-add_right 1 4095,
+      (
+        le-add_right 1 8191,
+        (le-add_right 1 16383, (le-add_right 1 32767, (le-add_right 1 65535, tt))),
+      ),
+    ),
+  ),
+)
 
 pub some_pages : Positive pages
-some_pages = (le-add_right 1 7, (le-add_right 1 15, (le-add_right 1 31, (le-add_right 1 63, (le-add_right 1 127, tt)))))
+some_pages = (
+  le-add_right 1 7,
+  (le-add_right 1 15, (le-add_right 1 31, (le-add_right 1 63, (le-add_right 1 127, tt)))),
+)
 
 -- the EEPROM of these options
 abbrev pub chip_by : EepromOpts → Chip
@@ -58,7 +74,9 @@ chip_in machine = machine.device.chip
 
 -- a decoder stands for packets: its EEPROM knows their phases, and what is kept is what they leave
 abbrev pub StandsFor : Phased Eeprom Chip → List Packet → Type 0
-StandsFor machine packets = devices.StandsFor (Knows machine.device) (80 + machine.device.chip.addr) machine.device.chip.resets machine.kept packets
+StandsFor machine packets =
+    devices.StandsFor (Knows machine.device)
+    (80 + machine.device.chip.addr) machine.device.chip.resets machine.kept packets
 
 -- a decoder of these options that stands for no packets, or Range exactly where one is out of range
 abbrev pub Opens : EepromOpts → Result (Phased Eeprom Chip) OptFault → Type 0

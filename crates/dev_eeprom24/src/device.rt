@@ -3,12 +3,13 @@ ghost use Rattle.std.specs.Prelude.{◌≡◌, [], ◌∷◌, ◌++◌, ◌+◌,
 ghost use Rattle.i2c_phases.specs.Phases.{Nothing, Reads, Reset, Writes};
 ghost use Rattle.dev_eeprom24.specs.Eeprom.{step};
 ghost use Rattle.dev_eeprom24.specs.laws.EepromLaws.{eeprom_by_byte, eeprom_no_packets};
-ghost use Rattle.dev_eeprom24.specs.Held.{Knows, get_gives, held_of, put_by, put_gives, started};
+ghost use Rattle.dev_eeprom24.specs.laws.Held.{Knows, get_gives, held_of, put_by, put_gives};
+ghost use Rattle.dev_eeprom24.specs.laws.Held.{started};
 ghost use Rattle.dev_eeprom24.specs.laws.KnowingLaws.{knows_opened, one_eeprom};
 
 use crate::{Chip, Eeprom, Held, Word};
-use decoder_core::{Outs, span_note};
-use i2c_phases::{I2cDevice, byte_note, byte_of, byte_piece};
+use decoder_core::{Configured, Follower, Outs, is_send, span_note};
+use i2c_phases::{I2cDevice, Phased, byte_note, byte_of, byte_piece};
 use la_base::Packet;
 
 // A number modulo another.
@@ -89,11 +90,13 @@ fn give(chip: Chip, word: Word, packet: Packet, into: &mut Outs)
     }
 }
 
-impl I2cDevice for Eeprom {
+impl Configured for Eeprom {
     type Setup = Chip;
 
     ghost setup = { λ device. device.chip };
+}
 
+impl I2cDevice for Eeprom {
     ghost bus_address = { λ chip. 80 + chip.addr };
 
     ghost takes_reset = { λ chip. chip.resets };
@@ -146,4 +149,9 @@ impl I2cDevice for Eeprom {
     ghost no_packets = { λ device. eeprom_no_packets device.chip };
 
     ghost one_device = { one_eeprom };
+}
+
+// It may move to another thread, and so may what hands it its phases and packets.
+fn machine_is_send() {
+    is_send::<Follower<Phased<Eeprom>>>();
 }

@@ -1,5 +1,5 @@
-//! The serial EEPROMs of the 24xx family on I2C: what is written to them and read from them, with its
-//! addresses.
+//! The serial EEPROMs of the 24xx family on I2C: what is written to them and read from them, with
+//! its addresses.
 #![tactic(auto)]
 
 mod chip;

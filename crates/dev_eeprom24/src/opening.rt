@@ -59,10 +59,11 @@ impl Eeprom {
         }
     }
 
-    /// Opens a decoder of these options at any rate; it stands for no packets. Answers Range exactly where
-    /// an option is out of range: not 0 to 7 for `addr`, 0 to 6 for the place of a size, 0 to 4 for that of
-    /// a page, 0 or 1 for `gcall`; and never Rate. The sizes in bytes are by their places 256, 128, 4096,
-    /// 8192, 16384, 32768 and 65536, those of pages 8, 16, 32, 64 and 128.
+    /// Opens a decoder of these options at any rate; it stands for no packets. Answers Range
+    /// exactly where an option is out of range: not 0 to 7 for `addr`, 0 to 6 for the place of a
+    /// size, 0 to 4 for that of a page, 0 or 1 for `gcall`; and never Rate. The sizes in bytes are
+    /// by their places 256, 128, 4096, 8192, 16384, 32768 and 65536, those of pages 8, 16, 32, 64
+    /// and 128.
     pub fn open(opts: EepromOpts, _rate: Rate) -> Result<Phased<Eeprom>, OptFault>
         ensures { Opens opts result }
     {

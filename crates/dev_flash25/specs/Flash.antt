@@ -1,9 +1,11 @@
--- A serial flash of the 25 series on SPI, on a whole list of packets: what is told of its *transactions*, each of which runs from a
--- select to the next deselect. The first word that the master sends in one is the instruction; what follows it is by data sheets
--- of the series, as Winbond's W25Q, section "Instructions": "Read JEDEC ID", "Read Status Register", "Write Status Register",
--- "Read Data", "Fast Read", "Page Program", "Sector Erase", "Block Erase", "Chip Erase". Spans, counts and summaries are this
--- project's own.
-use Rattle.std.specs.Prelude.{ℕ, ◌+◌, ◌-◌, ◌*◌, ◌%◌, ◌^◌, min, Bool, true, false, ◌||◌, ◌==◌, if◌then◌else◌, List, [], ◌∷◌, length}
+-- A serial flash of the 25 series on SPI, on a whole list of packets: what is told of its
+-- *transactions*, each of which runs from a select to the next deselect. The first word that the
+-- master sends in one is the instruction; what follows it is by data sheets of the series, as
+-- Winbond's W25Q, section "Instructions": "Read JEDEC ID", "Read Status Register", "Write Status
+-- Register", "Read Data", "Fast Read", "Page Program", "Sector Erase", "Block Erase", "Chip Erase".
+-- Spans, counts and summaries are this project's own.
+use Rattle.std.specs.Prelude.{ℕ, ◌+◌, ◌-◌, ◌*◌, ◌%◌, ◌^◌, min, Bool, true, false, ◌||◌, ◌==◌}
+use Rattle.std.specs.Prelude.{if◌then◌else◌, List, [], ◌∷◌, length}
 use Rattle.std.specs.List.{filter, flat_map}
 use Rattle.la_base.specs.declared.wires.Out.{Out}
 use Rattle.la_base.specs.declared.wires.Packet.{Packet}
@@ -13,7 +15,9 @@ use Rattle.list_cuts.specs.Along.{along}
 use Rattle.decoder_core.specs.Outputs.{span_note, span_piece}
 use Rattle.packet_walks.specs.Transactions.{Device, transaction_outs, transaction_near}
 use Rattle.dev_flash25.specs.declared.held.Command.{Command}
-use Rattle.dev_flash25.specs.declared.held.Command.TheVariants.{Id, Status, WriteStatus, Read, FastRead, Program, EraseSector, EraseBlock, EraseChip, Other}
+use Rattle.dev_flash25.specs.declared.held.Command.TheVariants.{Id, Status, WriteStatus, Read}
+use Rattle.dev_flash25.specs.declared.held.Command.TheVariants.{FastRead, Program, EraseSector}
+use Rattle.dev_flash25.specs.declared.held.Command.TheVariants.{EraseBlock, EraseChip, Other}
 
 abbrev pub is_select : PacketKind → Bool
 is_select SpiSelect = true
@@ -86,8 +90,10 @@ abbrev pub address : Packet → Packet → Packet → ℕ
 address x y z = three_bytes (mosi x) (mosi y) (mosi z)
 
 -- an address, and what is told of the words behind it
-abbrev pub addressed : (ℕ → List Packet → List Out) → Packet → Packet → Packet → List Packet → List Out
-addressed give x y z others = span_note 4 x.start z.end (address x y z) 0 ∷ give (address x y z) others
+abbrev pub addressed : (ℕ → List Packet → List Out) → Packet → Packet → Packet → List Packet
+    → List Out
+addressed give x y z others =
+    span_note 4 x.start z.end (address x y z) 0 ∷ give (address x y z) others
 
 -- a byte that is read, and one that is programmed, at an address
 abbrev pub read_outs : ℕ → Packet → List Out
@@ -96,7 +102,8 @@ read_outs at word = word_note 5 word (miso word) at ∷ word_piece 0 word (miso 
 abbrev pub program_outs : ℕ → Packet → List Out
 program_outs at word = word_note 6 word (mosi word) at ∷ word_piece 1 word (mosi word) ∷ []
 
--- the address of a byte that is programmed, by its place behind the address: it stays in its page of 256 bytes
+-- the address of a byte that is programmed, by its place behind the address: it stays in its page
+-- of 256 bytes
 abbrev pub in_page : ℕ → ℕ → ℕ
 in_page at place = at - at % 256 + (at + place) % 256
 
@@ -135,22 +142,32 @@ behind Other words = []
 -- what the words of a transaction give
 abbrev pub words_outs : List Packet → List Out
 words_outs [] = []
-words_outs (command ∷ words) = word_note 0 command (mosi command) 0 ∷ behind (command_of (mosi command)) words
+words_outs (command ∷ words) =
+    word_note 0 command (mosi command) 0 ∷ behind (command_of (mosi command)) words
 
--- the summary of so many bytes of data, if there are any; their number stays at 2^60 once it has reached that
+-- the summary of so many bytes of data, if there are any; their number stays at 2^60 once it has
+-- reached that
 abbrev pub data_summary : ℕ → ℕ → ℕ → ℕ → ℕ → List Out
-data_summary class first last at count = if count == 0 then [] else span_note class first last (min count (2 ^ 60)) at ∷ []
+data_summary class first last at count =
+    if count == 0 then [] else span_note class first last (min count (2 ^ 60)) at ∷ []
 
--- the summary of a transaction, by its instruction, the start of that, the end of the last word, and the words behind it
+-- the summary of a transaction, by its instruction, the start of that, the end of the last word,
+-- and the words behind it
 abbrev pub summary : Command → ℕ → ℕ → List Packet → List Out
 summary Id first last words = []
 summary Status first last words = []
 summary WriteStatus first last words = []
-summary Read first last words = with_three (λ x y z others. data_summary 7 first last (address x y z) (length others)) words
-summary FastRead first last words = with_three (λ x y z others. data_summary 7 first last (address x y z) (length (behind_dummy others))) words
-summary Program first last words = with_three (λ x y z others. data_summary 8 first last (address x y z) (length others)) words
-summary EraseSector first last words = with_three (λ x y z others. span_note 9 first last 0 (address x y z) ∷ []) words
-summary EraseBlock first last words = with_three (λ x y z others. span_note 10 first last 0 (address x y z) ∷ []) words
+summary Read first last words =
+    with_three (λ x y z others. data_summary 7 first last (address x y z) (length others)) words
+summary FastRead first last words =
+    with_three
+    (λ x y z others. data_summary 7 first last (address x y z) (length (behind_dummy others))) words
+summary Program first last words =
+    with_three (λ x y z others. data_summary 8 first last (address x y z) (length others)) words
+summary EraseSector first last words =
+    with_three (λ x y z others. span_note 9 first last 0 (address x y z) ∷ []) words
+summary EraseBlock first last words =
+    with_three (λ x y z others. span_note 10 first last 0 (address x y z) ∷ []) words
 summary EraseChip first last words = span_note 11 first last 0 0 ∷ []
 summary Other first last words = []
 
@@ -162,7 +179,8 @@ last_in word (next ∷ words) = last_in next words
 -- what the deselect gives behind the words of a transaction
 abbrev pub words_summary : List Packet → List Out
 words_summary [] = []
-words_summary (command ∷ words) = summary (command_of (mosi command)) command.start (last_in command words).end words
+words_summary (command ∷ words) =
+    summary (command_of (mosi command)) command.start (last_in command words).end words
 
 -- a flash by its transactions: a select inside of one begins nothing
 abbrev pub flash : Device
@@ -177,6 +195,7 @@ flash = record {
 abbrev pub flash_outs : List Packet → List Out
 flash_outs packets = transaction_outs flash packets
 
--- *near*: the start of the select that opened the present transaction; that of the last packet where none is open
+-- *near*: the start of the select that opened the present transaction; that of the last packet
+-- where none is open
 abbrev pub flash_near : List Packet → ℕ
 flash_near packets = transaction_near flash packets

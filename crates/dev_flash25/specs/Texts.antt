@@ -24,7 +24,9 @@ command_name command =
 
 -- the three bytes of an identification
 abbrev pub id_name : ℕ → List ℕ
-id_name id = hex 2 (id / 65536 % 256) ++ (codes " " ++ hex 2 (id / 256 % 256) ++ (codes " " ++ hex 2 (id % 256)))
+id_name id =
+    hex 2 (id / 65536 % 256)
+    ++ (codes " " ++ hex 2 (id / 256 % 256) ++ (codes " " ++ hex 2 (id % 256)))
 
 -- which bits of a status are 1: that the flash is busy, and that it may be written to
 abbrev pub busy_name : ℕ → List ℕ

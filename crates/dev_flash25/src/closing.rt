@@ -1,6 +1,7 @@
 // What the deselect says behind the words of a transaction.
 ghost use Rattle.std.specs.Prelude.{◌≡◌, []};
-ghost use Rattle.dev_flash25.specs.laws.Held.{bare_summary, count_summary, said_summary, whole_summary, words_close};
+ghost use Rattle.dev_flash25.specs.laws.Held.{bare_summary, count_summary, said_summary};
+ghost use Rattle.dev_flash25.specs.laws.Held.{whole_summary, words_close};
 
 use crate::{Command, Said, Words};
 use decoder_core::{Outs, span_note};

@@ -41,13 +41,13 @@ pub enum Said {
     Two { first: u8, second: u8, start: u64 },
     /// An address, behind which a word follows that says nothing.
     Dummy { number: u32 },
-    /// A number, which is an address or an ID: the place of the next byte of data, from the front of the page or of all, and how
-    /// many have come.
+    /// A number, which is an address or an ID: the place of the next byte of data, from the front
+    /// of the page or of all, and how many have come.
     Whole { number: u32, place: u32, count: u64 },
 }
 
-/// The words of a transaction that is open: none; or an instruction, where it starts, where the last word ends, and what the
-/// words behind it have said.
+/// The words of a transaction that is open: none; or an instruction, where it starts, where the
+/// last word ends, and what the words behind it have said.
 #[derive(Clone, Copy, Debug, PartialEq, Eq)]
 pub enum Words {
     Empty,

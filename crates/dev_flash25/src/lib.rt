@@ -1,4 +1,5 @@
-//! Serial flash of the 25 series on SPI: its instructions, with what is read from it and programmed into it, and their addresses.
+//! Serial flash of the 25 series on SPI: its instructions, with what is read from it and programmed
+//! into it, and their addresses.
 #![tactic(auto)]
 
 mod closing;

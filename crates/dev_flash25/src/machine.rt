@@ -8,8 +8,8 @@ ghost use Rattle.dev_flash25.specs.laws.WordLaws.{flash_pushed};
 
 use crate::closing::give_summary;
 use crate::words::{give_word, words_next};
-use crate::{FlashOpts, Open, Words};
-use decoder_core::Outs;
+use crate::{Flash, FlashOpts, Open, Words};
+use decoder_core::{Follower, Outs, is_send};
 use la_base::{Packet, PacketKind, Wire};
 use packet_walks::OpenTransaction;
 
@@ -71,4 +71,9 @@ impl OpenTransaction for Open {
     ghost pushed = { flash_pushed };
 
     ghost sound = { flash_sound };
+}
+
+// It may move to another thread, and so may what feeds it.
+fn machine_is_send() {
+    is_send::<Follower<Flash>>();
 }

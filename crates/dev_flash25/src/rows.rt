@@ -1,6 +1,7 @@
 // Rows that are worked by hand.
 ghost use Rattle.std.specs.Prelude.{◌≡◌};
-ghost use Rattle.dev_flash25.specs.Rows.{Erased, Identified, OnlyFirstSelect, OverTheEnd, Programmed, ReadFast, ReadTwo, Statuses};
+ghost use Rattle.dev_flash25.specs.Rows.{Erased, Identified, OnlyFirstSelect, OverTheEnd};
+ghost use Rattle.dev_flash25.specs.Rows.{Programmed, ReadFast, ReadTwo, Statuses};
 
 /// The definition gives what was worked by hand. (Nothing is done.)
 pub fn rows_hold()

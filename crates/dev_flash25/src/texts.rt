@@ -1,23 +1,11 @@
 // Notes as text.
 ghost use Rattle.std.specs.Prelude.{◌≡◌, ◌+◌, ◌≤◌, ◌++◌, [], length, codes, if◌then◌else◌};
 ghost use Rattle.line_text.specs.Texts.{hex};
-ghost use Rattle.dev_flash25.specs.Texts.{at_name, busy_name, command_name, count_name, enabled_name, id_name, note_text};
+ghost use Rattle.dev_flash25.specs.Texts.{at_name, busy_name, command_name, count_name};
+ghost use Rattle.dev_flash25.specs.Texts.{enabled_name, id_name, note_text};
 
 use la_base::Note;
 use line_text::LineBuf;
-
-// A label, and a value in upper case hexadecimal with at least so many digits.
-#[tactic(auto, using(line_text::proofs::Widths::hex_room))]
-#[inline(never)]
-fn labelled(label: &[u8], value: u64, digits: u32, buf: &mut LineBuf)
-    requires digits { (1 ≤ digits) × (digits ≤ 16) }
-    requires room { length buf.old + length label.now + 16 ≤ 256 }
-    ensures text { buf.new ≡ buf.old ++ (label.now ++ hex digits value) }
-    ensures short { length buf.new ≤ length buf.old + length label.now + 16 }
-{
-    buf.push_bytes(label);
-    buf.push_hex(value, digits);
-}
 
 // The name of an instruction.
 fn command(byte: u64, buf: &mut LineBuf)
@@ -40,7 +28,7 @@ fn command(byte: u64, buf: &mut LineBuf)
         0x60 => buf.push_bytes(b"Chip erase"),
         0xB9 => buf.push_bytes(b"Deep power down"),
         0xAB => buf.push_bytes(b"Release"),
-        _ => labelled(b"", byte, 2, buf),
+        _ => buf.push_labelled(b"", byte, 2),
     }
 }
 
@@ -61,19 +49,20 @@ fn named_id(id: u64, buf: &mut LineBuf)
     ensures text { buf.new ≡ buf.old ++ (codes "ID: " ++ id_name id) }
     ensures short { length buf.new ≤ length buf.old + 64 }
 {
-    labelled(b"ID: ", id / 65536 % 256, 2, buf);
-    labelled(b" ", id / 256 % 256, 2, buf);
-    labelled(b" ", id % 256, 2, buf);
+    buf.push_labelled(b"ID: ", id / 65536 % 256, 2);
+    buf.push_labelled(b" ", id / 256 % 256, 2);
+    buf.push_labelled(b" ", id % 256, 2);
 }
 
 // A status, and which of its lowest two bits are 1.
 #[inline(never)]
 fn named_status(status: u64, buf: &mut LineBuf)
     requires { length buf.old + 64 ≤ 256 }
-    ensures text { buf.new ≡ buf.old ++ (codes "Status: " ++ hex 2 status ++ (busy_name status ++ enabled_name status)) }
+    ensures text { buf.new ≡ buf.old
+        ++ (codes "Status: " ++ hex 2 status ++ (busy_name status ++ enabled_name status)) }
     ensures short { length buf.new ≤ length buf.old + 64 }
 {
-    labelled(b"Status: ", status, 2, buf);
+    buf.push_labelled(b"Status: ", status, 2);
     push_if(status % 2 == 1, b" WIP", buf);
     push_if(status / 2 % 2 == 1, b" WEL", buf);
 }
@@ -97,8 +86,8 @@ fn named_byte(label: &[u8], at: u64, byte: u64, buf: &mut LineBuf)
     ensures text { buf.new ≡ buf.old ++ (label.now ++ at_name at byte) }
     ensures short { length buf.new ≤ length buf.old + 64 }
 {
-    labelled(label, at, 6, buf);
-    labelled(b": ", byte, 2, buf);
+    buf.push_labelled(label, at, 6);
+    buf.push_labelled(b": ", byte, 2);
 }
 
 // A label, a number of bytes, and their address.
@@ -111,14 +100,16 @@ fn named_count(label: &[u8], count: u64, at: u64, buf: &mut LineBuf)
 {
     buf.push_bytes(label);
     buf.push_number(count);
-    labelled(b" bytes at ", at, 6, buf);
+    buf.push_labelled(b" bytes at ", at, 6);
 }
 
-/// Appends the text of a note, and nothing for a class that a flash doesn't have: `Command: ` with its name, or the instruction;
-/// `ID: ` with its bytes; `Status: ` with the byte, ` WIP` where its lowest bit is 1 and ` WEL` where the next is; `Write status: `
-/// and `Address: `; `Read ` and `Program ` with the address of a byte, `: ` and the byte, or with the number of bytes in decimal,
-/// ` bytes at ` and their address; `Erase sector at ` and `Erase block at ` with the address; `Erase chip`. Addresses are upper
-/// case hexadecimal of at least six digits, bytes of two.
+/// Appends the text of a note, and nothing for a class that a flash doesn't have: `Command: ` with
+/// its name, or the instruction; `ID: ` with its bytes; `Status: ` with the byte, ` WIP` where its
+/// lowest bit is 1 and ` WEL` where the next is; `Write status: ` and `Address: `; `Read ` and
+/// `Program ` with the address of a byte, `: ` and the byte, or with the number of bytes in
+/// decimal, ` bytes at ` and their address; `Erase sector at ` and `Erase block at ` with the
+/// address; `Erase chip`. Addresses are upper case hexadecimal of at least six digits, bytes of
+/// two.
 pub fn text(note: Note, buf: &mut LineBuf)
     requires { length buf.old + 64 ≤ 256 }
     ensures text { buf.new ≡ buf.old ++ note_text note.class note.a note.b }
@@ -128,14 +119,14 @@ pub fn text(note: Note, buf: &mut LineBuf)
         0 => named_command(note.a, buf),
         1 => named_id(note.a, buf),
         2 => named_status(note.a, buf),
-        3 => labelled(b"Write status: ", note.a, 2, buf),
-        4 => labelled(b"Address: ", note.a, 6, buf),
+        3 => buf.push_labelled(b"Write status: ", note.a, 2),
+        4 => buf.push_labelled(b"Address: ", note.a, 6),
         5 => named_byte(b"Read ", note.b, note.a, buf),
         6 => named_byte(b"Program ", note.b, note.a, buf),
         7 => named_count(b"Read ", note.a, note.b, buf),
         8 => named_count(b"Program ", note.a, note.b, buf),
-        9 => labelled(b"Erase sector at ", note.b, 6, buf),
-        10 => labelled(b"Erase block at ", note.b, 6, buf),
+        9 => buf.push_labelled(b"Erase sector at ", note.b, 6),
+        10 => buf.push_labelled(b"Erase block at ", note.b, 6),
         11 => buf.push_bytes(b"Erase chip"),
         _ => {}
     }

@@ -1,7 +1,11 @@
 // The words of a transaction, one by one.
 ghost use Rattle.std.specs.Prelude.{◌≡◌, ◌≤◌, ◌%◌, []};
-ghost use Rattle.dev_flash25.specs.Flash.{command_of, miso, mosi, read_outs, three_bytes, word_note, word_piece};
-ghost use Rattle.dev_flash25.specs.laws.Held.{data_outs, each_outs, has_dummy, has_number, number_byte, number_class, number_next, rest_begun, room_of, said_gives, said_next, whole_begun, words_give, words_next};
+ghost use Rattle.dev_flash25.specs.Flash.{command_of, miso, mosi, read_outs, three_bytes};
+ghost use Rattle.dev_flash25.specs.Flash.{word_note, word_piece};
+ghost use Rattle.dev_flash25.specs.laws.Held.{data_outs, each_outs, has_dummy, has_number};
+ghost use Rattle.dev_flash25.specs.laws.Held.{number_byte, number_class, number_next, rest_begun};
+ghost use Rattle.dev_flash25.specs.laws.Held.{room_of, said_gives, said_next, whole_begun};
+ghost use Rattle.dev_flash25.specs.laws.Held.{words_give, words_next};
 
 use crate::{Command, Said, Words};
 use decoder_core::{Outs, span_note, span_piece};

@@ -8,7 +8,7 @@ use Rattle.i2c_phases.specs.Devices as devices
 use Rattle.dev_lm75.specs.declared.chip.Chip.{Chip}
 use Rattle.dev_lm75.specs.declared.chip.Lm75Opts.{Lm75Opts}
 use Rattle.dev_lm75.specs.declared.held.Lm75.{Lm75}
-use Rattle.dev_lm75.specs.Held.{Knows}
+use Rattle.dev_lm75.specs.laws.Held.{Knows}
 
 -- the LM75 of these options
 abbrev pub chip_by : Lm75Opts → Chip
@@ -25,7 +25,9 @@ chip_in machine = machine.device.chip
 
 -- a decoder stands for packets: its LM75 knows their phases, and what is kept is what they leave
 abbrev pub StandsFor : Phased Lm75 Chip → List Packet → Type 0
-StandsFor machine packets = devices.StandsFor (Knows machine.device) (72 + machine.device.chip.addr) machine.device.chip.resets machine.kept packets
+StandsFor machine packets =
+    devices.StandsFor (Knows machine.device)
+    (72 + machine.device.chip.addr) machine.device.chip.resets machine.kept packets
 
 -- a decoder of these options that stands for no packets, or Range exactly where one is out of range
 abbrev pub Opens : Lm75Opts → Result (Phased Lm75 Chip) OptFault → Type 0

@@ -1,8 +1,10 @@
 -- The texts of notes.
-use Rattle.std.specs.Prelude.{ℕ, ◌-◌, ◌*◌, ◌/◌, ◌%◌, ◌==◌, nat_le, Bool, List, [], ◌++◌, codes, if◌then◌else◌}
+use Rattle.std.specs.Prelude.{ℕ, ◌-◌, ◌*◌, ◌/◌, ◌%◌, ◌==◌, nat_le, Bool, List, [], ◌++◌, codes}
+use Rattle.std.specs.Prelude.{if◌then◌else◌}
 use Rattle.line_text.specs.Texts.{fixed, hex}
 
--- a value is nine bits of two's complement in half degrees (LM75 data sheet, "Temperature Data Format")
+-- a value is nine bits of two's complement in half degrees (LM75 data sheet, "Temperature Data
+-- Format")
 abbrev pub is_below_zero : ℕ → Bool
 is_below_zero value = nat_le 256 (value % 512)
 

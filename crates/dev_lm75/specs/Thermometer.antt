@@ -1,4 +1,5 @@
--- An LM75 thermometer on a whole list of packets that count (LM75 data sheet, "Internal Register Structure").
+-- An LM75 thermometer on a whole list of packets that count (LM75 data sheet, "Internal Register
+-- Structure").
 use Rattle.std.specs.Prelude.{ℕ, ◌+◌, ◌*◌, ◌/◌, ◌%◌, ◌==◌, if◌then◌else◌, List, [], ◌∷◌}
 use Rattle.la_base.specs.declared.wires.Packet.{Packet}
 use Rattle.la_base.specs.declared.wires.Out.{Out}
@@ -9,7 +10,8 @@ use Rattle.i2c_phases.specs.Bytes.{byte_note}
 use Rattle.i2c_phases.specs.Pointers.{points, pointer_set}
 use Rattle.dev_lm75.specs.declared.chip.Chip.{Chip}
 
--- what a phase that sets the pointer makes it: the lowest two bits of its first byte ("Pointer Register")
+-- what a phase that sets the pointer makes it: the lowest two bits of its first byte ("Pointer
+-- Register")
 abbrev pub set_to : Meaning → ℕ
 set_to Nothing = 0
 set_to (Writes []) = 0
@@ -33,20 +35,27 @@ singles class (byte ∷ bytes) = byte_note class byte (byte_of byte) 0 ∷ singl
 abbrev pub pairs : ℕ → List Packet → List Out
 pairs class [] = []
 pairs class (first ∷ []) = []
-pairs class (first ∷ second ∷ bytes) = span_note class first.start second.end (half_degrees first second) 0 ∷ pairs class bytes
+pairs class (first ∷ second ∷ bytes) =
+    span_note class first.start second.end (half_degrees first second) 0 ∷ pairs class bytes
 
--- what bytes give that are written to a register, and that are read from it; the temperature can't be written
+-- what bytes give that are written to a register, and that are read from it; the temperature can't
+-- be written
 abbrev pub write_outs : ℕ → List Packet → List Out
-write_outs at bytes = if at == 1 then singles 1 bytes else (if at == 2 then pairs 4 bytes else (if at == 3 then pairs 6 bytes else []))
+write_outs at bytes =
+    if at == 1 then singles 1 bytes
+    else (if at == 2 then pairs 4 bytes else (if at == 3 then pairs 6 bytes else []))
 
 abbrev pub read_outs : ℕ → List Packet → List Out
-read_outs at bytes = if at == 1 then singles 2 bytes else (if at == 2 then pairs 5 bytes else (if at == 3 then pairs 7 bytes else pairs 3 bytes))
+read_outs at bytes =
+    if at == 1 then singles 2 bytes
+    else (if at == 2 then pairs 5 bytes else (if at == 3 then pairs 7 bytes else pairs 3 bytes))
 
 -- what a phase gives, by the pointer before it
 abbrev pub phase_outs : ℕ → Meaning → List Out
 phase_outs from Nothing = []
 phase_outs from (Writes []) = []
-phase_outs from (Writes (first ∷ bytes)) = byte_note 0 first (byte_of first % 4) 0 ∷ write_outs (byte_of first % 4) bytes
+phase_outs from (Writes (first ∷ bytes)) =
+    byte_note 0 first (byte_of first % 4) 0 ∷ write_outs (byte_of first % 4) bytes
 phase_outs from (Reads bytes) = read_outs from bytes
 phase_outs from Reset = []
 

@@ -4,11 +4,13 @@ ghost use Rattle.i2c_phases.specs.Phases.{Nothing, Reads, Reset, Writes};
 ghost use Rattle.dev_lm75.specs.Thermometer.{step};
 ghost use Rattle.dev_lm75.specs.laws.GivenLaws.{lm75_by_byte, lm75_no_packets};
 ghost use Rattle.dev_lm75.specs.laws.KnowingLaws.{knows_opened, one_lm75};
-ghost use Rattle.dev_lm75.specs.Held.{Knows, byte_gives, get_gives, next_part, pair_gives, put_by, put_gives, set_gives};
+ghost use Rattle.dev_lm75.specs.laws.Held.{Knows, byte_gives, get_gives, next_part, pair_gives};
+ghost use Rattle.dev_lm75.specs.laws.Held.{put_by};
+ghost use Rattle.dev_lm75.specs.laws.Held.{put_gives, set_gives};
 
 use crate::{Chip, Held, Lm75, Part};
-use decoder_core::{Outs, span_note};
-use i2c_phases::{I2cDevice, byte_note, byte_of};
+use decoder_core::{Configured, Follower, Outs, is_send, span_note};
+use i2c_phases::{I2cDevice, Phased, byte_note, byte_of};
 use la_base::Packet;
 
 // A byte that counts by itself.
@@ -103,11 +105,13 @@ fn next_part(part: Part, packet: Packet) -> Part
     }
 }
 
-impl I2cDevice for Lm75 {
+impl Configured for Lm75 {
     type Setup = Chip;
 
     ghost setup = { λ device. device.chip };
+}
 
+impl I2cDevice for Lm75 {
     ghost bus_address = { λ chip. 72 + chip.addr };
 
     ghost takes_reset = { λ chip. chip.resets };
@@ -158,4 +162,9 @@ impl I2cDevice for Lm75 {
     ghost no_packets = { λ _. lm75_no_packets };
 
     ghost one_device = { one_lm75 };
+}
+
+// It may move to another thread, and so may what hands it its phases and packets.
+fn machine_is_send() {
+    is_send::<Follower<Phased<Lm75>>>();
 }

@@ -1,8 +1,8 @@
 // What a thermometer keeps between two packets.
 use crate::Chip;
 
-/// What the open phase has: no byte, or whole pairs that are read; whole pairs behind its pointer byte; or
-/// the first byte of a pair, with its start.
+/// What the open phase has: no byte, or whole pairs that are read; whole pairs behind its pointer
+/// byte; or the first byte of a pair, with its start.
 #[derive(Clone, Copy, Debug, PartialEq, Eq)]
 pub enum Part {
     Fresh,

@@ -8,7 +8,9 @@ use crate::Lm75;
 use decoder_core::PacketMachine;
 use i2c_phases::Phased;
 
-/// What a decoder gives of packets is what the definition of its thermometer says. (A law; nothing is done.)
+/// What a decoder gives of packets is what the definition of its thermometer says. (A law; nothing
+/// is done.)
 pub fn outputs_are_by_the_definition()
-    ensures { (chip : Chip) (packets : List Packet) → ⟦<Phased<Lm75> as PacketMachine>⟧.outs chip packets ≡ lm75_outs chip packets }
+    ensures { (chip : Chip) (packets : List Packet)
+        → ⟦<Phased<Lm75> as PacketMachine>⟧.outs chip packets ≡ lm75_outs chip packets }
 {}

@@ -29,8 +29,9 @@ impl Lm75 {
         }
     }
 
-    /// Opens a decoder of these options at any rate; it stands for no packets. Answers Range exactly where
-    /// an option is out of range: not 0 to 7 for `addr`, 0 or 1 for `gcall`; and never Rate.
+    /// Opens a decoder of these options at any rate; it stands for no packets. Answers Range
+    /// exactly where an option is out of range: not 0 to 7 for `addr`, 0 or 1 for `gcall`; and
+    /// never Rate.
     pub fn open(opts: Lm75Opts, _rate: Rate) -> Result<Phased<Lm75>, OptFault>
         ensures { Opens opts result }
     {

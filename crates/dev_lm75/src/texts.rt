@@ -3,7 +3,6 @@ ghost use Rattle.std.specs.Prelude.{◌≡◌, ◌+◌, ◌*◌, ◌/◌, ◌%�
 ghost use Rattle.line_text.specs.Texts.{fixed};
 ghost use Rattle.dev_lm75.specs.Texts.{degrees, is_below_zero, magnitude, note_text};
 
-use i2c_phases::push_labelled;
 use la_base::Note;
 use line_text::LineBuf;
 
@@ -39,18 +38,19 @@ fn push_degrees(label: &[u8], value: u64, buf: &mut LineBuf)
     buf.push_fixed(is_below_zero(value), halves / 2, halves % 2 * 5, 1);
 }
 
-/// Appends the text of a note, and nothing for a class that an LM75 doesn't have: `Pointer: ` with a digit;
-/// `Write configuration: ` and `Read configuration: ` with the byte in upper case hexadecimal; `Read
-/// temperature: `, and `Write ` and `Read ` with `THYST: ` and `TOS: `, with degrees to a half.
+/// Appends the text of a note, and nothing for a class that an LM75 doesn't have: `Pointer: ` with
+/// a digit; `Write configuration: ` and `Read configuration: ` with the byte in upper case
+/// hexadecimal; `Read temperature: `, and `Write ` and `Read ` with `THYST: ` and `TOS: `, with
+/// degrees to a half.
 pub fn text(note: Note, buf: &mut LineBuf)
     requires { length buf.old + 64 ≤ 256 }
     ensures text { buf.new ≡ buf.old ++ note_text note.class note.a }
     ensures short { length buf.new ≤ length buf.old + 64 }
 {
     match note.class {
-        0 => push_labelled(b"Pointer: ", note.a, 1, buf),
-        1 => push_labelled(b"Write configuration: ", note.a, 2, buf),
-        2 => push_labelled(b"Read configuration: ", note.a, 2, buf),
+        0 => buf.push_labelled(b"Pointer: ", note.a, 1),
+        1 => buf.push_labelled(b"Write configuration: ", note.a, 2),
+        2 => buf.push_labelled(b"Read configuration: ", note.a, 2),
         3 => push_degrees(b"Read temperature: ", note.a, buf),
         4 => push_degrees(b"Write THYST: ", note.a, buf),
         5 => push_degrees(b"Read THYST: ", note.a, buf),

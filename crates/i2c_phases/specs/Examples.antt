@@ -8,7 +8,15 @@ use Rattle.la_base.specs.declared.wires.PacketKind.TheVariants.{I2cData}
 use Rattle.i2c_phases.specs.Bytes.{byte_note, byte_piece}
 
 abbrev pub packet : ℕ → PacketKind → ℕ → ℕ → Packet
-packet j kind a b = record { kind = kind; start = 10 * j; end = 10 * j + 5; a = a; b = b; in_order = le-add_right (10 * j) 5 }
+packet j kind a b =
+    record {
+      kind = kind;
+      start = 10 * j;
+      end = 10 * j + 5;
+      a = a;
+      b = b;
+      in_order = le-add_right (10 * j) 5;
+    }
 
 -- a packet of data
 abbrev pub byte : ℕ → ℕ → Packet

@@ -1,5 +1,4 @@
 pub mod Phases
-pub mod Tracking
 pub mod Devices
 pub mod Bytes
 pub mod Pointers

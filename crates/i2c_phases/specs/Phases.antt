@@ -1,9 +1,12 @@
--- The phases of packets of I2C: from a start to the next start or stop, and what they mean to a device.
-use Rattle.std.specs.Prelude.{ℕ, ◌==◌, ◌%◌, ◌&&◌, ◌||◌, Bool, true, false, if◌then◌else◌, List, [], ◌∷◌, length, map, Option, Some, None}
+-- The phases of packets of I2C: from a start to the next start or stop, and what they mean to a
+-- device.
+use Rattle.std.specs.Prelude.{ℕ, ◌==◌, ◌%◌, ◌&&◌, ◌||◌, Bool, true, false, if◌then◌else◌, List, []}
+use Rattle.std.specs.Prelude.{◌∷◌, length, map, Option, Some, None}
 use Rattle.std.specs.List.{filter, flat_map}
 use Rattle.la_base.specs.declared.wires.Packet.{Packet}
 use Rattle.la_base.specs.declared.wires.PacketKind.{PacketKind}
-use Rattle.la_base.specs.declared.wires.PacketKind.TheVariants.{I2cStart, I2cStop, I2cAddress, I2cData, I2cAck}
+use Rattle.la_base.specs.declared.wires.PacketKind.TheVariants.{I2cStart, I2cStop, I2cAddress}
+use Rattle.la_base.specs.declared.wires.PacketKind.TheVariants.{I2cData, I2cAck}
 use Rattle.decoder_core.specs.Packets.{last_start}
 use Rattle.list_cuts.specs.Parts.{parts}
 
@@ -48,12 +51,15 @@ pub record Behind : Type 0 where
 -- the first packet of a kind
 abbrev pub first_of : (PacketKind → Bool) → List Packet → Option Behind
 first_of test [] = None
-first_of test (packet ∷ packets) = if test packet.kind then Some (record { packet = packet; others = packets }) else first_of test packets
+first_of test (packet ∷ packets) =
+    if test packet.kind then Some (record { packet = packet; others = packets })
+    else first_of test packets
 
 -- an address with the packets behind its acknowledge bit, where that is 0
 abbrev pub when_acked : Packet → Option Behind → Option Behind
 when_acked address None = None
-when_acked address (Some ack) = if ack.packet.a == 0 then Some (record { packet = address; others = ack.others }) else None
+when_acked address (Some ack) =
+    if ack.packet.a == 0 then Some (record { packet = address; others = ack.others }) else None
 
 abbrev pub with_ack : Option Behind → Option Behind
 with_ack None = None
@@ -70,7 +76,8 @@ data_in packets = filter (λ packet. is_data packet.kind) packets
 abbrev pub byte_of : Packet → ℕ
 byte_of packet = packet.a % 256
 
--- what a phase is to a device: bytes that are written to it or read from it, a reset by a general call, or nothing
+-- what a phase is to a device: bytes that are written to it or read from it, a reset by a general
+-- call, or nothing
 pub data Meaning : Type 0 where
   Nothing : Meaning
   Writes : List Packet → Meaning
@@ -83,7 +90,9 @@ is_six [] = false
 is_six (packet ∷ packets) = byte_of packet == 6
 
 abbrev pub is_reset : List Packet → Behind → Bool
-is_reset phase address = (address.packet.a == 0 && address.packet.b == 0) && (length (data_in phase) == length (data_in address.others) && is_six (data_in address.others))
+is_reset phase address =
+    (address.packet.a == 0 && address.packet.b == 0) && (length (data_in phase) == length
+    (data_in address.others) && is_six (data_in address.others))
 
 abbrev pub meaning_by : ℕ → Bool → List Packet → Option Behind → Meaning
 meaning_by device resets phase None = Nothing

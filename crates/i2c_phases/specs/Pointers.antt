@@ -1,5 +1,6 @@
 -- A pointer that some phases set and others move, and what is kept of the last phase.
-use Rattle.std.specs.Prelude.{ℕ, ◌+◌, Bool, true, false, List, [], ◌∷◌, Option, Some, None, map, drop, sum}
+use Rattle.std.specs.Prelude.{ℕ, ◌+◌, Bool, true, false, List, [], ◌∷◌, Option, Some, None, map}
+use Rattle.std.specs.Prelude.{drop, sum}
 use Rattle.list_cuts.specs.LastWhere.{last_that, last_where}
 use Rattle.i2c_phases.specs.Phases.{Meaning, Nothing, Writes, Reads, Reset}
 
@@ -24,9 +25,11 @@ abbrev pub since : List Meaning → Option ℕ → List Meaning
 since before None = before
 since before (Some place) = drop (place + 1) before
 
--- the pointer behind some phases: what the last one that sets it made it, and as far on as those behind it move it
+-- the pointer behind some phases: what the last one that sets it made it, and as far on as those
+-- behind it move it
 abbrev pub pointer_behind : (Meaning → Bool) → (Meaning → ℕ) → (Meaning → ℕ) → List Meaning → ℕ
-pointer_behind sets set_to moves before = pointer_set sets set_to before + sum (map moves (since before (last_where sets before)))
+pointer_behind sets set_to moves before =
+    pointer_set sets set_to before + sum (map moves (since before (last_where sets before)))
 
 -- what is kept of the last phase, and where there is none
 abbrev pub of_last : {X : Type 0} → (Meaning → X) → X → List Meaning → X

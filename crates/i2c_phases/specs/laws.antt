@@ -1,4 +1,5 @@
 -- Lemmas that laws of devices cite.
+pub mod Tracking
 pub mod PhaseLaws
 pub mod FloorLaws
 pub mod TrackLaws

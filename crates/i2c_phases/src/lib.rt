@@ -4,11 +4,9 @@
 mod bytes;
 mod device;
 mod phased;
-mod texts;
 mod tracker;
 
 pub use bytes::{byte_note, byte_of, byte_piece};
 pub use device::I2cDevice;
 pub use phased::Phased;
-pub use texts::push_labelled;
 pub use tracker::{Event, Role, Track};

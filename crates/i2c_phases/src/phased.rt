@@ -4,15 +4,16 @@ ghost use Rattle.la_base.specs.declared.wires.Wire.TheVariants.{I2c, Nothing as 
 ghost use Rattle.i2c_phases.specs.Phases.{phase_near};
 ghost use Rattle.i2c_phases.specs.laws.OneLaw.{one_phased};
 ghost use Rattle.i2c_phases.specs.Devices.{Happens, StandsFor, near_by, phased};
-ghost use Rattle.i2c_phases.specs.laws.DeviceLaws.{phased_nothing, phased_prefix, phased_order, phased_few, phased_on};
+ghost use Rattle.i2c_phases.specs.laws.DeviceLaws.{phased_nothing, phased_prefix, phased_order};
+ghost use Rattle.i2c_phases.specs.laws.DeviceLaws.{phased_few, phased_on};
 
 use crate::tracker::no_phase;
 use crate::{Event, I2cDevice, Track};
-use decoder_core::{Outs, PacketMachine};
+use decoder_core::{Configured, Follower, Outs, PacketMachine, is_send};
 use la_base::{Packet, Wire};
 
-/// A device on an I2C bus as a decoder of packets: it finds the device's own phases, and hands on their
-/// bytes.
+/// A device on an I2C bus as a decoder of packets: it finds the device's own phases, and hands on
+/// their bytes.
 #[derive(Drop)]
 pub struct Phased<D: I2cDevice> {
     device: D,
@@ -23,7 +24,8 @@ pub struct Phased<D: I2cDevice> {
 fn happen<D: I2cDevice>(device: &mut D, event: Event, packet: Packet, into: &mut Outs)
     requires empty { into.old ≡ [] }
     ensures setup { D.setup device.new ≡ D.setup device.old }
-    ensures happens { Happens (D.knows device.old) (D.knows device.new) (D.step (D.setup device.old)) event packet into.new }
+    ensures happens { Happens (D.knows device.old) (D.knows device.new)
+        (D.step (D.setup device.old)) event packet into.new }
 {
     match event {
         Event::Begins => device.begin(),
@@ -46,7 +48,8 @@ impl<D: I2cDevice> Phased<D> {
     pub fn new(device: D) -> Phased<D>
         requires { D.knows device [] }
         ensures device { result.device ≡ device }
-        ensures stands { StandsFor (D.knows result.device) (D.bus_address (D.setup result.device)) (D.takes_reset (D.setup result.device)) result.kept [] }
+        ensures stands { StandsFor (D.knows result.device) (D.bus_address (D.setup result.device))
+            (D.takes_reset (D.setup result.device)) result.kept [] }
     {
         Phased {
             device,
@@ -55,20 +58,24 @@ impl<D: I2cDevice> Phased<D> {
     }
 }
 
-impl<D: I2cDevice> PacketMachine for Phased<D> {
+impl<D: I2cDevice> Configured for Phased<D> {
     type Setup = D::Setup;
 
     ghost setup = { λ m. D.setup m.device };
+}
 
+impl<D: I2cDevice> PacketMachine for Phased<D> {
     ghost wire = { λ _. I2c };
 
     ghost gives = { λ _. NoWire };
 
-    ghost outs = { λ setup packets. phased (D.bus_address setup) (D.takes_reset setup) (D.step setup) packets };
+    ghost outs = { λ setup packets.
+        phased (D.bus_address setup) (D.takes_reset setup) (D.step setup) packets };
 
     ghost near = { λ _ packets. phase_near packets };
 
-    ghost stands = { λ m packets. StandsFor (D.knows m.device) (D.bus_address (D.setup m.device)) (D.takes_reset (D.setup m.device)) m.kept packets };
+    ghost stands = { λ m packets. StandsFor (D.knows m.device) (D.bus_address (D.setup m.device))
+        (D.takes_reset (D.setup m.device)) m.kept packets };
 
     fn wants(&self) -> Wire {
         Wire::I2c
@@ -87,15 +94,25 @@ impl<D: I2cDevice> PacketMachine for Phased<D> {
         near(self.kept, from)
     }
 
-    ghost nothing = { λ m. phased_nothing (D.step (D.setup m.device)) (D.by_byte m.device) (D.bus_address (D.setup m.device)) (D.takes_reset (D.setup m.device)) };
+    ghost nothing = { λ m. phased_nothing (D.step (D.setup m.device)) (D.by_byte m.device)
+        (D.bus_address (D.setup m.device)) (D.takes_reset (D.setup m.device)) };
 
-    ghost prefix = { λ m. phased_prefix (D.step (D.setup m.device)) (D.by_byte m.device) (D.bus_address (D.setup m.device)) (D.takes_reset (D.setup m.device)) };
+    ghost prefix = { λ m. phased_prefix (D.step (D.setup m.device)) (D.by_byte m.device)
+        (D.bus_address (D.setup m.device)) (D.takes_reset (D.setup m.device)) };
 
-    ghost order = { λ m. phased_order (D.step (D.setup m.device)) (D.no_packets m.device) (D.bus_address (D.setup m.device)) (D.takes_reset (D.setup m.device)) };
+    ghost order = { λ m. phased_order (D.step (D.setup m.device)) (D.no_packets m.device)
+        (D.bus_address (D.setup m.device)) (D.takes_reset (D.setup m.device)) };
 
-    ghost few = { λ m. phased_few (D.step (D.setup m.device)) (D.by_byte m.device) (D.bus_address (D.setup m.device)) (D.takes_reset (D.setup m.device)) };
+    ghost few = { λ m. phased_few (D.step (D.setup m.device)) (D.by_byte m.device)
+        (D.bus_address (D.setup m.device)) (D.takes_reset (D.setup m.device)) };
 
-    ghost on_wire = { λ m. phased_on (D.step (D.setup m.device)) (D.no_packets m.device) (D.bus_address (D.setup m.device)) (D.takes_reset (D.setup m.device)) };
+    ghost on_wire = { λ m. phased_on (D.step (D.setup m.device)) (D.no_packets m.device)
+        (D.bus_address (D.setup m.device)) (D.takes_reset (D.setup m.device)) };
 
     ghost one_machine = { one_phased D.setup D.bus_address D.takes_reset D.knows D.one_device };
+}
+
+// It may move to another thread where the device may, and so may what feeds it.
+fn machine_is_send<D: I2cDevice + Send>() {
+    is_send::<Follower<Phased<D>>>();
 }

@@ -1,7 +1,8 @@
 // What is kept of the phases of a bus, and what a packet is to a device.
 ghost use Rattle.std.specs.Prelude.{◌≡◌, ◌==◌, Bool, true, false, if◌then◌else◌};
 ghost use Rattle.i2c_phases.specs.Phases.{byte_of, is_start, is_stop, is_address, is_data, is_ack};
-ghost use Rattle.i2c_phases.specs.Tracking.{asked, answered, inside, told, event, track_next, no_phase};
+ghost use Rattle.i2c_phases.specs.laws.Tracking.{asked, answered, inside, told, event, track_next};
+ghost use Rattle.i2c_phases.specs.laws.Tracking.{no_phase};
 
 use la_base::{Packet, PacketKind};
 
@@ -123,7 +124,8 @@ fn answered(packet: Packet, role: Role) -> Role
     if packet.a == 0 { role } else { Role::Other }
 }
 
-// How far a phase without an address has come behind one more packet; `first` says that it has no data.
+// How far a phase without an address has come behind one more packet; `first` says that it has no
+// data.
 fn seeking(device: u64, resets: bool, first: bool, packet: Packet) -> Role
     ensures fresh { first ≡ true → result ≡ inside device resets Role.Fresh packet }
     ensures late { first ≡ false → result ≡ inside device resets Role.Late packet }
@@ -137,7 +139,8 @@ fn seeking(device: u64, resets: bool, first: bool, packet: Packet) -> Role
     Role::Late
 }
 
-// How far a phase has come whose address waits for its acknowledge bit: `role` without it, `next` with it.
+// How far a phase has come whose address waits for its acknowledge bit: `role` without it, `next`
+// with it.
 fn answered_by(packet: Packet, role: Role, next: Role) -> Role
     ensures { result ≡ (if is_ack packet.kind then answered packet next else role) }
 {

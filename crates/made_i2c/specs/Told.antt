@@ -1,14 +1,17 @@
--- What the transactions of made captures put on an I2C bus, as notes: eight for each, the first sample of which is t.
+-- What the transactions of made captures put on an I2C bus, as notes: eight for each, the first
+-- sample of which is t.
 use Rattle.std.specs.Prelude.{ℕ, zero, suc, ◌+◌, ◌*◌, List, [], ◌∷◌, ◌++◌}
 use Rattle.la_base.specs.declared.wires.Out.{Out}
-use Rattle.la_base.specs.declared.wires.PacketKind.TheVariants.{I2cStart, I2cStop, I2cAddress, I2cData, I2cAck}
+use Rattle.la_base.specs.declared.wires.PacketKind.TheVariants.{I2cStart, I2cStop, I2cAddress}
+use Rattle.la_base.specs.declared.wires.PacketKind.TheVariants.{I2cData, I2cAck}
 use Rattle.decoder_core.specs.Outputs.{note_at, packet_at, span_note, span_piece, span_packet}
 use Rattle.capture_make.specs.declared.drawing.Sent.{Sent}
 
 -- a data byte that is written, and its acknowledge
 abbrev pub data_told : ℕ → ℕ → ℕ → ℕ → List Out
 data_told first last ack byte =
-    span_note 5 first last byte 0 ∷ span_piece 0 first last byte ∷ span_packet I2cData first last byte 0
+    span_note 5 first last byte 0 ∷ span_piece 0 first last byte
+    ∷ span_packet I2cData first last byte 0
     ∷ note_at 7 ack 0 ∷ packet_at I2cAck ack 0 ∷ []
 
 -- START, the address with R/W 0 and its acknowledge, both data bytes, STOP

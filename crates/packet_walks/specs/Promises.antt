@@ -8,20 +8,25 @@ use Rattle.decoder_core.specs.Promises.{AddsFew, GivesNothing, GivesOn, KeepsFro
 use Rattle.packet_walks.specs.Walks.{PacketWalk, SoundPackets, PushedPackets}
 
 -- nothing, prefix, few, wire, order, and the floor of all later packets
-pub record Promises {H : Type 0} (w : PacketWalk H) (wants gives : Wire) (outs : List Packet → List Out) (kept : List Packet → H) : Type 0 where
+pub record Promises {H : Type 0} (w : PacketWalk H) (wants gives : Wire)
+    (outs : List Packet → List Out) (kept : List Packet → H) : Type 0 where
   pub nothing : GivesNothing outs
   pub prefix : KeepsFront outs
   pub few : AddsFew outs
   pub on_wire : GivesOn gives outs
   pub order : PacketsStayInOrder wants outs
-  pub floor : (seen : List Packet) → IsPacketFloor wants outs seen (w.near (kept seen) (last_start 0 seen))
+  pub floor : (seen : List Packet)
+      → IsPacketFloor wants outs seen (w.near (kept seen) (last_start 0 seen))
 
 -- a state that packets leave which count, the last of which starts there
 abbrev pub Reached : {H : Type 0} → Wire → (List Packet → H) → H → ℕ → Type 0
-Reached wants kept h last = (packets : List Packet) × AllCount wants packets × (kept packets ≡ h) × (last_start 0 packets ≡ last)
+Reached wants kept h last =
+    (packets : List Packet) × AllCount wants packets × (kept packets ≡ h)
+    × (last_start 0 packets ≡ last)
 
 -- outputs that go on as a walk says which is sound where packets lead keep these promises
 abbrev pub KeepsPromises : Type 0 → Type 0
 KeepsPromises H =
     (w : PacketWalk H) (wants gives : Wire) (outs : List Packet → List Out) (kept : List Packet → H)
-    → SoundPackets w gives (Reached wants kept) → PushedPackets w outs kept → Promises w wants gives outs kept
+    → SoundPackets w gives (Reached wants kept) → PushedPackets w outs kept
+    → Promises w wants gives outs kept

@@ -1,6 +1,7 @@
-//! Decoders of packets as walks. A decoder of packets whose definition over whole lists gives, with one more packet, what a state
-//! says that keeps what the packets before it left, has all that a decoder of packets owes. It shows six facts of one state and one
-//! packet. A device that tells of transactions shows what it does with one packet of the one that is open, and is then a decoder.
+//! Decoders of packets as walks. A decoder of packets whose definition over whole lists gives, with
+//! one more packet, what a state says that keeps what the packets before it left, has all that a
+//! decoder of packets owes. It shows six facts of one state and one packet. A device that tells of
+//! transactions shows what it does with one packet of the one that is open, and is then a decoder.
 #![tactic(auto)]
 
 mod laws;

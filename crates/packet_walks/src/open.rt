@@ -8,8 +8,9 @@ ghost use Rattle.packet_walks.specs.laws.Steps.{Pushed, Sound, Steps};
 use decoder_core::Outs;
 use la_base::{Packet, Wire};
 
-/// What a device without options keeps of a transaction that is open, between two packets: how packets begin it, change it and end
-/// it, and what they give. Every call is safe for every value of the type. It gives no packets.
+/// What a device without options keeps of a transaction that is open, between two packets: how
+/// packets begin it, change it and end it, and what they give. Every call is safe for every value
+/// of the type. It gives no packets.
 pub trait OpenTransaction: Drop {
     /// The type of the device's options, of which there are none.
     type Opts;
@@ -62,10 +63,11 @@ pub trait OpenTransaction: Drop {
     fn near(&self, from: u64) -> u64
         ensures { result ≡ steps.near self.now from };
 
-    /// *Pushed*: with one more packet, what a whole transaction gives and leaves is what the steps say.
+    /// *Pushed*: with one more packet, what a whole transaction gives and leaves is what the steps
+    /// say.
     ghost pushed: { Pushed device steps kept };
 
-    /// *Sound*: each step gives few outputs, none of them a packet, whose notes start at the near place or later; and that never
-    /// goes back.
+    /// *Sound*: each step gives few outputs, none of them a packet, whose notes start at the near
+    /// place or later; and that never goes back.
     ghost sound: { Sound device steps fits };
 }

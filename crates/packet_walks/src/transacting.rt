@@ -2,16 +2,17 @@
 ghost use Rattle.std.specs.Prelude.{◌≡◌, []};
 ghost use Rattle.la_base.specs.declared.wires.Wire.TheVariants.{Nothing as NoWire};
 ghost use Rattle.packet_walks.specs.Transactions.{transaction_near, transaction_outs};
-ghost use Rattle.packet_walks.specs.laws.Steps.{begin_next, held_gives, held_near, held_next, held_of};
+ghost use Rattle.packet_walks.specs.laws.Steps.{begin_next, held_gives, held_near, held_next};
+ghost use Rattle.packet_walks.specs.laws.Steps.{held_of};
 ghost use Rattle.packet_walks.specs.laws.Transacting.{one_transacting};
 ghost use Rattle.packet_walks.specs.laws.TransactionLaws.{promises};
 
 use crate::OpenTransaction;
-use decoder_core::{OptFault, Outs, PacketMachine};
+use decoder_core::{Configured, Follower, OptFault, Outs, PacketMachine, is_send};
 use la_base::{Packet, Rate, Wire};
 
-/// A device that tells of transactions as a decoder of packets: it keeps what the device does of the transaction that is open, if
-/// there is one.
+/// A device that tells of transactions as a decoder of packets: it keeps what the device does of
+/// the transaction that is open, if there is one.
 #[derive(Drop)]
 pub struct Transacting<O: OpenTransaction> {
     held: Option<O>,
@@ -70,11 +71,13 @@ impl<O: OpenTransaction> Transacting<O> {
     }
 }
 
-impl<O: OpenTransaction> PacketMachine for Transacting<O> {
+impl<O: OpenTransaction> Configured for Transacting<O> {
     type Setup = O::Opts;
 
     ghost setup = { λ _. O.opts };
+}
 
+impl<O: OpenTransaction> PacketMachine for Transacting<O> {
     ghost wire = { λ _. O.wire };
 
     ghost gives = { λ _. NoWire };
@@ -97,15 +100,23 @@ impl<O: OpenTransaction> PacketMachine for Transacting<O> {
         self.near(from)
     }
 
-    ghost nothing = { λ _. (promises O.device O.steps O.wire O.fits O.kept O.sound O.pushed).nothing };
+    ghost nothing = { λ _.
+        (promises O.device O.steps O.wire O.fits O.kept O.sound O.pushed).nothing };
 
-    ghost prefix = { λ _. (promises O.device O.steps O.wire O.fits O.kept O.sound O.pushed).prefix };
+    ghost prefix = { λ _.
+        (promises O.device O.steps O.wire O.fits O.kept O.sound O.pushed).prefix };
 
     ghost order = { λ _. (promises O.device O.steps O.wire O.fits O.kept O.sound O.pushed).order };
 
     ghost few = { λ _. (promises O.device O.steps O.wire O.fits O.kept O.sound O.pushed).few };
 
-    ghost on_wire = { λ _. (promises O.device O.steps O.wire O.fits O.kept O.sound O.pushed).on_wire };
+    ghost on_wire = { λ _.
+        (promises O.device O.steps O.wire O.fits O.kept O.sound O.pushed).on_wire };
 
     ghost one_machine = { one_transacting O.device O.steps O.kept O.opts };
+}
+
+// It may move to another thread where what is open may, and so may what feeds it.
+fn machine_is_send<O: OpenTransaction + Send>() {
+    is_send::<Follower<Transacting<O>>>();
 }

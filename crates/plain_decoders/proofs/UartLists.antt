@@ -27,6 +27,9 @@ module _ (rx from : ℕ) (xs : List ℕ) (i : ℕ) where
   pub high_no_more : length xs ≤ i → high_from rx (from + i) (drop i xs) ≡ None
   high_no_more past = ap (λ l. high_from rx (from + i) l) (drop_all i xs past)
 
+-- all of the place from which the line is high
+pub ruleset first_high = (high_here, high_not_here, high_no_more)
+
 module _ (c : Shape) (s : List ℕ) (f : ℕ) where
   pub levels_more : (i : ℕ) (old new : List Bool) (here : Bool) (p : ℕ) → old ≡ levels_at c s f i → p ≡ c.point i → here ≡ level c s (f + p) → new ≡ old ++ here ∷ [] → new ≡ levels_at c s f (i + 1)
   levels_more i old new here p so_far place is pushed =

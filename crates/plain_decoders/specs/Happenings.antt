@@ -2,7 +2,8 @@
 use Rattle.std.specs.Prelude.{ℕ, ◌<◌, List, [], ◌∷◌, map, Option, Some, None}
 use Rattle.std.specs.Option.{ForSome}
 use Rattle.list_cuts.specs.Parts.{Part}
-use Rattle.dec_spi.specs.Bus.{Event as Happening, Select as Selects, Deselect as Deselects, Clock as Clocks, event_at}
+use Rattle.dec_spi.specs.Bus.{Event as Happening, Select as Selects, Deselect as Deselects}
+use Rattle.dec_spi.specs.Bus.{Clock as Clocks, event_at}
 use Rattle.dec_spi.specs.declared.options.SpiOpts.{SpiOpts}
 use Rattle.plain_decoders.specs.declared.spi.Event.{Event}
 use Rattle.plain_decoders.specs.declared.spi.Event.TheVariants.{Select, Deselect, Clock}

@@ -1,7 +1,8 @@
 -- The events of the plain program of I2C, and those of the definition.
 use Rattle.std.specs.Prelude.{ℕ, List, [], ◌∷◌, map, Option, Some, None, Vec}
 use Rattle.std.specs.Global.{Global}
-use Rattle.dec_i2c.specs.Bus.{Event as Happening, Start as Starts, Stop as Stops, Clock as Clocks, event_at}
+use Rattle.dec_i2c.specs.Bus.{Event as Happening, Start as Starts, Stop as Stops, Clock as Clocks}
+use Rattle.dec_i2c.specs.Bus.{event_at}
 use Rattle.dec_i2c.specs.declared.held.I2cOpts.{I2cOpts}
 use Rattle.plain_decoders.specs.declared.i2c.Event.{Event}
 use Rattle.plain_decoders.specs.declared.i2c.Event.TheVariants.{Start, Stop, Clock}

@@ -1,5 +1,7 @@
 -- What a frame shows to the plain program of serial lines, and to the definition.
-use Rattle.dec_uart.specs.Chain.{Shape, Look as Shows, Ahead as ShowsAhead, FalseStart as ShowsFalseStart, Whole as ShowsWhole, AllLow as ShowsAllLow}
+use Rattle.dec_uart.specs.Chain.{Shape, Look as Shows, Ahead as ShowsAhead}
+use Rattle.dec_uart.specs.Chain.{FalseStart as ShowsFalseStart, Whole as ShowsWhole}
+use Rattle.dec_uart.specs.Chain.{AllLow as ShowsAllLow}
 use Rattle.dec_uart.specs.Frames.{shape_of}
 use Rattle.dec_uart.specs.declared.held.Line.{Line}
 use Rattle.plain_decoders.specs.declared.uart.Look.{Look}

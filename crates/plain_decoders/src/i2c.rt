@@ -1,11 +1,18 @@
-// I2C: the whole list of events, cut into parts, and the clocks of each into bytes. A part is told by those before it,
-// and a byte by those before it in its part.
-ghost use Rattle.std.specs.Prelude.{◌≡◌, ◌<◌, ◌≤◌, ◌++◌, ℕ, Option, length, map, take, drop, is_some, OnOk, IfOk};
+// I2C: the whole list of events, cut into parts, and the clocks of each into bytes. A part is told
+// by those before it, and a byte by those before it in its part.
+ghost use Rattle.std.specs.Prelude.{◌≡◌, ◌<◌, ◌≤◌, ◌++◌, ℕ, Option, length, map, take, drop};
+ghost use Rattle.std.specs.Prelude.{is_some, OnOk, IfOk};
 ghost use Rattle.std.specs.List.{flat_map};
 ghost use Rattle.la_base.specs.declared.samples.TheConstants.{MOST_PINS};
 ghost use Rattle.list_cuts.specs.Places.{first_place, last_place};
-ghost use Rattle.dec_i2c.specs.Bytes.{is_read, is_prefix, two_bits, ten_bits, is_write_prefix, written, read_by, role_second, role_behind, direction, address_outs, data_outs, first_class, first_outs, byte_outs};
-ghost use Rattle.dec_i2c.specs.Bus.{event_by, event_at, place_of, level_of, start_outs, stop_outs, ack_outs, bytes_of, value_of, byte_value, values_of, eight_outs, group_outs, clocks_outs, is_mark, segment_in, open_segment, bytes_in, begins_with, read_from, part_outs, i2c_outs};
+ghost use Rattle.dec_i2c.specs.Bytes.{is_read, is_prefix, two_bits, ten_bits, is_write_prefix};
+ghost use Rattle.dec_i2c.specs.Bytes.{written, read_by, role_second, role_behind, direction};
+ghost use Rattle.dec_i2c.specs.Bytes.{address_outs, data_outs, first_class, first_outs, byte_outs};
+ghost use Rattle.dec_i2c.specs.Bus.{event_by, event_at, place_of, level_of, start_outs, stop_outs};
+ghost use Rattle.dec_i2c.specs.Bus.{ack_outs, bytes_of, value_of, byte_value, values_of};
+ghost use Rattle.dec_i2c.specs.Bus.{eight_outs, group_outs, clocks_outs, is_mark, segment_in};
+ghost use Rattle.dec_i2c.specs.Bus.{open_segment, bytes_in, begins_with, read_from, part_outs};
+ghost use Rattle.dec_i2c.specs.Bus.{i2c_outs};
 ghost use Rattle.dec_i2c.specs.Opening.{InRange};
 ghost use Rattle.plain_decoders.specs.I2cHappenings.{meant, made, made_at, listed, all_meant};
 
@@ -59,7 +66,8 @@ impl Gives<Word, Event> for Happens {
         now: Word,
         events: &mut Vec<Event>,
     ) -> Result<(), AllocError>
-        ensures { OnOk result (events.new.items ≡ events.old.items ++ made_at self.now.opts place before now) }
+        ensures { OnOk result
+            (events.new.items ≡ events.old.items ++ made_at self.now.opts place before now) }
     {
         if let Some(before) = before {
             let scl_before = pin(before, self.opts.scl);
@@ -292,8 +300,8 @@ fn read_by(first: u8, own: Option<u64>) -> Option<u64>
     }
 }
 
-// The ten-bit address that a segment with this first byte reads from, by the parts before it: the last of them that
-// doesn't begin with that byte too writes to it.
+// The ten-bit address that a segment with this first byte reads from, by the parts before it: the
+// last of them that doesn't begin with that byte too writes to it.
 #[tactic(auto, using(crate::proofs::I2cMaps::other_passes, crate::proofs::I2cMaps::other_fails))]
 fn read_from(alloc: Global, earlier: &[Vec<Event>], byte: u8) -> Result<Option<u64>, AllocError>
     ensures { IfOk result (λ own. own ≡ read_from (all_meant earlier.now) byte) }
@@ -332,7 +340,8 @@ fn add_data(
     byte: u8,
     outs: &mut Vec<Out>,
 ) -> Result<(), AllocError>
-    ensures { OnOk result (outs.new.items ≡ outs.old.items ++ data_outs class read first last byte) }
+    ensures { OnOk result
+        (outs.new.items ≡ outs.old.items ++ data_outs class read first last byte) }
 {
     outs.push(span_note(class, first, last, byte as u64, 0))?;
     outs.push(span_piece(read, first, last, byte))?;
@@ -379,7 +388,8 @@ fn add_directed(
     byte: u8,
     outs: &mut Vec<Out>,
 ) -> Result<(), AllocError>
-    ensures { (known : ℕ → Option ℕ) → OnOk result (outs.new.items ≡ outs.old.items ++ byte_outs known (direction head) first last byte) }
+    ensures { (known : ℕ → Option ℕ) → OnOk result
+        (outs.new.items ≡ outs.old.items ++ byte_outs known (direction head) first last byte) }
 {
     if is_read(head) {
         add_data(6, 1, first, last, byte, outs)
@@ -396,7 +406,8 @@ fn add_second(
     byte: u8,
     outs: &mut Vec<Out>,
 ) -> Result<(), AllocError>
-    ensures { (known : ℕ → Option ℕ) → OnOk result (outs.new.items ≡ outs.old.items ++ byte_outs known (role_second head) first last byte) }
+    ensures { (known : ℕ → Option ℕ) → OnOk result
+        (outs.new.items ≡ outs.old.items ++ byte_outs known (role_second head) first last byte) }
 {
     if is_write_prefix(head) {
         add_address(11, first, last, ten_bits(two_bits(head), byte), 2, outs)
@@ -417,7 +428,9 @@ fn add_byte(
     byte: u8,
     outs: &mut Vec<Out>,
 ) -> Result<(), AllocError>
-    ensures { OnOk result (outs.new.items ≡ outs.old.items ++ byte_outs (read_from (all_meant earlier.now)) (role_behind before.now) first last byte) }
+    ensures { OnOk result
+        (outs.new.items ≡ outs.old.items
+        ++ byte_outs (read_from (all_meant earlier.now)) (role_behind before.now) first last byte) }
 {
     match before {
         [] => {
@@ -443,7 +456,9 @@ fn add_ack(at: u64, level: bool, outs: &mut Vec<Out>) -> Result<(), AllocError>
 }
 
 fn add_acks(acks: &[Event], outs: &mut Vec<Out>) -> Result<(), AllocError>
-    ensures { OnOk result (outs.new.items ≡ outs.old.items ++ flat_map (λ clock. ack_outs (place_of clock) (level_of clock)) (map meant acks.now)) }
+    ensures { OnOk result
+        (outs.new.items ≡ outs.old.items
+        ++ flat_map (λ clock. ack_outs (place_of clock) (level_of clock)) (map meant acks.now)) }
 {
     for ack in acks {
         add_ack(place_of(*ack), level_of(*ack), outs)?;
@@ -459,7 +474,10 @@ fn add_group(
     byte: &[Event],
     outs: &mut Vec<Out>,
 ) -> Result<(), AllocError>
-    ensures { OnOk result (outs.new.items ≡ outs.old.items ++ group_outs (read_from (all_meant earlier.now)) (all_meant before.now) (map meant byte.now)) }
+    ensures { OnOk result
+        (outs.new.items ≡ outs.old.items
+        ++ group_outs (read_from (all_meant earlier.now)) (all_meant before.now)
+        (map meant byte.now)) }
 {
     let bits = bits_of(byte);
     let value = byte_value(alloc, byte)?;
@@ -477,7 +495,9 @@ fn add_clocks(
     clocks: &[Event],
     outs: &mut Vec<Out>,
 ) -> Result<(), AllocError>
-    ensures { OnOk result (outs.new.items ≡ outs.old.items ++ clocks_outs (read_from (all_meant earlier.now)) (map meant clocks.now)) }
+    ensures { OnOk result
+        (outs.new.items ≡ outs.old.items
+        ++ clocks_outs (read_from (all_meant earlier.now)) (map meant clocks.now)) }
 {
     let bytes = bytes_of(alloc, clocks)?;
     let list = bytes.as_slice();
@@ -515,7 +535,9 @@ fn add_part(
     part: &[Event],
     outs: &mut Vec<Out>,
 ) -> Result<(), AllocError>
-    ensures { OnOk result (outs.new.items ≡ outs.old.items ++ part_outs (all_meant earlier.now) (map meant part.now)) }
+    ensures { OnOk result
+        (outs.new.items ≡ outs.old.items
+        ++ part_outs (all_meant earlier.now) (map meant part.now)) }
 {
     match part.split_first() {
         Some((Event::Start(at), clocks)) => {

@@ -1,4 +1,5 @@
-//! Decoders as plain programs: slow, each by the definition of its outputs over the whole list of samples.
+//! Decoders as plain programs: slow, each by the definition of its outputs over the whole list of
+//! samples.
 #![tactic(auto)]
 
 pub mod i2c;

@@ -4,10 +4,15 @@ ghost use Rattle.std.specs.Option.{ForSome};
 ghost use Rattle.la_base.specs.declared.samples.TheConstants.{MOST_PINS};
 ghost use Rattle.list_cuts.specs.Kept.{kept};
 ghost use Rattle.list_cuts.specs.Places.{first_place, last_place};
-ghost use Rattle.dec_spi.specs.Bus.{begins, ends, level_of, is_active_high, is_low_first, is_selected, is_edge, event_by, event_at, place_of, mosi_of, miso_of, value_of, bytes_of, pieces, word_class, word_outs, group_outs, words_outs, select_outs, end_outs, stretch_outs, spi_outs};
+ghost use Rattle.dec_spi.specs.Bus.{begins, ends, level_of, is_active_high, is_low_first};
+ghost use Rattle.dec_spi.specs.Bus.{is_selected, is_edge, event_by, event_at, place_of, mosi_of};
+ghost use Rattle.dec_spi.specs.Bus.{miso_of, value_of, bytes_of, pieces, word_class, word_outs};
+ghost use Rattle.dec_spi.specs.Bus.{group_outs, words_outs, select_outs, end_outs, stretch_outs};
+ghost use Rattle.dec_spi.specs.Bus.{spi_outs};
 ghost use Rattle.decoder_core.specs.Outputs.{span_piece};
 ghost use Rattle.dec_spi.specs.Opening.{InRange};
-ghost use Rattle.plain_decoders.specs.Happenings.{meant, made, made_at, listed, meant_end, meant_part, LinesIn};
+ghost use Rattle.plain_decoders.specs.Happenings.{meant, made, made_at, listed, meant_end};
+ghost use Rattle.plain_decoders.specs.Happenings.{meant_part, LinesIn};
 
 use crate::numbers::{high_first, low_first};
 use dec_spi::SpiOpts;
@@ -16,8 +21,8 @@ use la_base::{Out, PacketKind, Word, pin};
 use list_cuts::{Gives, Part, Test, events_of, groups_of, parts_between};
 use std::alloc::{AllocError, Global};
 
-// What happens on the bus, and at which sample: the device is selected, or not any more; a sampling edge, with the
-// levels of MOSI and MISO.
+// What happens on the bus, and at which sample: the device is selected, or not any more; a sampling
+// edge, with the levels of MOSI and MISO.
 #[derive(Clone, Copy)]
 enum Event {
     Select(u64),
@@ -74,7 +79,8 @@ fn is_edge(opts: &SpiOpts, before: Word, now: Word) -> bool
     }
 }
 
-// The event at a sample, by whether the one before it and its own are selected, and whether the clock has such an edge.
+// The event at a sample, by whether the one before it and its own are selected, and whether the
+// clock has such an edge.
 fn event_by(at: u64, before: bool, now: bool, edge: bool, mosi: bool, miso: bool) -> Option<Event>
     ensures { listed result ≡ map made (event_by at before now edge mosi miso) }
 {
@@ -126,7 +132,8 @@ impl Gives<Word, Event> for Happens {
         now: Word,
         events: &mut Vec<Event>,
     ) -> Result<(), AllocError>
-        ensures { OnOk result (events.new.items ≡ events.old.items ++ made_at self.now.opts place before now) }
+        ensures { OnOk result
+            (events.new.items ≡ events.old.items ++ made_at self.now.opts place before now) }
     {
         if let Some(event) = event_at(&self.opts, place as u64, before, now) {
             events.push(event)?;
@@ -250,7 +257,9 @@ fn add_bytes(
 ) -> Result<(), AllocError>
     requires some { 1 ≤ count }
     requires most { count ≤ 4 }
-    ensures { OnOk result (outs.new.items ≡ outs.old.items ++ map (λ byte. span_piece class first last byte) (bytes_of count number)) }
+    ensures { OnOk result
+        (outs.new.items ≡ outs.old.items
+        ++ map (λ byte. span_piece class first last byte) (bytes_of count number)) }
 {
     if count > 3 {
         outs.push(span_piece(class, first, last, (number / 0x100_0000 % 256) as u8))?;
@@ -275,7 +284,8 @@ fn add_pieces(
     outs: &mut Vec<Out>,
 ) -> Result<(), AllocError>
     requires { InRange MOST_PINS opts.now }
-    ensures { OnOk result (outs.new.items ≡ outs.old.items ++ pieces opts.now.bits line class first last number) }
+    ensures { OnOk result
+        (outs.new.items ≡ outs.old.items ++ pieces opts.now.bits line class first last number) }
 {
     if line.is_some() {
         add_bytes((opts.bits + 7) / 8, class, first, last, number, outs)?;
@@ -302,7 +312,8 @@ fn add_word(
     outs: &mut Vec<Out>,
 ) -> Result<(), AllocError>
     requires { InRange MOST_PINS opts.now }
-    ensures { OnOk result (outs.new.items ≡ outs.old.items ++ word_outs opts.now first last mosi miso) }
+    ensures { OnOk result
+        (outs.new.items ≡ outs.old.items ++ word_outs opts.now first last mosi miso) }
 {
     let class = word_class(opts.mosi, opts.miso);
     outs.push(span_note(class, first, last, mosi, miso))?;
@@ -320,7 +331,8 @@ fn add_group(
 ) -> Result<(), AllocError>
     requires range { InRange MOST_PINS opts.now }
     requires few { length clocks.now ≤ 32 }
-    ensures { OnOk result (outs.new.items ≡ outs.old.items ++ group_outs opts.now (map meant clocks.now)) }
+    ensures { OnOk result
+        (outs.new.items ≡ outs.old.items ++ group_outs opts.now (map meant clocks.now)) }
 {
     let from_low = is_low_first(opts);
     let mosi = value_of(from_low, &mosi_levels(alloc, clocks)?);
@@ -342,7 +354,8 @@ fn add_words(
     outs: &mut Vec<Out>,
 ) -> Result<(), AllocError>
     requires { InRange MOST_PINS opts.now }
-    ensures { OnOk result (outs.new.items ≡ outs.old.items ++ words_outs opts.now (map meant clocks.now)) }
+    ensures { OnOk result
+        (outs.new.items ≡ outs.old.items ++ words_outs opts.now (map meant clocks.now)) }
 {
     let groups = groups_of(alloc, opts.bits as usize, clocks)?;
     for group in &groups {
@@ -376,7 +389,8 @@ fn add_stretch(
     outs: &mut Vec<Out>,
 ) -> Result<(), AllocError>
     requires { InRange MOST_PINS opts.now }
-    ensures { OnOk result (outs.new.items ≡ outs.old.items ++ stretch_outs opts.now (meant_part (kept stretch.now))) }
+    ensures { OnOk result
+        (outs.new.items ≡ outs.old.items ++ stretch_outs opts.now (meant_part (kept stretch.now))) }
 {
     if let Some((Event::Select(at), clocks)) = stretch.items.split_first() {
         add_select(*at, outs)?;

@@ -1,10 +1,15 @@
-// Serial lines: the whole list of falls, and the frames that are taken from it one behind the other, each looked at on
-// the whole list of samples.
-ghost use Rattle.std.specs.Prelude.{◌≡◌, ◌≤◌, ◌<◌, ◌^◌, ◌++◌, [], ◌∷◌, if◌then◌else◌, OnOk, IfOk, ℕ, List, Some, length, take, drop, not};
+// Serial lines: the whole list of falls, and the frames that are taken from it one behind the
+// other, each looked at on the whole list of samples.
+ghost use Rattle.std.specs.Prelude.{◌≡◌, ◌≤◌, ◌<◌, ◌^◌, ◌++◌, [], ◌∷◌, if◌then◌else◌, OnOk, IfOk};
+ghost use Rattle.std.specs.Prelude.{ℕ, List, Some, length, take, drop, not};
 ghost use Rattle.std.specs.List.{list_any, count_by};
 ghost use Rattle.decoder_core.specs.Outputs.{span_note};
-ghost use Rattle.dec_uart.specs.Chain.{fall_at, level, high_from, levels_at, any_high, look, is_open, behind, starts, starts_from, look_outs, near_of};
-ghost use Rattle.dec_uart.specs.Frames.{parity_of, parity_bits, before_stop, last_bit, bit_point, break_length, breaks, parity_wrong, stop_wrong, pieces, data_of, told_outs, frame_outs, break_outs, uart_outs, uart_near};
+ghost use Rattle.dec_uart.specs.Chain.{fall_at, level, high_from, levels_at, any_high, look};
+ghost use Rattle.dec_uart.specs.Chain.{is_open, behind, starts, starts_from, look_outs, near_of};
+ghost use Rattle.dec_uart.specs.Frames.{parity_of, parity_bits, before_stop, last_bit, bit_point};
+ghost use Rattle.dec_uart.specs.Frames.{break_length, breaks, parity_wrong, stop_wrong, pieces};
+ghost use Rattle.dec_uart.specs.Frames.{data_of, told_outs, frame_outs, break_outs, uart_outs};
+ghost use Rattle.dec_uart.specs.Frames.{uart_near};
 ghost use Rattle.plain_decoders.specs.Looking.{line_shape, shown};
 
 use crate::numbers::low_first;
@@ -15,9 +20,9 @@ use list_cuts::{Gives, events_of};
 use rate_math::{point, samples_of_bits};
 use std::alloc::{AllocError, Global};
 
-// What a frame shows: a point that has to be looked at lies behind the samples; the line is high at point 0, so that
-// it is no frame; the levels at all points, some of them high; or the levels, all of them low, and the first place
-// behind the last point at which the line is high.
+// What a frame shows: a point that has to be looked at lies behind the samples; the line is high at
+// point 0, so that it is no frame; the levels at all points, some of them high; or the levels, all
+// of them low, and the first place behind the last point at which the line is high.
 #[derive(Drop)]
 enum Look {
     Ahead,
@@ -77,7 +82,9 @@ impl Gives<Word, u64> for Falls {
         now: Word,
         events: &mut Vec<u64>,
     ) -> Result<(), AllocError>
-        ensures { OnOk result (events.new.items ≡ events.old.items ++ fall_at self.now.line.opts.rx place before now) }
+        ensures { OnOk result
+            (events.new.items ≡ events.old.items
+            ++ fall_at self.now.line.opts.rx place before now) }
     {
         if let Some(before) = before {
             if pin(before, self.line.opts.rx) && !pin(now, self.line.opts.rx) {
@@ -99,7 +106,7 @@ fn level(line: Line, samples: &[Word], place: u64) -> bool
 }
 
 // The first place, from another on, at which the line is high.
-#[tactic(auto, using(crate::proofs::UartLists::high_here, crate::proofs::UartLists::high_not_here, crate::proofs::UartLists::high_no_more))]
+#[tactic(auto, using(crate::proofs::UartLists::first_high))]
 fn high_from(line: Line, samples: &[Word], from: u64) -> Option<u64>
     requires few { length samples.now ≤ 2 ^ 60 }
     requires within { from ≤ length samples.now }
@@ -124,7 +131,8 @@ fn levels_at(
 ) -> Result<Vec<bool>, AllocError>
     requires early { f ≤ 2 ^ 60 }
     requires few { count ≤ 13 }
-    ensures { IfOk result (λ levels. levels.items ≡ levels_at (line_shape line) samples.now f count) }
+    ensures { IfOk result
+        (λ levels. levels.items ≡ levels_at (line_shape line) samples.now f count) }
 {
     let mut levels = Vec::new(alloc);
     for i in 0..count {
@@ -189,7 +197,8 @@ fn behind(line: Line, f: u64, seen: &Look) -> u64
     }
 }
 
-// Adds a fall, if it stands at place `from` or later: a frame begins there. Answers from where on the next may.
+// Adds a fall, if it stands at place `from` or later: a frame begins there. Answers from where on
+// the next may.
 fn add_start(
     alloc: Global,
     line: Line,
@@ -200,7 +209,8 @@ fn add_start(
 ) -> Result<u64, AllocError>
     requires few { length samples.now ≤ 2 ^ 60 }
     requires early { f ≤ 2 ^ 60 }
-    ensures { IfOk result (λ next. (later : List ℕ) → starts.new.items ++ starts_from (line_shape line) samples.now next later
+    ensures { IfOk result (λ next. (later : List ℕ)
+        → starts.new.items ++ starts_from (line_shape line) samples.now next later
         ≡ starts.old.items ++ starts_from (line_shape line) samples.now from (f ∷ later)) }
 {
     if f < from {
@@ -304,7 +314,9 @@ fn add_note(
     end: u64,
     outs: &mut Vec<Out>,
 ) -> Result<(), AllocError>
-    ensures { OnOk result (outs.new.items ≡ outs.old.items ++ (if is_wanted then span_note class f end 0 0 ∷ [] else [])) }
+    ensures { OnOk result
+        (outs.new.items ≡ outs.old.items
+        ++ (if is_wanted then span_note class f end 0 0 ∷ [] else [])) }
 {
     if is_wanted {
         outs.push(span_note(class, f, end, 0, 0))?;
@@ -323,7 +335,8 @@ fn add_told(
     outs: &mut Vec<Out>,
 ) -> Result<(), AllocError>
     requires { value < 2 ^ line.opts.bits }
-    ensures { OnOk result (outs.new.items ≡ outs.old.items ++ told_outs line.opts f end value parity stop) }
+    ensures { OnOk result
+        (outs.new.items ≡ outs.old.items ++ told_outs line.opts f end value parity stop) }
 {
     outs.push(span_note(1, f, end, value, 0))?;
     add_note(2, parity, f, end, outs)?;
@@ -350,7 +363,8 @@ fn add_frame(
     levels: &[bool],
     outs: &mut Vec<Out>,
 ) -> Result<(), AllocError>
-    ensures { OnOk result (outs.new.items ≡ outs.old.items ++ frame_outs line.opts f end levels.now) }
+    ensures { OnOk result
+        (outs.new.items ≡ outs.old.items ++ frame_outs line.opts f end levels.now) }
 {
     let value = data_of(line, levels);
     let parity = parity_wrong(line, levels);
@@ -358,7 +372,8 @@ fn add_frame(
     add_told(line, f, end, value, parity, stop, outs)
 }
 
-// A line that is low from f up to r, where a frame was low at all its points: a break, if it is long enough.
+// A line that is low from f up to r, where a frame was low at all its points: a break, if it is
+// long enough.
 fn add_break(line: Line, f: u64, r: u64, outs: &mut Vec<Out>) -> Result<(), AllocError>
     ensures { OnOk result (outs.new.items ≡ outs.old.items ++ break_outs line.opts line.rate f r) }
 {
@@ -371,7 +386,8 @@ fn add_break(line: Line, f: u64, r: u64, outs: &mut Vec<Out>) -> Result<(), Allo
 
 fn add_look(line: Line, f: u64, seen: &Look, outs: &mut Vec<Out>) -> Result<(), AllocError>
     requires early { f ≤ 2 ^ 60 }
-    ensures { OnOk result (outs.new.items ≡ outs.old.items ++ look_outs (line_shape line) f (shown seen.now)) }
+    ensures { OnOk result
+        (outs.new.items ≡ outs.old.items ++ look_outs (line_shape line) f (shown seen.now)) }
 {
     let end = f + bit_point(line, last_bit(line));
     match seen {

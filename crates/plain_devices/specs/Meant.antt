@@ -35,10 +35,14 @@ wants Ack kind = phases.is_ack kind
 
 -- where the pointer stands behind a phase
 abbrev pub moved : Chip → ℕ → phases.Meaning → ℕ
-moved chip at phase = if sets chip phase then set_to chip phase % chip.size else (at + reads_of chip phase) % chip.size
+moved chip at phase =
+    if sets chip phase then set_to chip phase % chip.size
+    else (at + reads_of chip phase) % chip.size
 
 abbrev pub clock_moved : ℕ → phases.Meaning → ℕ
-clock_moved at phase = if points phase then clock.set_to phase % 64 else (at + clock.moves phase) % 64
+clock_moved at phase =
+    if points phase then clock.set_to phase % 64
+    else (at + clock.moves phase) % 64
 
 abbrev pub lm75_moved : ℕ → phases.Meaning → ℕ
 lm75_moved at phase = if points phase then thermometer.set_to phase else at

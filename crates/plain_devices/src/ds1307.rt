@@ -1,6 +1,7 @@
 // A DS1307: each phase is told by what it means, and by all those before it.
 ghost use Rattle.std.specs.Prelude.{◌≡◌, ◌++◌, ◌∷◌, ◌+◌, ◌%◌, [], map, length, OnOk, IfOk};
-ghost use Rattle.dev_ds1307.specs.Clock.{byte_outs, clock_outs, number_of, phase_outs, register, step, time_outs};
+ghost use Rattle.dev_ds1307.specs.Clock.{byte_outs, clock_outs, number_of, phase_outs, register};
+ghost use Rattle.dev_ds1307.specs.Clock.{step, time_outs};
 ghost use Rattle.list_cuts.specs.Along.{along};
 ghost use Rattle.plain_devices.specs.Meant.{clock_moved, meant};
 
@@ -97,7 +98,8 @@ fn add_time(
     Ok(())
 }
 
-// Appends what a byte gives behind those before it in its phase, the first of which is at register `from`.
+// Appends what a byte gives behind those before it in its phase, the first of which is at register
+// `from`.
 fn add_byte(
     classes: Classes,
     from: u8,
@@ -105,7 +107,9 @@ fn add_byte(
     byte: Packet,
     outs: &mut Vec<Out>,
 ) -> Result<(), AllocError>
-    ensures { OnOk result (outs.new.items ≡ outs.old.items ++ byte_outs classes.note classes.time classes.piece from before.now byte) }
+    ensures { OnOk result
+        (outs.new.items ≡ outs.old.items
+        ++ byte_outs classes.note classes.time classes.piece from before.now byte) }
 {
     let at = behind(from, before.len());
     outs.push(byte_note(classes.note, byte, byte_of(byte) as u64, at as u64))?;
@@ -121,7 +125,9 @@ fn add_bytes(
     bytes: &[Packet],
     outs: &mut Vec<Out>,
 ) -> Result<(), AllocError>
-    ensures { OnOk result (outs.new.items ≡ outs.old.items ++ along (byte_outs classes.note classes.time classes.piece from) bytes.now) }
+    ensures { OnOk result
+        (outs.new.items ≡ outs.old.items
+        ++ along (byte_outs classes.note classes.time classes.piece from) bytes.now) }
 {
     for (place, byte) in bytes.iter().enumerate() {
         let (before, _) = bytes.split_at(place);
@@ -160,8 +166,8 @@ fn add_phases(meanings: &[Meaning], outs: &mut Vec<Out>) -> Result<(), AllocErro
     Ok(())
 }
 
-/// All that packets give, by the definition of the DS1307: it takes a time that grows as the square of
-/// their number.
+/// All that packets give, by the definition of the DS1307: it takes a time that grows as the square
+/// of their number.
 pub fn clock_outputs_of(
     alloc: Global,
     chip: Chip,

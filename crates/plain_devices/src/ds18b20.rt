@@ -1,6 +1,10 @@
 //! A thermometer DS18B20: each transaction is told by its bytes.
 ghost use Rattle.std.specs.Prelude.{◌≡◌, ◌<◌, ◌≤◌, ◌++◌, ◌∷◌, [], Option, length, map, IfOk, OnOk};
-ghost use Rattle.dev_ds18b20.specs.Probe.{behind_function, behind_own, byte_piece, bytes_in, bytes_outs, crc_of, first_bytes, is_byte, is_own, note_over, nth, own_outs, probe, probe_outs, resolution, scratchpad_outs, spot_of, steps_of, temperature, value, written_outs};
+ghost use Rattle.dev_ds18b20.specs.Probe.{behind_function, behind_own, byte_piece, bytes_in};
+ghost use Rattle.dev_ds18b20.specs.Probe.{bytes_outs, crc_of, first_bytes, is_byte, is_own};
+ghost use Rattle.dev_ds18b20.specs.Probe.{note_over, nth, own_outs, probe, probe_outs, resolution};
+ghost use Rattle.dev_ds18b20.specs.Probe.{scratchpad_outs, spot_of, steps_of, temperature, value};
+ghost use Rattle.dev_ds18b20.specs.Probe.{written_outs};
 ghost use Rattle.plain_devices.specs.ProbeParts.{behind};
 
 use crate::transactions::{Transacts, outputs_by};
@@ -181,7 +185,8 @@ fn add_written(bytes: &[Spot], last: Spot, outs: &mut Vec<Out>) -> Result<(), Al
 
 // Appends what nine bytes say that are read, if there are so many.
 fn add_read(bytes: &[Spot], outs: &mut Vec<Out>) -> Result<(), AllocError>
-    ensures { OnOk result (outs.new.items ≡ outs.old.items ++ first_bytes 8 scratchpad_outs bytes.now) }
+    ensures { OnOk result
+        (outs.new.items ≡ outs.old.items ++ first_bytes 8 scratchpad_outs bytes.now) }
 {
     if bytes.len() < 9 {
         return Ok(());
@@ -192,7 +197,8 @@ fn add_read(bytes: &[Spot], outs: &mut Vec<Out>) -> Result<(), AllocError>
 
 // Appends what three bytes say that are written, if there are so many.
 fn add_three(bytes: &[Spot], outs: &mut Vec<Out>) -> Result<(), AllocError>
-    ensures { OnOk result (outs.new.items ≡ outs.old.items ++ first_bytes 2 written_outs bytes.now) }
+    ensures { OnOk result
+        (outs.new.items ≡ outs.old.items ++ first_bytes 2 written_outs bytes.now) }
 {
     if bytes.len() < 3 {
         return Ok(());

@@ -1,7 +1,10 @@
 // A 24xx EEPROM: each phase is told by what it means, and by all those before it.
-ghost use Rattle.std.specs.Prelude.{◌≡◌, ◌≤◌, ◌<◌, ◌++◌, ◌∷◌, [], map, take, drop, length, OnOk, IfOk};
+ghost use Rattle.std.specs.Prelude.{◌≡◌, ◌≤◌, ◌<◌, ◌++◌, ◌∷◌, [], map, take, drop, length, OnOk};
+ghost use Rattle.std.specs.Prelude.{IfOk};
 ghost use Rattle.std.specs.List.{flat_map, enumerate_from};
-ghost use Rattle.dev_eeprom24.specs.Eeprom.{address_len, data_of, eeprom_outs, has_word, in_page, phase_outs, pointer, read_outs, step, word_note, word_of, write_outs};
+ghost use Rattle.dev_eeprom24.specs.Eeprom.{address_len, data_of, eeprom_outs, has_word, in_page};
+ghost use Rattle.dev_eeprom24.specs.Eeprom.{phase_outs, pointer, read_outs, step, word_note};
+ghost use Rattle.dev_eeprom24.specs.Eeprom.{word_of, write_outs};
 ghost use Rattle.i2c_phases.specs.Phases as phases;
 ghost use Rattle.list_cuts.specs.Along.{along};
 ghost use Rattle.plain_devices.specs.Meant.{meant, moved};
@@ -86,7 +89,9 @@ fn word_note(chip: Chip, bytes: &[Packet], word: u32) -> Out
 
 // Appends the bytes of data behind a word address.
 fn add_data(chip: Chip, word: u32, data: &[Packet], outs: &mut Vec<Out>) -> Result<(), AllocError>
-    ensures { OnOk result (outs.new.items ≡ outs.old.items ++ flat_map (write_outs chip word) (enumerate_from 0 data.now)) }
+    ensures { OnOk result
+        (outs.new.items ≡ outs.old.items
+        ++ flat_map (write_outs chip word) (enumerate_from 0 data.now)) }
 {
     for (place, packet) in data.iter().enumerate() {
         let address = in_page(chip, word, place);
@@ -98,7 +103,8 @@ fn add_data(chip: Chip, word: u32, data: &[Packet], outs: &mut Vec<Out>) -> Resu
 
 // Appends a write phase.
 fn add_write(chip: Chip, bytes: &[Packet], outs: &mut Vec<Out>) -> Result<(), AllocError>
-    ensures { OnOk result (outs.new.items ≡ outs.old.items ++ (phase_outs chip 0 (phases.Writes bytes.now))) }
+    ensures { OnOk result
+        (outs.new.items ≡ outs.old.items ++ (phase_outs chip 0 (phases.Writes bytes.now))) }
 {
     let len = address_len(chip);
     if bytes.len() < len {
@@ -112,7 +118,9 @@ fn add_write(chip: Chip, bytes: &[Packet], outs: &mut Vec<Out>) -> Result<(), Al
 
 // Appends a read phase, from the pointer before it on.
 fn add_read(chip: Chip, from: u32, bytes: &[Packet], outs: &mut Vec<Out>) -> Result<(), AllocError>
-    ensures { OnOk result (outs.new.items ≡ outs.old.items ++ flat_map (read_outs chip from) (enumerate_from 0 bytes.now)) }
+    ensures { OnOk result
+        (outs.new.items ≡ outs.old.items
+        ++ flat_map (read_outs chip from) (enumerate_from 0 bytes.now)) }
 {
     let size = chip.size as u128;
     for (place, packet) in bytes.iter().enumerate() {
@@ -131,7 +139,8 @@ fn add_phase(
     meaning: &Meaning,
     outs: &mut Vec<Out>,
 ) -> Result<(), AllocError>
-    ensures { OnOk result (outs.new.items ≡ outs.old.items ++ phase_outs chip from (meant meaning.now)) }
+    ensures { OnOk result
+        (outs.new.items ≡ outs.old.items ++ phase_outs chip from (meant meaning.now)) }
 {
     match meaning {
         Meaning::Writes(bytes) => add_write(chip, bytes, outs),
@@ -143,7 +152,8 @@ fn add_phase(
 
 // Appends what all phases give, each behind those before it.
 fn add_phases(chip: Chip, meanings: &[Meaning], outs: &mut Vec<Out>) -> Result<(), AllocError>
-    ensures { OnOk result (outs.new.items ≡ outs.old.items ++ along (step chip) (map meant meanings.now)) }
+    ensures { OnOk result
+        (outs.new.items ≡ outs.old.items ++ along (step chip) (map meant meanings.now)) }
 {
     for (place, meaning) in meanings.iter().enumerate() {
         let (before, _) = meanings.split_at(place);
@@ -152,8 +162,8 @@ fn add_phases(chip: Chip, meanings: &[Meaning], outs: &mut Vec<Out>) -> Result<(
     Ok(())
 }
 
-/// All that packets give, by the definition of the EEPROM: it takes a time that grows as the square of
-/// their number.
+/// All that packets give, by the definition of the EEPROM: it takes a time that grows as the square
+/// of their number.
 pub fn outputs_of(alloc: Global, chip: Chip, packets: &[Packet]) -> Result<Vec<Out>, AllocError>
     ensures { IfOk result (λ outs. outs.items ≡ eeprom_outs chip packets.now) }
 {

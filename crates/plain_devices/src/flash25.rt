@@ -2,8 +2,14 @@
 ghost use Rattle.std.specs.Prelude.{◌≡◌, ◌++◌, ◌∷◌, [], length, IfOk, OnOk};
 ghost use Rattle.std.specs.List.{flat_map};
 ghost use Rattle.decoder_core.specs.Outputs as outputs;
-ghost use Rattle.dev_flash25.specs.Flash.{address, behind, behind_dummy, command_of, data_summary, fast_reads, flash, flash_outs, id_outs, in_page, is_word, last_in, miso, mosi, program_outs, programs, read_outs, reads, status_outs, summary, three_bytes, with_three, word_note, word_piece, words_in, words_outs, words_summary, written_outs};
-ghost use Rattle.plain_devices.specs.FlashParts.{at_summary, data_behind, number_outs, whole_summary};
+ghost use Rattle.dev_flash25.specs.Flash.{address, behind, behind_dummy, command_of, data_summary};
+ghost use Rattle.dev_flash25.specs.Flash.{fast_reads, flash, flash_outs, id_outs, in_page, is_word};
+ghost use Rattle.dev_flash25.specs.Flash.{last_in, miso, mosi, program_outs, programs, read_outs};
+ghost use Rattle.dev_flash25.specs.Flash.{reads, status_outs, summary, three_bytes, with_three};
+ghost use Rattle.dev_flash25.specs.Flash.{word_note, word_piece, words_in, words_outs};
+ghost use Rattle.dev_flash25.specs.Flash.{words_summary, written_outs};
+ghost use Rattle.plain_devices.specs.FlashParts.{at_summary, data_behind, number_outs};
+ghost use Rattle.plain_devices.specs.FlashParts.{whole_summary};
 
 use crate::transactions::{Transacts, outputs_by};
 use decoder_core::{span_note, span_piece};
@@ -181,7 +187,9 @@ struct Three {
 
 // Appends an address.
 fn add_address(three: Three, outs: &mut Vec<Out>) -> Result<(), AllocError>
-    ensures { OnOk result (outs.new.items ≡ outs.old.items ++ outputs.span_note 4 three.x.start three.z.end (address three.x three.y three.z) 0 ∷ []) }
+    ensures { OnOk result
+        (outs.new.items ≡ outs.old.items
+        ++ outputs.span_note 4 three.x.start three.z.end (address three.x three.y three.z) 0 ∷ []) }
 {
     let at = address(three.x, three.y, three.z);
     outs.push(span_note(4, three.x.start, three.z.end, at as u64, 0))?;
@@ -221,7 +229,9 @@ fn add_number(
     others: &[Packet],
     outs: &mut Vec<Out>,
 ) -> Result<(), AllocError>
-    ensures { OnOk result (outs.new.items ≡ outs.old.items ++ number_outs command three.x three.y three.z others.now) }
+    ensures { OnOk result
+        (outs.new.items ≡ outs.old.items
+        ++ number_outs command three.x three.y three.z others.now) }
 {
     if matches!(command, Command::Id) {
         return add_id(three, outs);
@@ -232,7 +242,8 @@ fn add_number(
 
 // Appends what the words behind an instruction say that has a number.
 fn add_numbered(command: Command, words: &[Packet], outs: &mut Vec<Out>) -> Result<(), AllocError>
-    ensures { OnOk result (outs.new.items ≡ outs.old.items ++ with_three (number_outs command) words.now) }
+    ensures { OnOk result
+        (outs.new.items ≡ outs.old.items ++ with_three (number_outs command) words.now) }
 {
     if words.len() < 3 {
         return Ok(());
@@ -290,7 +301,9 @@ fn add_count(
     words: &[Packet],
     outs: &mut Vec<Out>,
 ) -> Result<(), AllocError>
-    ensures { OnOk result (outs.new.items ≡ outs.old.items ++ data_summary class span.first span.last at (length words.now)) }
+    ensures { OnOk result
+        (outs.new.items ≡ outs.old.items
+        ++ data_summary class span.first span.last at (length words.now)) }
 {
     if words.is_empty() {
         return Ok(());
@@ -318,7 +331,8 @@ fn add_whole(
     others: &[Packet],
     outs: &mut Vec<Out>,
 ) -> Result<(), AllocError>
-    ensures { OnOk result (outs.new.items ≡ outs.old.items ++ at_summary command span.first span.last at others.now) }
+    ensures { OnOk result
+        (outs.new.items ≡ outs.old.items ++ at_summary command span.first span.last at others.now) }
 {
     match command {
         Command::Read => add_count(7, span, at, others, outs),
@@ -343,7 +357,9 @@ fn add_addressed(
     words: &[Packet],
     outs: &mut Vec<Out>,
 ) -> Result<(), AllocError>
-    ensures { OnOk result (outs.new.items ≡ outs.old.items ++ with_three (whole_summary command span.first span.last) words.now) }
+    ensures { OnOk result
+        (outs.new.items ≡ outs.old.items
+        ++ with_three (whole_summary command span.first span.last) words.now) }
 {
     if words.len() < 3 {
         return Ok(());
@@ -360,7 +376,8 @@ fn add_summary(
     words: &[Packet],
     outs: &mut Vec<Out>,
 ) -> Result<(), AllocError>
-    ensures { OnOk result (outs.new.items ≡ outs.old.items ++ summary command span.first span.last words.now) }
+    ensures { OnOk result
+        (outs.new.items ≡ outs.old.items ++ summary command span.first span.last words.now) }
 {
     match command {
         Command::Read => add_addressed(command, span, words, outs),

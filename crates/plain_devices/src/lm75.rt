@@ -1,6 +1,7 @@
 // An LM75: each phase is told by what it means, and by all those before it.
 ghost use Rattle.std.specs.Prelude.{◌≡◌, ◌++◌, ◌∷◌, [], map, OnOk, IfOk};
-ghost use Rattle.dev_lm75.specs.Thermometer.{lm75_outs, pairs, phase_outs, pointer, read_outs, singles, step, write_outs};
+ghost use Rattle.dev_lm75.specs.Thermometer.{lm75_outs, pairs, phase_outs, pointer, read_outs};
+ghost use Rattle.dev_lm75.specs.Thermometer.{singles, step, write_outs};
 ghost use Rattle.list_cuts.specs.Along.{along};
 ghost use Rattle.plain_devices.specs.Meant.{lm75_moved, meant};
 
@@ -116,8 +117,8 @@ fn add_phases(meanings: &[Meaning], outs: &mut Vec<Out>) -> Result<(), AllocErro
     Ok(())
 }
 
-/// All that packets give, by the definition of the LM75: it takes a time that grows as the square of
-/// their number.
+/// All that packets give, by the definition of the LM75: it takes a time that grows as the square
+/// of their number.
 pub fn lm75_outputs_of(
     alloc: Global,
     chip: Chip,

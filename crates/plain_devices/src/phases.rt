@@ -1,7 +1,9 @@
 // The phases of I2C: the whole list of packets, cut into parts, and what each means to a device.
 ghost use Rattle.std.specs.Prelude.{◌≡◌, ◌&&◌, ◌==◌, ◌++◌, ◌∷◌, [], length, map, IfOk, OnOk};
 ghost use Rattle.std.specs.List.{flat_map};
-ghost use Rattle.i2c_phases.specs.Phases.{acknowledged, data_in, first_of, is_ack, is_address, is_data, is_mark, is_six, is_start, is_stop, meaning, meanings, phase_in};
+ghost use Rattle.i2c_phases.specs.Phases.{acknowledged, data_in, first_of, is_ack, is_address};
+ghost use Rattle.i2c_phases.specs.Phases.{is_data, is_mark, is_six, is_start, is_stop, meaning};
+ghost use Rattle.i2c_phases.specs.Phases.{meanings, phase_in};
 ghost use Rattle.plain_devices.specs.Meant.{found, meant, wants};
 
 use i2c_phases::byte_of;
@@ -139,9 +141,11 @@ fn is_six(bytes: &[Packet]) -> bool
     }
 }
 
-// Whether a phase with these bytes, of which these stand behind the acknowledge, is a general call's reset.
+// Whether a phase with these bytes, of which these stand behind the acknowledge, is a general
+// call's reset.
 fn is_reset(address: Packet, all: &[Packet], behind: &[Packet]) -> bool
-    ensures { result ≡ ((address.a == 0 && address.b == 0) && (length all.now == length behind.now && is_six behind.now)) }
+    ensures { result ≡ ((address.a == 0 && address.b == 0)
+        && (length all.now == length behind.now && is_six behind.now)) }
 {
     (address.a == 0 && address.b == 0) && (all.len() == behind.len() && is_six(behind))
 }
@@ -182,7 +186,9 @@ fn add_part(
     part: &[Packet],
     meanings: &mut Vec<Meaning>,
 ) -> Result<(), AllocError>
-    ensures { OnOk result (map meant meanings.new.items ≡ map meant meanings.old.items ++ map (meaning device resets) (phase_in part.now)) }
+    ensures { OnOk result
+        (map meant meanings.new.items ≡ map meant meanings.old.items
+        ++ map (meaning device resets) (phase_in part.now)) }
 {
     match part.split_first() {
         Some((head, phase)) => {
@@ -204,7 +210,9 @@ fn add_parts(
     parts: &[Vec<Packet>],
     meanings: &mut Vec<Meaning>,
 ) -> Result<(), AllocError>
-    ensures { OnOk result (map meant meanings.new.items ≡ map meant meanings.old.items ++ map (meaning device resets) (flat_map phase_in (map (λ part. part.items) parts.now))) }
+    ensures { OnOk result
+        (map meant meanings.new.items ≡ map meant meanings.old.items
+        ++ map (meaning device resets) (flat_map phase_in (map (λ part. part.items) parts.now))) }
 {
     for part in parts {
         add_part(alloc, device, resets, part, meanings)?;

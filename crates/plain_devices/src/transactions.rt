@@ -1,6 +1,7 @@
 // Transactions: the whole list of packets, cut where one ends, and what each gives.
 ghost use Rattle.std.specs.Prelude.{◌≡◌, ◌++◌, ◌∷◌, [], IfOk, OnOk};
-ghost use Rattle.packet_walks.specs.Transactions.{Device, closed_outs, from_first, open_outs, transaction_outs};
+ghost use Rattle.packet_walks.specs.Transactions.{Device, closed_outs, from_first, open_outs};
+ghost use Rattle.packet_walks.specs.Transactions.{transaction_outs};
 
 use la_base::{Out, Packet};
 use std::alloc::{AllocError, Global};
@@ -19,11 +20,13 @@ pub trait Transacts {
 
     /// Appends what packets inside of one give.
     fn add_inside(&self, packets: &[Packet], outs: &mut Vec<Out>) -> Result<(), AllocError>
-        ensures { OnOk result (outs.new.items ≡ outs.old.items ++ (device self.now).inside packets.now) };
+        ensures { OnOk result
+            (outs.new.items ≡ outs.old.items ++ (device self.now).inside packets.now) };
 
     /// Appends what the packet gives that ends it behind these.
     fn add_closing(&self, packets: &[Packet], outs: &mut Vec<Out>) -> Result<(), AllocError>
-        ensures { OnOk result (outs.new.items ≡ outs.old.items ++ (device self.now).closing packets.now) };
+        ensures { OnOk result
+            (outs.new.items ≡ outs.old.items ++ (device self.now).closing packets.now) };
 }
 
 // From the first packet on that begins a transaction.
@@ -45,7 +48,8 @@ fn add_open<D: Transacts>(
     transaction: &[Packet],
     outs: &mut Vec<Out>,
 ) -> Result<(), AllocError>
-    ensures { OnOk result (outs.new.items ≡ outs.old.items ++ open_outs (D.device device.now) transaction.now) }
+    ensures { OnOk result
+        (outs.new.items ≡ outs.old.items ++ open_outs (D.device device.now) transaction.now) }
 {
     match transaction.split_first() {
         Some((_, packets)) => device.add_inside(packets, outs),
@@ -59,7 +63,8 @@ fn add_closed<D: Transacts>(
     transaction: &[Packet],
     outs: &mut Vec<Out>,
 ) -> Result<(), AllocError>
-    ensures { OnOk result (outs.new.items ≡ outs.old.items ++ closed_outs (D.device device.now) transaction.now) }
+    ensures { OnOk result
+        (outs.new.items ≡ outs.old.items ++ closed_outs (D.device device.now) transaction.now) }
 {
     match transaction.split_first() {
         Some((_, packets)) => {
@@ -85,7 +90,8 @@ pub fn outputs_by<D: Transacts>(
     device: &D,
     packets: &[Packet],
 ) -> Result<Vec<Out>, AllocError>
-    ensures { IfOk result (λ outs. outs.items ≡ transaction_outs (D.device device.now) packets.now) }
+    ensures { IfOk result
+        (λ outs. outs.items ≡ transaction_outs (D.device device.now) packets.now) }
 {
     let mut outs = Vec::new(alloc);
     let mut rest: Vec<Packet> = Vec::new(alloc);

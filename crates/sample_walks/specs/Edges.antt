@@ -1,4 +1,5 @@
--- The edges of line 0, as an example of a decoder: its definition, what it waits for, and what it stands for.
+-- The edges of line 0, as an example of a decoder: its definition, what it waits for, and what it
+-- stands for.
 use Rattle.std.specs.Prelude.{ℕ, Bool, true, false, List, [], ◌∷◌, map, Option, Some, None}
 use Rattle.la_base.specs.Samples.{is_high}
 use Rattle.la_base.specs.declared.wires.Out.{Out}

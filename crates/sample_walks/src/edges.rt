@@ -7,9 +7,10 @@ ghost use Rattle.la_base.specs.Samples.{is_high};
 ghost use Rattle.list_cuts.specs.Bits.{bit_of};
 ghost use Rattle.sample_walks.specs.Edges.{edge_notes, edge_alts, EndsAtEdge};
 ghost use Rattle.sample_walks.specs.laws.EdgeLaws.{edges};
-ghost use Rattle.sample_walks.specs.laws.EventDecoders.{quiet_of, nothing_of, prefix_of, order_of, few_of, on_wire_of, one_stop_of};
+ghost use Rattle.sample_walks.specs.laws.EventDecoders.{quiet_of, nothing_of, prefix_of, order_of};
+ghost use Rattle.sample_walks.specs.laws.EventDecoders.{few_of, on_wire_of, one_stop_of};
 
-use decoder_core::{LogicMachine, Outs, note_at};
+use decoder_core::{Configured, Driver, LogicMachine, Outs, is_send, note_at};
 use la_base::{Word, pin};
 use wait_cond::{Alt, Cond, Waiter};
 
@@ -34,11 +35,13 @@ fn level(value: Word) -> u64
     pin(value, 0) as u64
 }
 
-impl LogicMachine for Edges {
+impl Configured for Edges {
     type Setup = ();
 
     ghost setup = { λ _. tt };
+}
 
+impl LogicMachine for Edges {
     ghost outs = { λ _ list. edge_notes list };
 
     ghost near = { λ _ list. length list };
@@ -88,5 +91,11 @@ impl LogicMachine for Edges {
 
     ghost one_machine = { λ _ _ _ _ _ _. refl };
 
-    ghost one_stop = { λ _ _ seen more _ ends also rests. one_stop_of edges tt seen more (ends, refl) rests also };
+    ghost one_stop = { λ _ _ seen more _ ends also rests.
+        one_stop_of edges tt seen more (ends, refl) rests also };
+}
+
+// It may move to another thread, and so may what drives it.
+fn machine_is_send() {
+    is_send::<Driver<Edges>>();
 }

@@ -1,7 +1,7 @@
-//! Decoders as walks over samples. A decoder whose definition over whole lists gives, with one more sample,
-//! what a state says that keeps what the samples before it left, has all that a decoder of samples owes. It
-//! shows ten facts of one state and one sample; for a decoder that goes by events of neighbouring samples,
-//! eleven of one state and one event. `Edges` is the smallest example.
+//! Decoders as walks over samples. A decoder whose definition over whole lists gives, with one more
+//! sample, what a state says that keeps what the samples before it left, has all that a decoder of
+//! samples owes. It shows ten facts of one state and one sample; for a decoder that goes by events
+//! of neighbouring samples, eleven of one state and one event. `Edges` is the smallest example.
 #![tactic(auto)]
 
 mod edges;

@@ -1,5 +1,6 @@
 -- Each packet that an event gives is of the wire of I2C.
-use Rattle.std.proofs.Common.{ℕ, Bool, true, false, [], Option, Some, None, refl, if◌then◌else◌, ◌==◌}
+use Rattle.std.proofs.Common.{ℕ, Bool, true, false, [], Option, Some, None, refl, if◌then◌else◌}
+use Rattle.std.proofs.Common.{◌==◌}
 use Rattle.std.specs.Prelude.{is_some}
 use Rattle.la_base.specs.declared.wires.Wire.TheVariants.{I2c}
 use Rattle.decoder_core.specs.Promises.{PacketsOn}
@@ -22,7 +23,8 @@ first_on : (own : Option ℕ) (first last byte : ℕ) → PacketsOn I2c (first_o
 first_on None first last byte = (refl, tt)
 first_on (Some address) first last byte = (refl, tt)
 
-byte_on : (known : ℕ → Option ℕ) (role : Role) (first last byte : ℕ) → PacketsOn I2c (byte_outs known role first last byte)
+byte_on : (known : ℕ → Option ℕ) (role : Role) (first last byte : ℕ)
+    → PacketsOn I2c (byte_outs known role first last byte)
 byte_on known First first last byte = first_on (known byte) first last byte
 byte_on known (Lower two) first last byte = (refl, tt)
 byte_on known Command first last byte = (refl, tt)
@@ -32,7 +34,9 @@ byte_on known Read first last byte = (refl, tt)
 clock_on : (s : Segment) (k : ℕ) (level : Bool) → PacketsOn I2c (clock_gives s k level)
 clock_on s k level = by (s.bits == 7) (s.bits == 8)
   where
-    by : (seven eight : Bool) → PacketsOn I2c (if seven then byte_outs (λ own. read_by own s.ten) s.role s.first k (grown s.byte level) else (if eight then ack_outs k level else []))
+    by : (seven eight : Bool) → PacketsOn I2c
+        (if seven then byte_outs (λ own. read_by own s.ten) s.role s.first k (grown s.byte level)
+        else (if eight then ack_outs k level else []))
     by true eight = byte_on (λ own. read_by own s.ten) s.role s.first k (grown s.byte level)
     by false true = ack_on k level
     by false false = tt

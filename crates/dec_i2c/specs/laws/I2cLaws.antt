@@ -4,7 +4,8 @@ use Rattle.list_cuts.specs.Parts.{parts}
 use Rattle.decoder_core.specs.Promises.{GivesNothing, KeepsFront, PacketsInOrder, AddsFew}
 use Rattle.sample_walks.specs.Walks.{walked, given}
 use Rattle.sample_walks.specs.Events.{by_events}
-use Rattle.sample_walks.specs.laws.EventDecoders.{EventDecoder, nothing_of, prefix_of, few_of, order_of}
+use Rattle.sample_walks.specs.laws.EventDecoders.{EventDecoder, nothing_of, prefix_of, few_of}
+use Rattle.sample_walks.specs.laws.EventDecoders.{order_of}
 use Rattle.sample_walks.specs.laws.EventWalks.{events_given, events_walked}
 use Rattle.dec_i2c.specs.declared.held.Segment.{Segment}
 use Rattle.dec_i2c.specs.Bus.{Event, events, events_outs, is_mark, i2c_outs, i2c_near}
@@ -14,15 +15,18 @@ use Rattle.dec_i2c.specs.laws.SoundLaws.{i2c_fits, i2c_events}
 
 module _ (scl sda : ℕ) where
   -- they are those of the walk, and the near place is where the walk says
-  pub i2c_given : (list : List ℕ) → i2c_outs scl sda list ≡ given (by_events (i2c_walk scl sda)) list
+  pub i2c_given : (list : List ℕ)
+      → i2c_outs scl sda list ≡ given (by_events (i2c_walk scl sda)) list
   unfolding i2c_outs
   i2c_given list = events_given (i2c_walk scl sda) events_outs held_after (i2c_pushed scl sda) list
 
-  pub near_walked : (list : List ℕ) → i2c_near scl sda list ≡ near_by (walked (by_events (i2c_walk scl sda)) list) (length list)
+  pub near_walked : (list : List ℕ)
+      → i2c_near scl sda list ≡ near_by (walked (by_events (i2c_walk scl sda)) list) (length list)
   unfolding i2c_near
   near_walked list =
       near_is (parts is_mark (events scl sda list)) (length list)
-      ∙ ap (λ (h : Option Segment). near_by h (length list)) (events_walked (i2c_walk scl sda) events_outs held_after (i2c_pushed scl sda) list)
+      ∙ ap (λ (h : Option Segment). near_by h (length list))
+      (events_walked (i2c_walk scl sda) events_outs held_after (i2c_pushed scl sda) list)
 
   abbrev pub i2c_decoder : EventDecoder (Option Segment) Event
   i2c_decoder = record {

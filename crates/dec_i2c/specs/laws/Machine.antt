@@ -1,5 +1,7 @@
--- What an I2C decoder waits for, what it keeps of a bus between two events, and what one event gives and changes.
-use Rattle.std.specs.Prelude.{ℕ, ◌+◌, ◌*◌, ◌%◌, ◌^◌, nat_lt, Bool, true, false, ◌==◌, ◌&&◌, if◌then◌else◌, List, [], ◌∷◌, length, Option, Some, None, is_some}
+-- What an I2C decoder waits for, what it keeps of a bus between two events, and what one event
+-- gives and changes.
+use Rattle.std.specs.Prelude.{ℕ, ◌+◌, ◌*◌, ◌%◌, ◌^◌, nat_lt, Bool, true, false, ◌==◌, ◌&&◌}
+use Rattle.std.specs.Prelude.{if◌then◌else◌, List, [], ◌∷◌, length, Option, Some, None, is_some}
 use Rattle.la_base.specs.Samples.{is_high}
 use Rattle.la_base.specs.declared.wires.Out.{Out}
 use Rattle.la_base.specs.declared.wires.Wire.TheVariants.{I2c as I2cWire}
@@ -12,15 +14,29 @@ use Rattle.sample_walks.specs.Events.{EventWalk}
 use Rattle.dec_i2c.specs.declared.held.Role.{Role}
 use Rattle.dec_i2c.specs.declared.held.Role.TheVariants.{First, Lower, Command, Write, Read}
 use Rattle.dec_i2c.specs.declared.held.Segment.{Segment}
-use Rattle.dec_i2c.specs.Bytes.{is_write_prefix, two_bits, ten_bits, read_by, role_second, role_behind, byte_outs}
-use Rattle.dec_i2c.specs.Bus.{Event, Start, Stop, Clock, place_of, value_of, values_of, bytes_of, bytes_in, event_at, start_outs, stop_outs, ack_outs, is_mark, segment_in}
+use Rattle.dec_i2c.specs.Bytes.{is_write_prefix, two_bits, ten_bits, read_by, role_second}
+use Rattle.dec_i2c.specs.Bytes.{role_behind, byte_outs}
+use Rattle.dec_i2c.specs.Bus.{Event, Start, Stop, Clock, place_of, value_of, values_of, bytes_of}
+use Rattle.dec_i2c.specs.Bus.{bytes_in, event_at, start_outs, stop_outs, ack_outs, is_mark}
+use Rattle.dec_i2c.specs.Bus.{segment_in}
 
--- SCL stays high and SDA rises or falls; or SCL rises. More alternatives would cost each sample more
+-- SCL stays high and SDA rises or falls; or SCL rises. More alternatives would cost each sample
+-- more
 abbrev pub mark_alt : ℕ → ℕ → Alt
-mark_alt scl sda = record { low = 0; high = 2 ^ scl; rise = 0; fall = 0; edge = 2 ^ sda; steady = 2 ^ scl; skip = 0 }
+mark_alt scl sda =
+    record {
+      low = 0;
+      high = 2 ^ scl;
+      rise = 0;
+      fall = 0;
+      edge = 2 ^ sda;
+      steady = 2 ^ scl;
+      skip = 0;
+    }
 
 abbrev pub clock_alt : ℕ → Alt
-clock_alt scl = record { low = 0; high = 0; rise = 2 ^ scl; fall = 0; edge = 0; steady = 0; skip = 0 }
+clock_alt scl =
+    record { low = 0; high = 0; rise = 2 ^ scl; fall = 0; edge = 0; steady = 0; skip = 0 }
 
 abbrev pub i2c_alts : ℕ → ℕ → List Alt
 i2c_alts scl sda = mark_alt scl sda ∷ clock_alt scl ∷ []
@@ -29,12 +45,13 @@ i2c_alts scl sda = mark_alt scl sda ∷ clock_alt scl ∷ []
 abbrev pub event_met : ℕ → ℕ → Bool → Event
 event_met met k level = if met == 1 then (if level then Stop k else Start k) else Clock k level
 
--- the ten-bit address that can be read from behind a segment with these bytes, where that one could before it: the one it
--- writes to, or again the one it reads from
+-- the ten-bit address that can be read from behind a segment with these bytes, where that one could
+-- before it: the one it writes to, or again the one it reads from
 abbrev pub left_by : Option ℕ → List ℕ → Option ℕ
 left_by ten [] = None
 left_by ten (first ∷ []) = read_by first ten
-left_by ten (first ∷ lower ∷ others) = if is_write_prefix first then Some (ten_bits (two_bits first) lower) else read_by first ten
+left_by ten (first ∷ lower ∷ others) =
+    if is_write_prefix first then Some (ten_bits (two_bits first) lower) else read_by first ten
 
 -- behind some parts
 abbrev pub left_behind : Option ℕ → List (List Event) → Option ℕ
@@ -67,7 +84,8 @@ held_of ten (Some clocks) = Some (segment_by ten clocks)
 abbrev pub held_last : Option ℕ → List (List Event) → Option Segment
 held_last ten [] = None
 held_last ten (part ∷ []) = held_of ten (segment_in part)
-held_last ten (part ∷ next ∷ others) = held_last (left_by ten (bytes_in (segment_in part))) (next ∷ others)
+held_last ten (part ∷ next ∷ others) =
+    held_last (left_by ten (bytes_in (segment_in part))) (next ∷ others)
 
 abbrev pub held_after : List Event → Option Segment
 held_after list = held_last None (parts is_mark list)
@@ -75,7 +93,8 @@ held_after list = held_last None (parts is_mark list)
 -- where the byte starts that has begun and isn't given yet, else the number of samples
 abbrev pub near_by : Option Segment → ℕ → ℕ
 near_by None next = next
-near_by (Some segment) next = if nat_lt 0 segment.bits && nat_lt segment.bits 8 then segment.first else next
+near_by (Some segment) next =
+    if nat_lt 0 segment.bits && nat_lt segment.bits 8 then segment.first else next
 
 -- the ten-bit address that an open segment leaves to the next: none without a first byte
 abbrev pub handed_by : Role → Option ℕ → Option ℕ
@@ -112,20 +131,36 @@ ten_next Read byte ten = ten
 abbrev pub start_of : ℕ → ℕ → ℕ → ℕ
 start_of bits first k = if bits == 0 then k else first
 
--- what a clock at place k gives in an open segment of this role, with so many bits of a byte that began at `first`
+-- what a clock at place k gives in an open segment of this role, with so many bits of a byte that
+-- began at `first`
 abbrev pub clock_outs : (ℕ → Option ℕ) → Role → ℕ → ℕ → ℕ → ℕ → Bool → List Out
 clock_outs known role bits byte first k level =
-    if bits == 7 then byte_outs known role first k (grown byte level) else (if bits == 8 then ack_outs k level else [])
+    if bits == 7 then byte_outs known role first k (grown byte level)
+    else (if bits == 8 then ack_outs k level else [])
 
 abbrev pub clock_gives : Segment → ℕ → Bool → List Out
 clock_gives s k level = clock_outs (λ own. read_by own s.ten) s.role s.bits s.byte s.first k level
 
 -- and what is then kept
 abbrev pub byte_next : Segment → ℕ → Segment
-byte_next s byte = record { role = role_next s.role byte; ten = ten_next s.role byte s.ten; bits = 8; byte = byte; first = s.first }
+byte_next s byte =
+    record {
+      role = role_next s.role byte;
+      ten = ten_next s.role byte s.ten;
+      bits = 8;
+      byte = byte;
+      first = s.first;
+    }
 
 abbrev pub bit_next : Segment → ℕ → ℕ → Segment
-bit_next s byte k = record { role = s.role; ten = s.ten; bits = s.bits + 1; byte = byte; first = start_of s.bits s.first k }
+bit_next s byte k =
+    record {
+      role = s.role;
+      ten = s.ten;
+      bits = s.bits + 1;
+      byte = byte;
+      first = start_of s.bits s.first k;
+    }
 
 abbrev pub group_next : Segment → Segment
 group_next s = record { role = s.role; ten = s.ten; bits = 0; byte = 0; first = 0 }
@@ -153,8 +188,8 @@ next held (Stop k) = None
 next None (Clock k level) = None
 next (Some segment) (Clock k level) = Some (clock_next segment k level)
 
--- an event that gives nothing and ends nothing, by the set of alternatives that it meets: a clock before the eighth of a byte, or
--- one outside of a segment
+-- an event that gives nothing and ends nothing, by the set of alternatives that it meets: a clock
+-- before the eighth of a byte, or one outside of a segment
 abbrev pub is_clock_before : Option Segment → Bool
 is_clock_before None = true
 is_clock_before (Some segment) = nat_lt segment.bits 7
@@ -165,7 +200,8 @@ is_bit held met = if met == 1 then false else is_clock_before held
 -- what is kept where such an event is taken, and no other
 abbrev pub bit_taken : Option Segment → ℕ → Bool → Option Segment
 bit_taken None k level = None
-bit_taken (Some segment) k level = Some (if nat_lt segment.bits 7 then bit_next segment (grown segment.byte level) k else segment)
+bit_taken (Some segment) k level =
+    Some (if nat_lt segment.bits 7 then bit_next segment (grown segment.byte level) k else segment)
 
 abbrev pub taken : Option Segment → ℕ → ℕ → Bool → Option Segment
 taken held met k level = if met == 1 then held else bit_taken held k level

@@ -10,12 +10,18 @@ use Rattle.dec_i2c.specs.Opening.{bus_of, StandsFor}
 use Rattle.dec_i2c.specs.laws.I2cLaws.{i2c_decoder}
 use Rattle.dec_i2c.specs.laws.Machine.{i2c_alts, i2c_walk}
 
-pub one_i2c : (one other : I2c) (list : List ℕ) → bus_of one ≡ bus_of other → StandsFor one list → StandsFor other list → one ≡ other
+pub one_i2c : (one other : I2c) (list : List ℕ) → bus_of one ≡ bus_of other → StandsFor one list
+    → StandsFor other list → one ≡ other
 one_i2c one other list same stands also =
-    let held : one.held ≡ other.held = stands.1 ∙ (λ i. walked (by_events (i2c_walk (same i).scl (same i).sda)) list) ∙ sym also.1 in
+    let held : one.held ≡ other.held =
+    stands.1 ∙ (λ i. walked (by_events (i2c_walk (same i).scl (same i).sda)) list)
+    ∙ sym also.1 in
     λ i. record { bus = same i; held = held i }
 
-pub i2c_one_stop : (one other : I2c) (seen more : List ℕ) → bus_of one ≡ bus_of other → StandsFor one seen → StandsFor other (seen ++ more) → Rests (i2c_alts one.bus.scl one.bus.sda) seen more → more ≡ []
+pub i2c_one_stop : (one other : I2c) (seen more : List ℕ) → bus_of one ≡ bus_of other
+    → StandsFor one seen → StandsFor other (seen ++ more)
+    → Rests (i2c_alts one.bus.scl one.bus.sda) seen more → more ≡ []
 i2c_one_stop one other seen more same stands also none =
     one_stop_of (i2c_decoder one.bus.scl one.bus.sda) one.held seen more stands none
-    (subst (λ (bus : Bus). EndsThere (by_events (i2c_walk bus.scl bus.sda)) (seen ++ more)) (sym same) also.0)
+    (subst (λ (bus : Bus). EndsThere (by_events (i2c_walk bus.scl bus.sda)) (seen ++ more))
+    (sym same) also.0)

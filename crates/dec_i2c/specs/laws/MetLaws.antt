@@ -1,5 +1,7 @@
 -- The set of alternatives that a sample meets says which event is there.
-use Rattle.std.proofs.Common.{◌≡◌, ◌≢◌, ◌∙◌, inl, inr, ◌⊎◌, ℕ, zero, suc, ◌<◌, ◌^◌, Bool, true, false, List, [], ◌∷◌, slice_get, Option, Some, None, refl, sym, ap, arith}
+use Rattle.std.proofs.Common.{◌≡◌, ◌≢◌, ◌∙◌, inl, inr, ◌⊎◌, ℕ, zero, suc, ◌<◌, ◌^◌, Bool, true}
+use Rattle.std.proofs.Common.{false, List, [], ◌∷◌, slice_get, Option, Some, None, refl, sym, ap}
+use Rattle.std.proofs.Common.{arith}
 use Rattle.std.specs.Int.{bit_at}
 use Rattle.std.proofs.lemmas.Bool.{cases_eq}
 use Rattle.std.proofs.lemmas.Option.{slice_get_within}
@@ -10,7 +12,8 @@ use Rattle.wait_cond.specs.Meets.{Rises, Falls, MeetsAt}
 use Rattle.wait_cond.specs.Stops.{MetSet}
 use Rattle.wait_cond.proofs.ChainLemmas.{one_set}
 use Rattle.list_cuts.specs.Bits.{bit_of}
-use Rattle.sample_walks.specs.laws.AltLaws.{no_line, at_line, level_bit, one_met, none_met, same_alt}
+use Rattle.sample_walks.specs.laws.AltLaws.{no_line, at_line, level_bit, one_met, none_met}
+use Rattle.sample_walks.specs.laws.AltLaws.{same_alt}
 use Rattle.dec_i2c.specs.Bus.{Event, Start, Stop, Clock, event_by, event_at}
 use Rattle.dec_i2c.specs.laws.Machine.{mark_alt, clock_alt, i2c_alts, event_met}
 
@@ -39,7 +42,9 @@ module _ (scl sda from q before now : ℕ) where
       rise = λ line one. no_line line one;
       fall = λ line one. no_line line one;
       edge = at_line sda Moves moves;
-      steady = at_line scl (λ line. (¬ Rises (Some before) now line) × (¬ Falls (Some before) now line)) (λ up. absurd (omega (arith, was, up.0)), λ down. absurd (omega (arith, is, down.1)));
+      steady = at_line scl
+          (λ line. (¬ Rises (Some before) now line) × (¬ Falls (Some before) now line))
+          (λ up. absurd (omega (arith, was, up.0)), λ down. absurd (omega (arith, is, down.1)));
     };
     skipped = λ some. absurd (some refl);
   }
@@ -70,23 +75,38 @@ module _ (scl sda from q before now : ℕ) where
     | inr high ↦ omega (arith, high, bit_at-lt before scl)
   ]
 
-  facts : (i : ℕ) (alt : Alt) → slice_get alts i ≡ Some alt → Meets alt → (bit_at now scl ≡ 1) × Facts i
+  facts : (i : ℕ) (alt : Alt) → slice_get alts i ≡ Some alt → Meets alt
+      → (bit_at now scl ≡ 1) × Facts i
   facts zero alt at meets =
       let m = same_alt alts (Some before) now from q (mark_alt scl sda) alt at meets in
-      let is : bit_at now scl ≡ 1 = m.lines.high scl (bit_at-pow_same scl) in
-      (is, (was_high is (m.lines.steady scl (bit_at-pow_same scl)).0, m.lines.edge sda (bit_at-pow_same sda)))
+      let is : bit_at now scl ≡ 1 = m.lines.high scl (bit_at-pow_same scl) in (
+        is,
+        (
+          was_high is (m.lines.steady scl (bit_at-pow_same scl)).0,
+          m.lines.edge sda
+              (bit_at-pow_same sda),
+        ),
+      )
   facts (suc zero) alt at meets =
       let m = same_alt alts (Some before) now from q (clock_alt scl) alt at meets in
       let up = m.lines.rise scl (bit_at-pow_same scl) in
       (up.1, (up.0, up.1))
-  facts (suc (suc i)) alt at meets = let within : suc (suc i) < 2 = slice_get_within alts (suc (suc i)) alt at in absurd (omega (arith, within))
+  facts (suc (suc i)) alt at meets =
+      let within : suc (suc i) < 2 = slice_get_within alts (suc (suc i)) alt at in
+      absurd (omega (arith, within))
 
   -- one alternative is met and no other
-  met_alone : (j : ℕ) (alt : Alt) → slice_get alts j ≡ Some alt → Meets alt → ((i : ℕ) → Facts i → i ≡ j) → MetSet alts (Some before) now from q (2 ^ j)
-  met_alone j alt at meets only = one_met alts (Some before) now from q j alt at meets (λ i other there meet. only i (facts i other there meet).1)
+  met_alone : (j : ℕ) (alt : Alt) → slice_get alts j ≡ Some alt → Meets alt
+      → ((i : ℕ) → Facts i → i ≡ j) → MetSet alts (Some before) now from q (2 ^ j)
+  met_alone j alt at meets only =
+      one_met alts (Some before) now from q j alt at meets
+      (λ i other there meet. only i (facts i other there meet).1)
 
-  met_by_none : ((i : ℕ) → bit_at now scl ≡ 1 → Facts i → ⊥) → MetSet alts (Some before) now from q 0
-  met_by_none none = none_met alts (Some before) now from q (λ i other there meet. let f = facts i other there meet in none i f.0 f.1)
+  met_by_none : ((i : ℕ) → bit_at now scl ≡ 1 → Facts i → ⊥)
+      → MetSet alts (Some before) now from q 0
+  met_by_none none =
+      none_met alts (Some before) now from q
+      (λ i other there meet. let f = facts i other there meet in none i f.0 f.1)
 
   only_mark : bit_at before scl ≡ 1 → (i : ℕ) → Facts i → i ≡ 0
   only_mark high zero f = refl
@@ -109,30 +129,45 @@ module _ (scl sda from q before now : ℕ) where
   no_clock : bit_at now scl ≡ 0 → (i : ℕ) → bit_at now scl ≡ 1 → Facts i → ⊥
   no_clock low i one f = absurd (omega (arith, low, one))
 
-  set_by : (a b c d : Bool) → bit_at before scl ≡ bit_of a → bit_at now scl ≡ bit_of b → bit_at before sda ≡ bit_of c → bit_at now sda ≡ bit_of d
+  set_by : (a b c d : Bool) → bit_at before scl ≡ bit_of a → bit_at now scl ≡ bit_of b
+      → bit_at before sda ≡ bit_of c → bit_at now sda ≡ bit_of d
       → MetSet alts (Some before) now from q (code_of (event_by q a b c d))
   set_by true true true true was is dw di = met_by_none (λ i one. no_fact was (dw ∙ sym di) i)
-  set_by true true true false was is dw di = met_alone 0 (mark_alt scl sda) refl (mark_meets was is (inr (dw, di))) (only_mark was)
-  set_by true true false true was is dw di = met_alone 0 (mark_alt scl sda) refl (mark_meets was is (inl (dw, di))) (only_mark was)
+  set_by true true true false was is dw di =
+      met_alone 0 (mark_alt scl sda) refl (mark_meets was is (inr (dw, di))) (only_mark was)
+  set_by true true false true was is dw di =
+      met_alone 0 (mark_alt scl sda) refl (mark_meets was is (inl (dw, di))) (only_mark was)
   set_by true true false false was is dw di = met_by_none (λ i one. no_fact was (dw ∙ sym di) i)
   set_by true false c d was is dw di = met_by_none (no_clock is)
-  set_by false true c d was is dw di = met_alone 1 (clock_alt scl) refl (clock_meets was is) (only_clock was)
+  set_by false true c d was is dw di =
+      met_alone 1 (clock_alt scl) refl (clock_meets was is) (only_clock was)
   set_by false false c d was is dw di = met_by_none (no_clock is)
 
 -- without a sample before there is none to meet
 nothing_before : (scl sda from q now : ℕ) → MetSet (i2c_alts scl sda) None now from q 0
 nothing_before scl sda from q now = none_met (i2c_alts scl sda) None now from q none
   where
-    none : (i : ℕ) (alt : Alt) → slice_get (i2c_alts scl sda) i ≡ Some alt → MeetsAt alt None now from q → ⊥
-    none zero alt at meets = elim ((same_alt (i2c_alts scl sda) None now from q (mark_alt scl sda) alt at meets).lines.edge sda (bit_at-pow_same sda)) [ inl up ↦ absurd up | inr down ↦ absurd down ]
-    none (suc zero) alt at meets = (same_alt (i2c_alts scl sda) None now from q (clock_alt scl) alt at meets).lines.rise scl (bit_at-pow_same scl)
-    none (suc (suc i)) alt at meets = let within : suc (suc i) < 2 = slice_get_within (i2c_alts scl sda) (suc (suc i)) alt at in absurd (omega (arith, within))
+    none : (i : ℕ) (alt : Alt) → slice_get (i2c_alts scl sda) i ≡ Some alt
+        → MeetsAt alt None now from q → ⊥
+    none zero alt at meets =
+        elim ((same_alt (i2c_alts scl sda) None now from q
+        (mark_alt scl sda) alt at meets).lines.edge sda (bit_at-pow_same sda))
+        [ inl up ↦ absurd up | inr down ↦ absurd down ]
+    none (suc zero) alt at meets =
+        (same_alt (i2c_alts scl sda) None now from q (clock_alt scl) alt at meets).lines.rise scl
+        (bit_at-pow_same scl)
+    none (suc (suc i)) alt at meets =
+        let within : suc (suc i) < 2 = slice_get_within (i2c_alts scl sda) (suc (suc i)) alt at in
+        absurd (omega (arith, within))
 
 -- the set of alternatives that a sample meets
-met_set : (scl sda from q : ℕ) (before : Option ℕ) (now : ℕ) → MetSet (i2c_alts scl sda) before now from q (code_of (event_at scl sda q before now))
+met_set : (scl sda from q : ℕ) (before : Option ℕ) (now : ℕ)
+    → MetSet (i2c_alts scl sda) before now from q (code_of (event_at scl sda q before now))
 met_set scl sda from q None now = nothing_before scl sda from q now
 met_set scl sda from q (Some before) now =
-    set_by scl sda from q before now (is_high before scl) (is_high now scl) (is_high before sda) (is_high now sda) (level_bit before scl) (level_bit now scl) (level_bit before sda) (level_bit now sda)
+    set_by scl sda from q before now (is_high before scl) (is_high now scl) (is_high before sda)
+    (is_high now sda) (level_bit before scl) (level_bit now scl) (level_bit before sda)
+    (level_bit now sda)
 
 module _ (scl sda from q : ℕ) (before : Option ℕ) (now : ℕ) where
   no_code : (es : List Event) → 0 ≡ code_of es → es ≡ []
@@ -142,10 +177,15 @@ module _ (scl sda from q : ℕ) (before : Option ℕ) (now : ℕ) where
   no_code (Clock k level ∷ es) is = absurd (omega (arith, is))
 
   -- a sample that meets nothing is no event
-  pub none_is_no_event : MetSet (i2c_alts scl sda) before now from q 0 → event_at scl sda q before now ≡ []
-  none_is_no_event set = no_code (event_at scl sda q before now) (one_set (i2c_alts scl sda) before now from q 0 (code_of (event_at scl sda q before now)) set (met_set scl sda from q before now))
+  pub none_is_no_event : MetSet (i2c_alts scl sda) before now from q 0
+      → event_at scl sda q before now ≡ []
+  none_is_no_event set =
+      no_code (event_at scl sda q before now)
+      (one_set (i2c_alts scl sda) before now from q 0 (code_of (event_at scl sda q before now)) set
+      (met_set scl sda from q before now))
 
-  coded : (met : ℕ) (a b c d : Bool) → met ≡ code_of (event_by q a b c d) → met ≢ 0 → event_by q a b c d ≡ event_met met q d ∷ []
+  coded : (met : ℕ) (a b c d : Bool) → met ≡ code_of (event_by q a b c d) → met ≢ 0
+      → event_by q a b c d ≡ event_met met q d ∷ []
   coded met true true true true is some = absurd (some is)
   coded met true true true false is some = ap (λ (m : ℕ). event_met m q false ∷ []) (sym is)
   coded met true true false true is some = ap (λ (m : ℕ). event_met m q true ∷ []) (sym is)
@@ -154,11 +194,16 @@ module _ (scl sda from q : ℕ) (before : Option ℕ) (now : ℕ) where
   coded met false true c d is some = ap (λ (m : ℕ). event_met m q d ∷ []) (sym is)
   coded met false false c d is some = absurd (some is)
 
-  event_coded : (met : ℕ) (before : Option ℕ) → met ≡ code_of (event_at scl sda q before now) → met ≢ 0 → event_at scl sda q before now ≡ event_met met q (is_high now sda) ∷ []
+  event_coded : (met : ℕ) (before : Option ℕ) → met ≡ code_of (event_at scl sda q before now)
+      → met ≢ 0 → event_at scl sda q before now ≡ event_met met q (is_high now sda) ∷ []
   event_coded met None is some = absurd (some is)
-  event_coded met (Some old) is some = coded met (is_high old scl) (is_high now scl) (is_high old sda) (is_high now sda) is some
+  event_coded met (Some old) is some =
+      coded met (is_high old scl) (is_high now scl) (is_high old sda) (is_high now sda) is some
 
   -- a sample that meets some is the event that the set says
-  pub met_is_event : (met : ℕ) → MetSet (i2c_alts scl sda) before now from q met → met ≢ 0 → event_at scl sda q before now ≡ event_met met q (is_high now sda) ∷ []
+  pub met_is_event : (met : ℕ) → MetSet (i2c_alts scl sda) before now from q met → met ≢ 0
+      → event_at scl sda q before now ≡ event_met met q (is_high now sda) ∷ []
   met_is_event met set some =
-      event_coded met before (one_set (i2c_alts scl sda) before now from q met (code_of (event_at scl sda q before now)) set (met_set scl sda from q before now)) some
+      event_coded met before
+      (one_set (i2c_alts scl sda) before now from q met
+      (code_of (event_at scl sda q before now)) set (met_set scl sda from q before now)) some

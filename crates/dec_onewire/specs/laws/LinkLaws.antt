@@ -5,7 +5,8 @@ use Rattle.la_base.specs.declared.wires.Wire.TheVariants.{OwLink as LinkWire}
 use Rattle.decoder_core.specs.Promises.{GivesNothing, KeepsFront, PacketsInOrder, AddsFew, GivesOn}
 use Rattle.sample_walks.specs.Walks.{given}
 use Rattle.sample_walks.specs.Events.{EventWalk, by_events}
-use Rattle.sample_walks.specs.laws.EventDecoders.{EventDecoder, nothing_of, prefix_of, few_of, order_of, on_wire_of}
+use Rattle.sample_walks.specs.laws.EventDecoders.{EventDecoder, nothing_of, prefix_of, few_of}
+use Rattle.sample_walks.specs.laws.EventDecoders.{order_of, on_wire_of}
 use Rattle.sample_walks.specs.laws.EventWalks.{events_given, events_walked}
 use Rattle.dec_onewire.specs.declared.link.held.Held.{Held}
 use Rattle.dec_onewire.specs.declared.link.options.Lengths.{Lengths}
@@ -24,11 +25,16 @@ module _ (opts : OwLinkOpts) (rate : Rate) where
 
   pub link_same : (list : List ℕ) → link_outs opts rate list ≡ given (by_events walk) list
   unfolding link_outs
-  link_same list = events_given walk (edges_outs lengths) (held_after lengths) (link_pushed opts.dq lengths) list
+  link_same list =
+      events_given walk (edges_outs lengths) (held_after lengths) (link_pushed opts.dq lengths) list
 
-  pub link_same_near : (list : List ℕ) → link_near opts list ≡ near_by (held_at opts rate list) (length list)
+  pub link_same_near : (list : List ℕ)
+      → link_near opts list ≡ near_by (held_at opts rate list) (length list)
   unfolding link_near
-  link_same_near list = ap (λ (h : Held). near_by h (length list)) (events_walked walk (edges_outs lengths) (held_after lengths) (link_pushed opts.dq lengths) list)
+  link_same_near list =
+      ap (λ (h : Held). near_by h (length list))
+      (events_walked walk (edges_outs lengths) (held_after lengths)
+      (link_pushed opts.dq lengths) list)
 
   abbrev pub link_decoder : EventDecoder Held Edge
   link_decoder = record {

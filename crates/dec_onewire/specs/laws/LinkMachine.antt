@@ -1,5 +1,7 @@
--- What a decoder of the link waits for, what it keeps of a line between two edges, and how one edge changes that.
-use Rattle.std.specs.Prelude.{ℕ, ◌-◌, ◌^◌, nat_le, nat_lt, Bool, true, false, if◌then◌else◌, List, [], ◌∷◌, Option, Some, None}
+-- What a decoder of the link waits for, what it keeps of a line between two edges, and how one edge
+-- changes that.
+use Rattle.std.specs.Prelude.{ℕ, ◌-◌, ◌^◌, nat_le, nat_lt, Bool, true, false, if◌then◌else◌, List}
+use Rattle.std.specs.Prelude.{[], ◌∷◌, Option, Some, None}
 use Rattle.la_base.specs.Samples.{is_high}
 use Rattle.la_base.specs.declared.wires.Out.{Out}
 use Rattle.la_base.specs.declared.wires.Wire.TheVariants.{OwLink as LinkWire}
@@ -11,11 +13,13 @@ use Rattle.sample_walks.specs.Walks.{walked, EndsThere}
 use Rattle.dec_onewire.specs.declared.link.held.Held.{Held}
 use Rattle.dec_onewire.specs.declared.link.options.Lengths.{Lengths}
 use Rattle.dec_onewire.specs.declared.link.options.OwLinkOpts.{OwLinkOpts}
-use Rattle.dec_onewire.specs.Link.{Edge, To, Pulse, Signal, Reset, Presence, Bit, edge_at, pulses, is_reset, signal_outs, fall_of, open_at, lengths_of}
+use Rattle.dec_onewire.specs.Link.{Edge, To, Pulse, Signal, Reset, Presence, Bit, edge_at, pulses}
+use Rattle.dec_onewire.specs.Link.{is_reset, signal_outs, fall_of, open_at, lengths_of}
 
 -- an edge of a line
 abbrev pub edge_alt : ℕ → Alt
-edge_alt line = record { low = 0; high = 0; rise = 0; fall = 0; edge = 2 ^ line; steady = 0; skip = 0 }
+edge_alt line =
+    record { low = 0; high = 0; rise = 0; fall = 0; edge = 2 ^ line; steady = 0; skip = 0 }
 
 -- whether a pulse of so many samples is a reset
 abbrev pub reset_by : Lengths → ℕ → Bool
@@ -35,7 +39,8 @@ signal_by lengths reset_end fall rise =
 
 -- what it gives
 abbrev pub pulse_gives : Lengths → Option ℕ → ℕ → ℕ → List Out
-pulse_gives lengths reset_end fall rise = signal_outs fall rise (signal_by lengths reset_end fall rise)
+pulse_gives lengths reset_end fall rise =
+    signal_outs fall rise (signal_by lengths reset_end fall rise)
 
 -- what a rise gives, by where the line fell
 abbrev pub rise_gives : Lengths → Option ℕ → Option ℕ → ℕ → List Out
@@ -54,7 +59,8 @@ gives lengths held (To at false) = []
 
 -- what is then kept
 abbrev pub next : Lengths → Held → Edge → Held
-next lengths held (To at true) = record { fall = None; reset_end = end_by lengths held.fall held.reset_end at }
+next lengths held (To at true) =
+    record { fall = None; reset_end = end_by lengths held.fall held.reset_end at }
 next lengths held (To at false) = record { fall = Some at; reset_end = held.reset_end }
 
 -- where the pulse starts that hasn't ended yet, else the number of samples
@@ -68,7 +74,8 @@ end_of lengths (Some pulse) = if is_reset lengths pulse then Some pulse.rise els
 
 -- what is kept of edges
 abbrev pub held_after : Lengths → List Edge → Held
-held_after lengths list = record { fall = fall_of (last_of list); reset_end = end_of lengths (last_of (pulses list)) }
+held_after lengths list =
+    record { fall = fall_of (last_of list); reset_end = end_of lengths (last_of (pulses list)) }
 
 -- the walk from edge to edge
 abbrev pub link_walk : ℕ → Lengths → EventWalk Held Edge

@@ -1,5 +1,6 @@
 -- The walk over a line is sound.
-use Rattle.std.proofs.Common.{◌≡◌, inl, inr, ◌⊎◌, ℕ, ◌+◌, ◌≤◌, Bool, true, false, List, [], ◌∷◌, length, Option, Some, None, refl, sym, ◌∙◌, ap, subst, arith}
+use Rattle.std.proofs.Common.{◌≡◌, inl, inr, ◌⊎◌, ℕ, ◌+◌, ◌≤◌, Bool, true, false, List, [], ◌∷◌}
+use Rattle.std.proofs.Common.{length, Option, Some, None, refl, sym, ◌∙◌, ap, subst, arith}
 use Rattle.std.specs.Prelude.{min}
 use Rattle.std.proofs.Math.Nat.{le_refl}
 use Rattle.std.proofs.lemmas.Bool.{true≢false}
@@ -10,11 +11,14 @@ use Rattle.wait_cond.specs.Meets.{Rises, Falls, MeetsAt}
 use Rattle.decoder_core.specs.Promises.{NotesFrom, PacketsOn, packet_starts}
 use Rattle.sample_walks.specs.Walks.{Between}
 use Rattle.sample_walks.specs.Events.{is_some_event, SoundEvents}
-use Rattle.sample_walks.specs.laws.AltLaws.{no_line, at_line, high_is, high_bit, low_is, low_bit, alone_none, alone_some}
+use Rattle.sample_walks.specs.laws.AltLaws.{no_line, at_line, high_is, high_bit, low_is, low_bit}
+use Rattle.sample_walks.specs.laws.AltLaws.{alone_none, alone_some}
 use Rattle.dec_onewire.specs.declared.link.held.Held.{Held}
 use Rattle.dec_onewire.specs.declared.link.options.Lengths.{Lengths}
-use Rattle.dec_onewire.specs.Link.{Edge, To, Signal, Reset, Presence, Bit, edge_by, edge_at, signal_outs, open_at}
-use Rattle.dec_onewire.specs.laws.LinkMachine.{edge_alt, signal_by, rise_gives, gives, next, near_by, link_walk}
+use Rattle.dec_onewire.specs.Link.{Edge, To, Signal, Reset, Presence, Bit, edge_by, edge_at}
+use Rattle.dec_onewire.specs.Link.{signal_outs, open_at}
+use Rattle.dec_onewire.specs.laws.LinkMachine.{edge_alt, signal_by, rise_gives, gives, next}
+use Rattle.dec_onewire.specs.laws.LinkMachine.{near_by, link_walk}
 
 no_edge : (es : List Edge) → is_some_event es ≡ false → es ≡ []
 no_edge [] none = refl
@@ -29,20 +33,23 @@ module _ (line q : ℕ) (before : Option ℕ) (now : ℕ) where
   some_edge : is_edge ≡ true → edge_at line q before now ≡ To q (is_high now line) ∷ []
   some_edge edge = from before edge
     where
-      by : (was is : Bool) → is_some_event (edge_by q was is) ≡ true → edge_by q was is ≡ To q is ∷ []
+      by : (was is : Bool) → is_some_event (edge_by q was is) ≡ true
+          → edge_by q was is ≡ To q is ∷ []
       by false true some = refl
       by true false some = refl
       by false false some = absurd (true≢false (sym some))
       by true true some = absurd (true≢false (sym some))
 
-      from : (b : Option ℕ) → is_some_event (edge_at line q b now) ≡ true → edge_at line q b now ≡ To q (is_high now line) ∷ []
+      from : (b : Option ℕ) → is_some_event (edge_at line q b now) ≡ true
+          → edge_at line q b now ≡ To q (is_high now line) ∷ []
       from None some = absurd (true≢false (sym some))
       from (Some own) some = by (is_high own line) (is_high now line) some
 
   one_edge : (edge_at line q before now ≡ []) ⊎ ((e : Edge) × (edge_at line q before now ≡ e ∷ []))
   one_edge = by is_edge refl
     where
-      by : (b : Bool) → is_edge ≡ b → (edge_at line q before now ≡ []) ⊎ ((e : Edge) × (edge_at line q before now ≡ e ∷ []))
+      by : (b : Bool) → is_edge ≡ b
+          → (edge_at line q before now ≡ []) ⊎ ((e : Edge) × (edge_at line q before now ≡ e ∷ []))
       by true some = inr (To q (is_high now line), some_edge some)
       by false none = inl (no_edge (edge_at line q before now) none)
 
@@ -53,24 +60,30 @@ module _ (line q : ℕ) (before : Option ℕ) (now : ℕ) where
   moves_here : is_edge ≡ true → Rises before now line ⊎ Falls before now line
   moves_here edge = by before edge
     where
-      at : (was : ℕ) (x y : Bool) → is_high was line ≡ x → is_high now line ≡ y → is_some_event (edge_by q x y) ≡ true → Rises (Some was) now line ⊎ Falls (Some was) now line
+      at : (was : ℕ) (x y : Bool) → is_high was line ≡ x → is_high now line ≡ y
+          → is_some_event (edge_by q x y) ≡ true
+          → Rises (Some was) now line ⊎ Falls (Some was) now line
       at was false true low high some = inl (low_bit was line low, high_bit now line high)
       at was true false high low some = inr (high_bit was line high, low_bit now line low)
       at was false false low also some = absurd (true≢false (sym some))
       at was true true high also some = absurd (true≢false (sym some))
 
-      by : (b : Option ℕ) → is_some_event (edge_at line q b now) ≡ true → Rises b now line ⊎ Falls b now line
+      by : (b : Option ℕ) → is_some_event (edge_at line q b now) ≡ true
+          → Rises b now line ⊎ Falls b now line
       by None some = absurd (true≢false (sym some))
       by (Some was) some = at was (is_high was line) (is_high now line) refl refl some
 
   edge_here : Rises before now line ⊎ Falls before now line → is_edge ≡ true
   edge_here moves = by before moves
     where
-      by : (b : Option ℕ) → Rises b now line ⊎ Falls b now line → is_some_event (edge_at line q b now) ≡ true
+      by : (b : Option ℕ) → Rises b now line ⊎ Falls b now line
+          → is_some_event (edge_at line q b now) ≡ true
       by None some = elim some [ inl up ↦ absurd up | inr down ↦ absurd down ]
       by (Some was) some = elim some [
-        | inl up ↦ (λ i. is_some_event (edge_by q (low_is was line up.0 i) (high_is now line up.1 i)))
-        | inr down ↦ (λ i. is_some_event (edge_by q (high_is was line down.0 i) (low_is now line down.1 i)))
+        | inl up ↦
+            (λ i. is_some_event (edge_by q (low_is was line up.0 i) (high_is now line up.1 i)))
+        | inr down ↦
+            (λ i. is_some_event (edge_by q (high_is was line down.0 i) (low_is now line down.1 i)))
       ]
 
   -- which is what the alternative asks for
@@ -147,15 +160,18 @@ module _ (lengths : Lengths) where
   gives_few h (To k true) = rise_few h.fall h.reset_end k
   gives_few h (To k false) = omega arith
 
-  rise_notes : (fall reset_end : Option ℕ) (q : ℕ) → Below fall q → NotesFrom (open_at fall q) (rise_gives lengths fall reset_end q)
+  rise_notes : (fall reset_end : Option ℕ) (q : ℕ) → Below fall q
+      → NotesFrom (open_at fall q) (rise_gives lengths fall reset_end q)
   rise_notes None reset_end q below = tt
   rise_notes (Some f) reset_end q below = notes_of f q (signal_by lengths reset_end f q) below
 
-  rise_packets : (fall reset_end : Option ℕ) (q : ℕ) → Below fall q → Between (open_at fall q) (q + 1) (packet_starts (rise_gives lengths fall reset_end q))
+  rise_packets : (fall reset_end : Option ℕ) (q : ℕ) → Below fall q
+      → Between (open_at fall q) (q + 1) (packet_starts (rise_gives lengths fall reset_end q))
   rise_packets None reset_end q below = omega arith
   rise_packets (Some f) reset_end q below = packets_of f q (signal_by lengths reset_end f q) below
 
-  rise_on : (fall reset_end : Option ℕ) (q : ℕ) → PacketsOn LinkWire (rise_gives lengths fall reset_end q)
+  rise_on : (fall reset_end : Option ℕ) (q : ℕ)
+      → PacketsOn LinkWire (rise_gives lengths fall reset_end q)
   rise_on None reset_end q = tt
   rise_on (Some f) reset_end q = on_of f q (signal_by lengths reset_end f q)
 
@@ -163,11 +179,14 @@ module _ (lengths : Lengths) where
   gives_on h (To k true) = rise_on h.fall h.reset_end k
   gives_on h (To k false) = tt
 
-  notes_at : (h : Held) (q : ℕ) (level : Bool) → Below h.fall q → NotesFrom (near_by h q) (gives lengths h (To q level))
+  notes_at : (h : Held) (q : ℕ) (level : Bool) → Below h.fall q
+      → NotesFrom (near_by h q) (gives lengths h (To q level))
   notes_at h q true below = rise_notes h.fall h.reset_end q below
   notes_at h q false below = tt
 
-  packets_at : (h : Held) (q : ℕ) (level : Bool) → Below h.fall q → Between (near_by h q) (near_by (next lengths h (To q level)) (q + 1)) (packet_starts (gives lengths h (To q level)))
+  packets_at : (h : Held) (q : ℕ) (level : Bool) → Below h.fall q
+      → Between (near_by h q) (near_by (next lengths h (To q level)) (q + 1))
+      (packet_starts (gives lengths h (To q level)))
   packets_at h q true below = rise_packets h.fall h.reset_end q below
   packets_at h q false below = open_most h.fall q below
 
@@ -176,7 +195,8 @@ module _ (lengths : Lengths) where
   fits_at h q false = omega arith
 
   module _ (line : ℕ) where
-    head_is : (P : Edge → Type 0) (q : ℕ) (before : Option ℕ) (now : ℕ) (e : Edge) → edge_at line q before now ≡ e ∷ [] → P (To q (is_high now line)) → P e
+    head_is : (P : Edge → Type 0) (q : ℕ) (before : Option ℕ) (now : ℕ) (e : Edge)
+        → edge_at line q before now ≡ e ∷ [] → P (To q (is_high now line)) → P e
     head_is P q before now e is has = subst P (ap first (some_is line q before now e is)) has
       where
         first : List Edge → Edge
@@ -188,14 +208,25 @@ module _ (lengths : Lengths) where
       one = one_edge line;
       begin_fits = tt;
       fits_on = λ h q before now fit none. below_on h.fall q fit;
-      next_fits = λ h q before now e fit is. head_is (λ (x : Edge). Below (next lengths h x).fall (q + 1)) q before now e is (fits_at h q (is_high now line));
+      next_fits =
+          λ h q before now e fit is. head_is (λ (x : Edge). Below (next lengths h x).fall (q + 1)) q
+          before now e is (fits_at h q (is_high now line));
       none = λ h q before now from fit set. no_edge (edge_at line q before now)
-          (alone_none (edge_alt line) before now from q 0 (is_edge line q before now) (edge_meets line q before now from) (meets_edge line q before now from) set);
+          (alone_none (edge_alt line) before now from q 0 (is_edge line q before now)
+          (edge_meets line q before now from) (meets_edge line q before now from) set);
       some = λ h q before now from met fit set some.
-          some_edge line q before now (alone_some (edge_alt line) before now from q met (is_edge line q before now) (edge_meets line q before now from) (meets_edge line q before now from) set some);
+          some_edge line q before now
+          (alone_some (edge_alt line) before now from q met (is_edge line q before now)
+          (edge_meets line q before now from) (meets_edge line q before now from) set some);
       few = gives_few;
       near_on = λ h q before fit. open_on h.fall q fit;
-      notes = λ h q before now e fit is. head_is (λ (x : Edge). NotesFrom (near_by h q) (gives lengths h x)) q before now e is (notes_at h q (is_high now line) fit);
-      packets = λ h q before now e fit is. head_is (λ (x : Edge). Between (near_by h q) (near_by (next lengths h x) (q + 1)) (packet_starts (gives lengths h x))) q before now e is (packets_at h q (is_high now line) fit);
+      notes = λ h q before now e fit is. head_is
+          (λ (x : Edge). NotesFrom (near_by h q) (gives lengths h x)) q before now e is
+          (notes_at h q (is_high now line) fit);
+      packets =
+          λ h q before now e fit is. head_is
+          (λ (x : Edge). Between (near_by h q) (near_by (next lengths h x) (q + 1))
+          (packet_starts (gives lengths h x))) q before now e is
+          (packets_at h q (is_high now line) fit);
       on_wire = gives_on;
     }

@@ -1,4 +1,5 @@
--- What the network promises of its outputs, and what a decoder of it that stands for packets answers.
+-- What the network promises of its outputs, and what a decoder of it that stands for packets
+-- answers.
 use Rattle.std.proofs.Common.{◌≡◌, ℕ, ◌≤◌, List, [], ◌∷◌, ◌++◌, sym, ◌∙◌, ap, subst}
 use Rattle.std.proofs.Math.Nat.{le_refl}
 use Rattle.la_base.specs.declared.wires.Out.{Out}
@@ -13,7 +14,8 @@ use Rattle.dec_onewire.specs.Opening.{NetStandsFor}
 use Rattle.dec_onewire.specs.laws.NetMachine.{held_of, gives, next, near_by, net_walk}
 use Rattle.dec_onewire.specs.laws.NetPushed.{net_pushed, near_is}
 use Rattle.dec_onewire.specs.laws.NetSound.{net_fits, net_sound}
-use Rattle.packet_walks.specs.laws.WalkLaws.{walk_nothing, walk_prefix, walk_few, walk_on, walk_order, walk_floor}
+use Rattle.packet_walks.specs.laws.WalkLaws.{walk_nothing, walk_prefix, walk_few, walk_on}
+use Rattle.packet_walks.specs.laws.WalkLaws.{walk_order, walk_floor}
 
 pub net_nothing : GivesNothing net_outs
 net_nothing = walk_nothing net_walk net_outs held_of net_pushed
@@ -32,22 +34,32 @@ net_order = walk_order net_walk net_outs held_of net_pushed NetWire net_fits net
 
 -- what is kept of packets makes the floor, the near place, and what one more packet does
 module _ (machine : OwNet) (seen : List Packet) (stands : NetStandsFor machine seen) where
-  module _ (from result : ℕ) (from_is : from ≡ last_start 0 seen) (result_is : result ≡ near_by machine.held from) where
+  module _ (from result : ℕ) (from_is : from ≡ last_start 0 seen)
+      (result_is : result ≡ near_by machine.held from) where
     same : result ≡ near_by (held_of seen) (last_start 0 seen)
     same = result_is ∙ (λ i. near_by (stands i) (from_is i))
 
     pub net_floor : IsPacketFloor LinkWire net_outs seen result
-    net_floor = subst (IsPacketFloor LinkWire net_outs seen) (sym same) (walk_floor net_walk net_outs held_of net_pushed NetWire net_fits net_sound LinkWire seen)
+    net_floor =
+        subst (IsPacketFloor LinkWire net_outs seen) (sym same)
+        (walk_floor net_walk net_outs held_of net_pushed NetWire net_fits net_sound LinkWire seen)
 
     pub net_near_below : net_near seen ≤ result
-    net_near_below = subst (λ (n : ℕ). net_near seen ≤ n) (near_is seen ∙ sym same) (le_refl (net_near seen))
+    net_near_below =
+        subst (λ (n : ℕ). net_near seen ≤ n) (near_is seen ∙ sym same) (le_refl (net_near seen))
 
   module _ (packet : Packet) where
-    pub net_stands : (new : Held) → new ≡ next machine.held packet → new ≡ held_of (seen ++ packet ∷ [])
-    net_stands new is = is ∙ ap (λ (h : Held). next h packet) stands ∙ sym (net_pushed.kept_push seen packet)
+    pub net_stands : (new : Held) → new ≡ next machine.held packet
+        → new ≡ held_of (seen ++ packet ∷ [])
+    net_stands new is =
+        is ∙ ap (λ (h : Held). next h packet) stands ∙ sym (net_pushed.kept_push seen packet)
 
-    pub net_loud : (into : List Out) → into ≡ gives machine.held packet → net_outs (seen ++ packet ∷ []) ≡ net_outs seen ++ into
-    net_loud into is = net_pushed.outs_push seen packet ∙ ap (λ (l : List Out). net_outs seen ++ l) (ap (λ (h : Held). gives h packet) (sym stands) ∙ sym is)
+    pub net_loud : (into : List Out) → into ≡ gives machine.held packet
+        → net_outs (seen ++ packet ∷ []) ≡ net_outs seen ++ into
+    net_loud into is =
+        net_pushed.outs_push seen packet ∙ ap (λ (l : List Out). net_outs seen ++ l)
+        (ap (λ (h : Held). gives h packet) (sym stands) ∙ sym is)
 
-pub one_net : (one other : OwNet) (packets : List Packet) → NetStandsFor one packets → NetStandsFor other packets → one ≡ other
+pub one_net : (one other : OwNet) (packets : List Packet) → NetStandsFor one packets
+    → NetStandsFor other packets → one ≡ other
 one_net one other packets stands also = λ i. record { held = (stands ∙ sym also) i }

@@ -1,5 +1,6 @@
 -- The walk over packets of a link is sound.
-use Rattle.std.proofs.Common.{◌≡◌, ℕ, ◌+◌, ◌≤◌, Bool, true, false, if◌then◌else◌, ◌==◌, List, [], ◌∷◌, length, refl, sym, subst, arith}
+use Rattle.std.proofs.Common.{◌≡◌, ℕ, ◌+◌, ◌≤◌, Bool, true, false, if◌then◌else◌, ◌==◌, List, []}
+use Rattle.std.proofs.Common.{◌∷◌, length, refl, sym, subst, arith}
 use Rattle.std.specs.Prelude.{min, nat_lt}
 use Rattle.std.proofs.Math.Nat.{le_refl}
 use Rattle.la_base.specs.declared.wires.Out.{Out}
@@ -16,7 +17,10 @@ use Rattle.dec_onewire.specs.declared.net.held.Held.TheVariants.{Outside, Reset,
 use Rattle.dec_onewire.specs.declared.net.held.Role.{Role}
 use Rattle.dec_onewire.specs.declared.net.held.Role.TheVariants.{Command, Rom, Search, Byte}
 use Rattle.dec_onewire.specs.Net.{is_reset, is_presence, is_bit, bit_in, size_of}
-use Rattle.dec_onewire.specs.laws.NetMachine.{none_begun, role_next, start_of, with_bit, given_by, bit_gives, bit_next, answered_gives, answered_next, inside_gives, inside_next, gives, next, near_by, net_walk}
+use Rattle.dec_onewire.specs.laws.NetMachine.{none_begun, role_next, start_of, with_bit, given_by}
+use Rattle.dec_onewire.specs.laws.NetMachine.{bit_gives, bit_next, answered_gives, answered_next}
+use Rattle.dec_onewire.specs.laws.NetMachine.{inside_gives, inside_next, gives, next, near_by}
+use Rattle.dec_onewire.specs.laws.NetMachine.{net_walk}
 use Rattle.packet_walks.specs.Walks.{SoundPackets}
 
 some_no : (n : ℕ) → (n + 1 == 0) ≡ false
@@ -36,7 +40,8 @@ net_fits (Inside role begun) last = begun.start ≤ last
 abbrev Few : List Out → Type 0
 Few outs = (length outs ≤ 16) × PacketsOn NetWire outs
 
--- outputs that start no earlier than what has begun before, and no later than what has begun behind them
+-- outputs that start no earlier than what has begun before, and no later than what has begun behind
+-- them
 abbrev Within : ℕ → ℕ → List Out → Type 0
 Within low high outs = NotesFrom low outs × Between low high (packet_starts outs)
 
@@ -47,7 +52,8 @@ few_given Rom first last number = (omega arith, (refl, tt))
 few_given Search first last number = (omega arith, (refl, tt))
 few_given Byte first last number = (omega arith, (refl, tt))
 
-within_given : (role : Role) (first last number low high : ℕ) → low ≤ min first last → min first last ≤ high → Within low high (given_by role first last number)
+within_given : (role : Role) (first last number low high : ℕ) → low ≤ min first last
+    → min first last ≤ high → Within low high (given_by role first last number)
 within_given Command first last number low high after before = ((after, tt), (after, before))
 within_given Rom first last number low high after before = ((after, tt), (after, before))
 within_given Search first last number low high after before = ((after, tt), (after, before))
@@ -57,7 +63,8 @@ within_given Byte first last number low high after before = ((after, tt), (after
 few_bit : (role : Role) (begun : Begun) (p : Packet) → Few (bit_gives role begun p)
 few_bit role begun p = by (nat_lt (begun.count + 1) (size_of role))
   where
-    by : (t : Bool) → Few (if t then [] else given_by role (start_of begun p) p.end (with_bit role begun (bit_in p)))
+    by : (t : Bool) → Few
+        (if t then [] else given_by role (start_of begun p) p.end (with_bit role begun (bit_in p)))
     by true = (omega arith, tt)
     by false = few_given role (start_of begun p) p.end (with_bit role begun (bit_in p))
 
@@ -93,7 +100,8 @@ module _ (last : ℕ) (p : Packet) (after : last ≤ p.start) where
       by true = le_refl p.start
       by false = omega (arith, below, after)
 
-  near_start : (role : Role) (begun : Begun) → begun.start ≤ last → near_by (Inside role begun) last ≤ start_of begun p
+  near_start : (role : Role) (begun : Begun) → begun.start ≤ last
+      → near_by (Inside role begun) last ≤ start_of begun p
   near_start role begun below = by (begun.count == 0)
     where
       by : (t : Bool) → (if t then last else begun.start) ≤ (if t then p.start else begun.start)
@@ -105,7 +113,8 @@ module _ (last : ℕ) (p : Packet) (after : last ≤ p.start) where
   near_most (Reset start) fit = omega (arith, fit, after)
   near_most (Inside role begun) fit = omega (arith, near_start role begun fit, start_most begun fit)
 
-  near_on : (role : Role) (begun : Begun) → begun.start ≤ last → near_by (Inside role begun) last ≤ near_by (Inside role begun) p.start
+  near_on : (role : Role) (begun : Begun) → begun.start ≤ last
+      → near_by (Inside role begun) last ≤ near_by (Inside role begun) p.start
   near_on role begun below = by (begun.count == 0)
     where
       by : (t : Bool) → (if t then last else begun.start) ≤ (if t then p.start else begun.start)
@@ -113,11 +122,18 @@ module _ (last : ℕ) (p : Packet) (after : last ≤ p.start) where
       by false = le_refl begun.start
 
   -- a state fits behind one more packet
-  fits_bit : (role : Role) (begun : Begun) → begun.start ≤ last → net_fits (bit_next role begun p) p.start
+  fits_bit : (role : Role) (begun : Begun) → begun.start ≤ last
+      → net_fits (bit_next role begun p) p.start
   fits_bit role begun below = by (nat_lt (begun.count + 1) (size_of role))
     where
       by : (t : Bool)
-          → net_fits (if t then Inside role (record { count = begun.count + 1; start = start_of begun p; number = with_bit role begun (bit_in p) })
+          → net_fits
+          (if t then Inside role
+          (record {
+            count = begun.count + 1;
+            start = start_of begun p;
+            number = with_bit role begun (bit_in p);
+          })
           else Inside (role_next role (with_bit role begun (bit_in p))) none_begun) p.start
       by true = start_most begun below
       by false = omega arith
@@ -146,7 +162,9 @@ module _ (last : ℕ) (p : Packet) (after : last ≤ p.start) where
       by false = fits_inside h fit
 
   -- from where on a packet gives notes and packets
-  within_bit : (role : Role) (begun : Begun) → begun.start ≤ last → Within (near_by (Inside role begun) last) (near_by (bit_next role begun p) p.start) (bit_gives role begun p)
+  within_bit : (role : Role) (begun : Begun) → begun.start ≤ last
+      → Within (near_by (Inside role begun) last) (near_by (bit_next role begun p) p.start)
+      (bit_gives role begun p)
   within_bit role begun below = by (nat_lt (begun.count + 1) (size_of role))
     where
       low : near_by (Inside role begun) last ≤ start_of begun p
@@ -155,40 +173,61 @@ module _ (last : ℕ) (p : Packet) (after : last ≤ p.start) where
       high : start_of begun p ≤ p.start
       high = start_most begun below
 
-      later : near_by (Inside role begun) last ≤ (if begun.count + 1 == 0 then p.start else start_of begun p)
-      later = subst (λ (t : Bool). near_by (Inside role begun) last ≤ (if t then p.start else start_of begun p)) (sym (some_no begun.count)) low
+      later : near_by (Inside role begun) last
+          ≤ (if begun.count + 1 == 0 then p.start else start_of begun p)
+      later = subst
+          (λ (t : Bool). near_by (Inside role begun)
+          last ≤ (if t then p.start else start_of begun p)) (sym (some_no begun.count)) low
 
       by : (t : Bool)
           → Within (near_by (Inside role begun) last)
-          (near_by (if t then Inside role (record { count = begun.count + 1; start = start_of begun p; number = with_bit role begun (bit_in p) })
+          (near_by (if t then Inside role
+          (record {
+            count = begun.count + 1;
+            start = start_of begun p;
+            number = with_bit role begun (bit_in p);
+          })
           else Inside (role_next role (with_bit role begun (bit_in p))) none_begun) p.start)
-          (if t then [] else given_by role (start_of begun p) p.end (with_bit role begun (bit_in p)))
+          (if t then []
+          else given_by role (start_of begun p) p.end (with_bit role begun (bit_in p)))
       by true = (tt, later)
-      by false = within_given role (start_of begun p) p.end (with_bit role begun (bit_in p)) (near_by (Inside role begun) last) p.start (omega (arith, low, high, p.in_order)) (omega (arith, high))
+      by false =
+          within_given role (start_of begun p) p.end (with_bit role begun (bit_in p))
+          (near_by (Inside role begun) last) p.start (omega (arith, low, high, p.in_order))
+          (omega (arith, high))
 
-  within_answered : (start : ℕ) → start ≤ last → Within start (near_by (answered_next p) p.start) (answered_gives start p)
+  within_answered : (start : ℕ) → start ≤ last
+      → Within start (near_by (answered_next p) p.start) (answered_gives start p)
   within_answered start below = by (is_presence p.kind)
     where
       first : start ≤ min start p.end
       first = omega (arith, below, after, p.in_order)
 
-      by : (t : Bool) → Within start (near_by (if t then Inside Command none_begun else Outside) p.start) (if t then answer_outs start p else [])
+      by : (t : Bool) → Within start
+          (near_by (if t then Inside Command none_begun else Outside) p.start)
+          (if t then answer_outs start p else [])
       by true = ((first, tt), (first, omega (arith, below, after)))
       by false = (tt, omega (arith, below, after))
 
-  within_inside : (h : Held) → net_fits h last → Within (near_by h last) (near_by (inside_next h p) p.start) (inside_gives h p)
+  within_inside : (h : Held) → net_fits h last
+      → Within (near_by h last) (near_by (inside_next h p) p.start) (inside_gives h p)
   within_inside Outside fit = (tt, after)
   within_inside (Reset start) fit = within_answered start fit
   within_inside (Inside role begun) fit = by (is_bit p.kind)
     where
-      by : (t : Bool) → Within (near_by (Inside role begun) last) (near_by (if t then bit_next role begun p else Inside role begun) p.start) (if t then bit_gives role begun p else [])
+      by : (t : Bool) → Within (near_by (Inside role begun) last)
+          (near_by (if t then bit_next role begun p else Inside role begun) p.start)
+          (if t then bit_gives role begun p else [])
       by true = within_bit role begun fit
       by false = (tt, near_on role begun fit)
 
-  within_gives : (h : Held) → net_fits h last → Within (near_by h last) (near_by (next h p) p.start) (gives h p)
+  within_gives : (h : Held) → net_fits h last
+      → Within (near_by h last) (near_by (next h p) p.start) (gives h p)
   within_gives h fit = by (is_reset p.kind)
     where
-      by : (t : Bool) → Within (near_by h last) (near_by (if t then Reset p.start else inside_next h p) p.start) (if t then [] else inside_gives h p)
+      by : (t : Bool) → Within (near_by h last)
+          (near_by (if t then Reset p.start else inside_next h p) p.start)
+          (if t then [] else inside_gives h p)
       by true = (tt, near_most h fit)
       by false = within_inside h fit
 

@@ -6,12 +6,13 @@ ghost use Rattle.sample_walks.specs.laws.EventDecoders.{quiet_of};
 ghost use Rattle.dec_onewire.specs.Link.{link_outs, link_near};
 ghost use Rattle.dec_onewire.specs.Opening.{StandsFor, alts_of};
 ghost use Rattle.dec_onewire.specs.laws.LinkMachine.{edge_alt};
-ghost use Rattle.dec_onewire.specs.laws.LinkLaws.{link_decoder, link_nothing, link_prefix, link_order, link_few, link_on_wire};
+ghost use Rattle.dec_onewire.specs.laws.LinkLaws.{link_decoder, link_nothing, link_prefix};
+ghost use Rattle.dec_onewire.specs.laws.LinkLaws.{link_order, link_few, link_on_wire};
 ghost use Rattle.dec_onewire.specs.laws.LinkMachineLaws.{one_link, link_one_stop};
 
 use super::pulses::{give, near, next};
 use super::{Line, OwLink};
-use decoder_core::{LogicMachine, Outs};
+use decoder_core::{Configured, Driver, LogicMachine, Outs, is_send};
 use la_base::{MOST_PINS, Word, mask, pin};
 use wait_cond::{Alt, Cond, Waiter};
 
@@ -31,11 +32,13 @@ fn edge_alt(line: u32) -> Alt
     }
 }
 
-impl LogicMachine for OwLink {
+impl Configured for OwLink {
     type Setup = Line;
 
     ghost setup = { λ machine. machine.line };
+}
 
+impl LogicMachine for OwLink {
     ghost outs = { λ line list. link_outs line.opts line.rate list };
 
     ghost near = { λ line list. link_near line.opts list };
@@ -66,7 +69,9 @@ impl LogicMachine for OwLink {
         near(self.held, next)
     }
 
-    ghost quiet = { λ machine seen more stands rests. quiet_of (link_decoder machine.line.opts machine.line.rate) machine.held seen more (stands.0, stands.1) rests };
+    ghost quiet = { λ machine seen more stands rests.
+        quiet_of (link_decoder machine.line.opts machine.line.rate) machine.held seen more
+        (stands.0, stands.1) rests };
 
     ghost nothing = { λ machine. link_nothing machine.line.opts machine.line.rate };
 
@@ -78,7 +83,14 @@ impl LogicMachine for OwLink {
 
     ghost on_wire = { λ machine. link_on_wire machine.line.opts machine.line.rate };
 
-    ghost one_machine = { λ one other list same stands also. one_link one other list same stands also };
+    ghost one_machine = { λ one other list same stands also.
+        one_link one other list same stands also };
 
-    ghost one_stop = { λ one other seen more same stands also rests. link_one_stop one other seen more same stands also rests };
+    ghost one_stop = { λ one other seen more same stands also rests.
+        link_one_stop one other seen more same stands also rests };
+}
+
+// It may move to another thread, and so may what drives it.
+fn machine_is_send() {
+    is_send::<Driver<OwLink>>();
 }

@@ -48,10 +48,10 @@ fn is_fast(lengths: Lengths) -> bool
 }
 
 impl OwLink {
-    /// Opens a decoder of these options at this rate; it stands for no samples. Answers Range exactly where
-    /// an option is out of range: `dq` isn't a bit of a sample, or another one isn't 1 to 10^9 ns. Else it
-    /// answers Rate exactly where `bit` is less than two samples, or `reset` has no more samples than `bit`,
-    /// each rounded up.
+    /// Opens a decoder of these options at this rate; it stands for no samples. Answers Range
+    /// exactly where an option is out of range: `dq` isn't a bit of a sample, or another one isn't
+    /// 1 to 10^9 ns. Else it answers Rate exactly where `bit` is less than two samples, or `reset`
+    /// has no more samples than `bit`, each rounded up.
     pub fn open(opts: OwLinkOpts, rate: Rate) -> Result<OwLink, OptFault>
         requires { rate.num ≤ 10 ^ 15 }
         ensures { LinkOpens MOST_PINS opts rate result }

@@ -1,7 +1,7 @@
 // How the link of a 1-Wire line is read.
 
-/// Options: the bit of the line in a sample; and times in nanoseconds, 1 to 10^9 each: how long a reset is at
-/// least, how long after it its answer begins at most, and how long a 0 is at least.
+/// Options: the bit of the line in a sample; and times in nanoseconds, 1 to 10^9 each: how long a
+/// reset is at least, how long after it its answer begins at most, and how long a 0 is at least.
 #[derive(Clone, Copy, Debug, PartialEq, Eq)]
 pub struct OwLinkOpts {
     pub dq: u32,

@@ -1,7 +1,8 @@
 // What a pulse says and gives.
 ghost use Rattle.std.specs.Prelude.{◌≡◌, []};
 ghost use Rattle.dec_onewire.specs.Link.{To};
-ghost use Rattle.dec_onewire.specs.laws.LinkMachine.{reset_by, answers_by, pulse_gives, end_by, gives, next, near_by};
+ghost use Rattle.dec_onewire.specs.laws.LinkMachine.{reset_by, answers_by, pulse_gives, end_by};
+ghost use Rattle.dec_onewire.specs.laws.LinkMachine.{gives, next, near_by};
 
 use super::{Held, Lengths};
 use decoder_core::{Outs, span_note, span_packet};

@@ -5,8 +5,8 @@ ghost use Rattle.dec_onewire.specs.Texts.{link_text};
 use la_base::Note;
 use line_text::LineBuf;
 
-/// Appends the text of a note, and nothing for a class that the link doesn't have: `Reset`, `Presence`, and
-/// `Bit: ` with the bit.
+/// Appends the text of a note, and nothing for a class that the link doesn't have: `Reset`,
+/// `Presence`, and `Bit: ` with the bit.
 pub fn text(note: Note, buf: &mut LineBuf)
     requires { length buf.old + 64 ≤ 256 }
     ensures text { buf.new ≡ buf.old ++ link_text note.class note.a }

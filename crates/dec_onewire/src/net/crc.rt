@@ -24,8 +24,8 @@ fn behind_byte(crc: u8) -> u8
     register
 }
 
-/// The CRC of bytes by application note 27: the polynomial x^8 + x^5 + x^4 + 1, the lowest bit of each byte first, from a
-/// register of 0 on.
+/// The CRC of bytes by application note 27: the polynomial x^8 + x^5 + x^4 + 1, the lowest bit of
+/// each byte first, from a register of 0 on.
 pub fn crc8(bytes: &[u8]) -> u8
     ensures { result ≡ crc8 bytes.now }
 {
@@ -36,7 +36,8 @@ pub fn crc8(bytes: &[u8]) -> u8
     crc
 }
 
-/// Whether the last byte of a ROM, whose first byte is the lowest one of the number, isn't the CRC of the others.
+/// Whether the last byte of a ROM, whose first byte is the lowest one of the number, isn't the CRC
+/// of the others.
 pub fn crc_wrong(rom: u64) -> bool
     ensures { result ≡ crc_wrong rom }
 {

@@ -11,14 +11,15 @@ pub enum Role {
     Command,
     /// A ROM of 64 bits.
     Rom,
-    /// A search: for each bit of the ROM that is found the bit, its complement and the direction that is taken.
+    /// A search: for each bit of the ROM that is found the bit, its complement and the direction
+    /// that is taken.
     Search,
     /// A byte.
     Byte,
 }
 
-/// Bits that are too few yet for what they will be: how many, where the first of them starts, and the number that they
-/// say so far. Where there are none, all of this is 0.
+/// Bits that are too few yet for what they will be: how many, where the first of them starts, and
+/// the number that they say so far. Where there are none, all of this is 0.
 #[derive(Clone, Copy, Debug, PartialEq, Eq)]
 pub struct Begun {
     pub count: u8,

@@ -1,15 +1,18 @@
 // The network as a decoder of packets.
 ghost use Rattle.std.specs.Prelude.{◌≡◌, []};
-ghost use Rattle.la_base.specs.declared.wires.Wire.TheVariants.{OwLink as LinkWire, OwNet as NetWire};
+ghost use Rattle.la_base.specs.declared.wires.Wire.TheVariants.{OwLink as LinkWire};
+ghost use Rattle.la_base.specs.declared.wires.Wire.TheVariants.{OwNet as NetWire};
 ghost use Rattle.dec_onewire.specs.Net.{net_outs, net_near};
 ghost use Rattle.dec_onewire.specs.Opening.{NetStandsFor};
-ghost use Rattle.dec_onewire.specs.laws.NetMachine.{gives, next, near_by, answered_gives, answered_next, inside_gives, inside_next};
-ghost use Rattle.dec_onewire.specs.laws.NetLaws.{net_nothing, net_prefix, net_order, net_few, net_on_wire, one_net};
+ghost use Rattle.dec_onewire.specs.laws.NetMachine.{gives, next, near_by, answered_gives};
+ghost use Rattle.dec_onewire.specs.laws.NetMachine.{answered_next, inside_gives, inside_next};
+ghost use Rattle.dec_onewire.specs.laws.NetLaws.{net_nothing, net_prefix, net_order, net_few};
+ghost use Rattle.dec_onewire.specs.laws.NetLaws.{net_on_wire, one_net};
 
 use super::packets::{is_bit, is_presence, is_reset};
 use super::units::{bit, none_begun};
 use super::{Held, OwNet, OwNetOpts, Role};
-use decoder_core::{Outs, PacketMachine, span_note, span_packet};
+use decoder_core::{Configured, Follower, Outs, PacketMachine, is_send, span_note, span_packet};
 use la_base::{Packet, PacketKind, Wire};
 
 // The packet right behind a reset, which starts at `start`: it opens a segment if it is a presence.
@@ -63,7 +66,8 @@ fn take(held: Held, packet: Packet, into: &mut Outs) -> Held
     }
 }
 
-// Where the reset starts that nothing has followed yet, or what has begun and isn't whole; else `from`.
+// Where the reset starts that nothing has followed yet, or what has begun and isn't whole; else
+// `from`.
 fn near(held: Held, from: u64) -> u64
     ensures { result ≡ near_by held from }
 {
@@ -74,11 +78,13 @@ fn near(held: Held, from: u64) -> u64
     }
 }
 
-impl PacketMachine for OwNet {
+impl Configured for OwNet {
     type Setup = OwNetOpts;
 
     ghost setup = { λ _. record {} };
+}
 
+impl PacketMachine for OwNet {
     ghost wire = { λ _. LinkWire };
 
     ghost gives = { λ _. NetWire };
@@ -111,5 +117,11 @@ impl PacketMachine for OwNet {
 
     ghost on_wire = { λ _. net_on_wire };
 
-    ghost one_machine = { λ one other packets same stands also. one_net one other packets stands also };
+    ghost one_machine = { λ one other packets same stands also.
+        one_net one other packets stands also };
+}
+
+// It may move to another thread, and so may what feeds it.
+fn machine_is_send() {
+    is_send::<Follower<OwNet>>();
 }

@@ -38,7 +38,9 @@ fn rom_command(byte: u64, buf: &mut LineBuf)
 #[inline(never)]
 fn rom(number: u64, wrong: u64, buf: &mut LineBuf)
     requires { length buf.old + 64 ≤ 256 }
-    ensures text { buf.new ≡ buf.old ++ (codes "ROM: " ++ (rom_name number ++ (if wrong == 0 then codes " CRC ok" else codes " CRC bad"))) }
+    ensures text { buf.new ≡ buf.old
+        ++ (codes "ROM: "
+        ++ (rom_name number ++ (if wrong == 0 then codes " CRC ok" else codes " CRC bad"))) }
     ensures short { length buf.new ≤ length buf.old + 64 }
 {
     buf.push_labelled(b"ROM: ", number.swap_bytes(), 16);
@@ -49,9 +51,10 @@ fn rom(number: u64, wrong: u64, buf: &mut LineBuf)
     }
 }
 
-/// Appends the text of a note, and nothing for a class that the network doesn't have: `Reset`; `ROM command: ` with its
-/// name, or `Unknown ` and the command; `ROM: ` with its bytes in the order in which they came, and ` CRC ok` or ` CRC bad`;
-/// `Byte: ` with the byte. Numbers are upper case hexadecimal of two digits a byte.
+/// Appends the text of a note, and nothing for a class that the network doesn't have: `Reset`; `ROM
+/// command: ` with its name, or `Unknown ` and the command; `ROM: ` with its bytes in the order in
+/// which they came, and ` CRC ok` or ` CRC bad`; `Byte: ` with the byte. Numbers are upper case
+/// hexadecimal of two digits a byte.
 pub fn text(note: Note, buf: &mut LineBuf)
     requires { length buf.old + 64 ≤ 256 }
     ensures text { buf.new ≡ buf.old ++ net_text note.class note.a note.b }

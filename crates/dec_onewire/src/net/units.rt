@@ -1,7 +1,8 @@
 // Commands, ROMs and bytes, bit by bit.
 ghost use Rattle.std.specs.Prelude.{◌≡◌, ◌≤◌, []};
 ghost use Rattle.dec_onewire.specs.Net.{role_outs, sends_rom, searches, size_of};
-ghost use Rattle.dec_onewire.specs.laws.NetMachine.{none_begun, put_bit, with_bit, start_of, role_next, bit_gives, bit_next, given_by};
+ghost use Rattle.dec_onewire.specs.laws.NetMachine.{none_begun, put_bit, with_bit, start_of};
+ghost use Rattle.dec_onewire.specs.laws.NetMachine.{role_next, bit_gives, bit_next, given_by};
 
 use super::crc::crc_wrong;
 use super::packets::bit_in;
@@ -33,7 +34,8 @@ fn size_of(role: Role) -> u8
     }
 }
 
-// A number of so many bits with one more bit above them. A decoder that stands for no packets may hold any number.
+// A number of so many bits with one more bit above them. A decoder that stands for no packets may
+// hold any number.
 fn put_bit(place: u8, number: u64, bit: bool) -> u64
     ensures { result ≡ put_bit place number bit }
 {

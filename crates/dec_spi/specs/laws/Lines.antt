@@ -1,5 +1,6 @@
 -- The lines of a bus as masks of the lower half of a sample, and the clocks that are taken by them.
-use Rattle.std.specs.Prelude.{ℕ, ◌+◌, nat_lt, Bool, true, false, not, ◌==◌, ◌&&◌, if◌then◌else◌, Option, Some, None}
+use Rattle.std.specs.Prelude.{ℕ, ◌+◌, nat_lt, Bool, true, false, not, ◌==◌, ◌&&◌, if◌then◌else◌}
+use Rattle.std.specs.Prelude.{Option, Some, None}
 use Rattle.std.specs.Int.Bits.{bit_and}
 use Rattle.dec_spi.specs.declared.held.Bits.{Bits}
 use Rattle.dec_spi.specs.declared.held.Held.{Held}
@@ -28,7 +29,8 @@ abbrev pub no_lines : Lines
 no_lines = record { select = 0; active = 0; mosi = 0; miso = 0; low_first = false; bits = 0 }
 
 abbrev pub lines_of : SpiOpts → Lines
-lines_of opts = if is_low opts.cs && is_low opts.mosi && is_low opts.miso then low_lines opts else no_lines
+lines_of opts =
+    if is_low opts.cs && is_low opts.mosi && is_low opts.miso then low_lines opts else no_lines
 
 -- the line of a mask is high in this half
 abbrev pub reads : ℕ → ℕ → Bool
@@ -36,7 +38,8 @@ reads mask low = not (bit_and low mask == 0)
 
 -- a clock before the last of a word: it gives nothing and ends nothing
 abbrev pub is_before : Lines → Bits → ℕ → Bool
-is_before lines word low = bit_and low lines.select == lines.active && nat_lt (word.count + 1) lines.bits
+is_before lines word low =
+    bit_and low lines.select == lines.active && nat_lt (word.count + 1) lines.bits
 
 abbrev pub is_bit : Lines → Held → ℕ → Bool
 is_bit lines Fresh low = false
@@ -55,4 +58,5 @@ bit_next lines word k low = record {
 abbrev pub taken : Lines → Held → ℕ → ℕ → Held
 taken lines Fresh k low = Fresh
 taken lines Outside k low = Outside
-taken lines (Inside word) k low = Inside (if is_before lines word low then bit_next lines word k low else word)
+taken lines (Inside word) k low =
+    Inside (if is_before lines word low then bit_next lines word k low else word)

@@ -1,5 +1,7 @@
--- What an SPI decoder waits for, what it keeps of a bus between two events, and how one event changes that.
-use Rattle.std.specs.Prelude.{ℕ, ◌+◌, ◌*◌, ◌%◌, ◌^◌, min, nat_lt, Bool, true, false, ◌==◌, if◌then◌else◌, List, [], ◌∷◌, length, map, Option, Some, None}
+-- What an SPI decoder waits for, what it keeps of a bus between two events, and how one event
+-- changes that.
+use Rattle.std.specs.Prelude.{ℕ, ◌+◌, ◌*◌, ◌%◌, ◌^◌, min, nat_lt, Bool, true, false, ◌==◌}
+use Rattle.std.specs.Prelude.{if◌then◌else◌, List, [], ◌∷◌, length, map, Option, Some, None}
 use Rattle.la_base.specs.declared.wires.Out.{Out}
 use Rattle.la_base.specs.declared.wires.Wire.TheVariants.{Spi as SpiWire}
 use Rattle.wait_cond.specs.declared.alt.Alt.{Alt}
@@ -13,7 +15,9 @@ use Rattle.sample_walks.specs.Walks.{walked, EndsThere}
 use Rattle.dec_spi.specs.declared.held.Held.{Held}
 use Rattle.dec_spi.specs.declared.held.Held.TheVariants.{Fresh, Outside, Inside}
 use Rattle.dec_spi.specs.declared.options.SpiOpts.{SpiOpts}
-use Rattle.dec_spi.specs.Bus.{Event, Select, Deselect, Clock, event_at, is_active_high, is_low_first, reads_rises, is_selected, level_of, place_of, mosi_of, miso_of, value_of, word_outs, select_outs, deselect_outs, stretches}
+use Rattle.dec_spi.specs.Bus.{Event, Select, Deselect, Clock, event_at, is_active_high}
+use Rattle.dec_spi.specs.Bus.{is_low_first, reads_rises, is_selected, level_of, place_of, mosi_of}
+use Rattle.dec_spi.specs.Bus.{miso_of, value_of, word_outs, select_outs, deselect_outs, stretches}
 
 -- the mask of a line, if it is given; and that of the select line where it is active low, and high
 abbrev pub mask_of : Option ℕ → ℕ
@@ -30,7 +34,16 @@ high_mask cs false = 0
 
 -- the sample is selected
 abbrev pub select_alt : Option ℕ → Bool → Alt
-select_alt cs high = record { low = low_mask cs high; high = high_mask cs high; rise = 0; fall = 0; edge = 0; steady = 0; skip = 0 }
+select_alt cs high =
+    record {
+      low = low_mask cs high;
+      high = high_mask cs high;
+      rise = 0;
+      fall = 0;
+      edge = 0;
+      steady = 0;
+      skip = 0;
+    }
 
 -- it is selected as the one before it was, and the clock has an edge at which a bit is read
 abbrev pub rise_mask : ℕ → Bool → ℕ
@@ -57,15 +70,18 @@ clock_alt_of opts = clock_alt opts.sck (reads_rises opts) opts.cs (is_active_hig
 
 -- the select line changes
 abbrev pub change_alt : ℕ → Alt
-change_alt line = record { low = 0; high = 0; rise = 0; fall = 0; edge = 2 ^ line; steady = 0; skip = 0 }
+change_alt line =
+    record { low = 0; high = 0; rise = 0; fall = 0; edge = 2 ^ line; steady = 0; skip = 0 }
 
 abbrev pub change_alts : Option ℕ → List Alt
 change_alts None = []
 change_alts (Some line) = change_alt line ∷ []
 
--- what each event but the first meets, and nothing else does. No edge is met at sample 0, so the first wait is for a level
+-- what each event but the first meets, and nothing else does. No edge is met at sample 0, so the
+-- first wait is for a level
 abbrev pub event_alts : SpiOpts → List Alt
-event_alts opts = clock_alt opts.sck (reads_rises opts) opts.cs (is_active_high opts) ∷ change_alts opts.cs
+event_alts opts =
+    clock_alt opts.sck (reads_rises opts) opts.cs (is_active_high opts) ∷ change_alts opts.cs
 
 abbrev pub spi_alts : SpiOpts → Held → List Alt
 spi_alts opts Fresh = select_alt opts.cs (is_active_high opts) ∷ []
@@ -78,9 +94,11 @@ is_fresh Fresh = true
 is_fresh Outside = false
 is_fresh (Inside word) = false
 
--- a stretch with so many bits of a word, the numbers that they make up, and the place of the first of them
+-- a stretch with so many bits of a word, the numbers that they make up, and the place of the first
+-- of them
 abbrev pub inside : ℕ → ℕ → ℕ → ℕ → Held
-inside count mosi miso first = Inside (record { count = count; mosi = mosi; miso = miso; first = first })
+inside count mosi miso first =
+    Inside (record { count = count; mosi = mosi; miso = miso; first = first })
 
 -- a stretch that has just begun
 abbrev pub begun : Held
@@ -88,7 +106,9 @@ begun = inside 0 0 0 0
 
 -- what is kept of the clocks behind the whole words of a stretch
 abbrev pub held_by : SpiOpts → List Event → Held
-held_by opts rest = inside (length rest) (value_of (is_low_first opts) (map mosi_of rest)) (value_of (is_low_first opts) (map miso_of rest)) (first_place place_of rest)
+held_by opts rest =
+    inside (length rest) (value_of (is_low_first opts) (map mosi_of rest))
+    (value_of (is_low_first opts) (map miso_of rest)) (first_place place_of rest)
 
 abbrev pub held_in : SpiOpts → Option Event → List Event → Held
 held_in opts (Some event) items = Outside
@@ -105,7 +125,8 @@ held_last opts (Some stretch) = held_in opts stretch.ended_by stretch.items
 abbrev pub held_after : SpiOpts → List Event → Held
 held_after opts list = held_last opts (last_of (stretches list))
 
--- a number of so many bits with one more bit behind them; a decoder that stands for no samples may have counted any number
+-- a number of so many bits with one more bit behind them; a decoder that stands for no samples may
+-- have counted any number
 abbrev pub with_bit : Bool → ℕ → ℕ → Bool → ℕ
 with_bit false count number level = number % 2 ^ 31 * 2 + bit_of level
 with_bit true count number level = number % 2 ^ min count 31 + bit_of level * 2 ^ min count 31
@@ -118,11 +139,14 @@ start_of count first k = if count == 0 then k else first
 abbrev pub clock_gives : SpiOpts → ℕ → ℕ → ℕ → ℕ → ℕ → Bool → Bool → List Out
 clock_gives opts count mosi miso first k out back =
     if nat_lt (count + 1) opts.bits then []
-    else word_outs opts (start_of count first k) k (with_bit (is_low_first opts) count mosi out) (with_bit (is_low_first opts) count miso back)
+    else word_outs opts (start_of count first k) k (with_bit (is_low_first opts) count mosi out)
+    (with_bit (is_low_first opts) count miso back)
 
 abbrev pub clock_next : SpiOpts → ℕ → ℕ → ℕ → ℕ → ℕ → Bool → Bool → Held
 clock_next opts count mosi miso first k out back =
-    if nat_lt (count + 1) opts.bits then inside (count + 1) (with_bit (is_low_first opts) count mosi out) (with_bit (is_low_first opts) count miso back) (start_of count first k)
+    if nat_lt (count + 1) opts.bits then inside (count + 1)
+    (with_bit (is_low_first opts) count mosi out) (with_bit (is_low_first opts) count miso back)
+    (start_of count first k)
     else begun
 
 -- what an event gives, and what is then kept
@@ -133,7 +157,8 @@ gives opts Outside (Deselect k) = []
 gives opts (Inside word) (Deselect k) = deselect_outs k
 gives opts Fresh (Clock k out back) = []
 gives opts Outside (Clock k out back) = []
-gives opts (Inside word) (Clock k out back) = clock_gives opts word.count word.mosi word.miso word.first k out back
+gives opts (Inside word) (Clock k out back) =
+    clock_gives opts word.count word.mosi word.miso word.first k out back
 
 abbrev pub next : SpiOpts → Held → Event → Held
 next opts held (Select k) = begun
@@ -142,7 +167,8 @@ next opts Outside (Deselect k) = Outside
 next opts (Inside word) (Deselect k) = Outside
 next opts Fresh (Clock k out back) = Fresh
 next opts Outside (Clock k out back) = Outside
-next opts (Inside word) (Clock k out back) = clock_next opts word.count word.mosi word.miso word.first k out back
+next opts (Inside word) (Clock k out back) =
+    clock_next opts word.count word.mosi word.miso word.first k out back
 
 -- where the word starts that has begun, else the number of samples
 abbrev pub near_by : Held → ℕ → ℕ
@@ -150,18 +176,22 @@ near_by Fresh count = count
 near_by Outside count = count
 near_by (Inside word) count = if word.count == 0 then count else word.first
 
--- the event at a stop, by what is kept, whether the sample is selected, and the levels of MOSI and MISO
+-- the event at a stop, by what is kept, whether the sample is selected, and the levels of MOSI and
+-- MISO
 abbrev pub event_by_held : Held → ℕ → Bool → Bool → Bool → Event
 event_by_held Fresh at selected out back = Select at
 event_by_held Outside at selected out back = Select at
-event_by_held (Inside word) at selected out back = if selected then Clock at out back else Deselect at
+event_by_held (Inside word) at selected out back =
+    if selected then Clock at out back else Deselect at
 
 -- a clock, by its sample
 abbrev pub clock_of : SpiOpts → ℕ → ℕ → Event
 clock_of opts at value = Clock at (level_of opts.mosi value) (level_of opts.miso value)
 
 abbrev pub event_of : SpiOpts → Held → ℕ → ℕ → Event
-event_of opts held at value = event_by_held held at (is_selected opts value) (level_of opts.mosi value) (level_of opts.miso value)
+event_of opts held at value =
+    event_by_held held at (is_selected opts value) (level_of opts.mosi value)
+    (level_of opts.miso value)
 
 abbrev pub spi_walk : SpiOpts → EventWalk Held Event
 spi_walk opts = record {

@@ -1,5 +1,7 @@
 -- The number that levels make up, in parts.
-use Rattle.std.proofs.Common.{◌≡◌, inl, inr, ℕ, zero, suc, ◌+◌, ◌-◌, ◌*◌, ◌/◌, ◌%◌, ◌^◌, Bool, true, false, not, List, [], ◌∷◌, length, take, drop, get_or, map, refl, sym, ◌∙◌, ap, arith, ◌==◌}
+use Rattle.std.proofs.Common.{◌≡◌, inl, inr, ℕ, zero, suc, ◌+◌, ◌-◌, ◌*◌, ◌/◌, ◌%◌, ◌^◌, Bool, true}
+use Rattle.std.proofs.Common.{false, not, List, [], ◌∷◌, length, take, drop, get_or, map, refl, sym}
+use Rattle.std.proofs.Common.{◌∙◌, ap, arith, ◌==◌}
 use Rattle.std.specs.Int.RustNames.{count_ones}
 use Rattle.std.specs.List.{count_by, list_any}
 use Rattle.std.proofs.Math.Nat.{zero-div, div-one, div-div-eq-div-mul, pow-succ'}
@@ -39,8 +41,10 @@ low_take (bit ∷ bits) zero = omega arith
 low_take (bit ∷ bits) (suc n) =
     let next : suc n ≡ n + 1 = omega arith in
     let parts = mod-pow-add (bit_of bit + 2 * low_first bits) n 1 in
-    let rest : (bit_of bit + 2 * low_first bits) / 2 % 2 ^ n ≡ low_first (take n bits) = ap (λ (m : ℕ). m % 2 ^ n) (half bit (low_first bits)) ∙ low_take bits n in
-    ap (λ (k : ℕ). (bit_of bit + 2 * low_first bits) % 2 ^ k) next ∙ parts ∙ omega (arith, rest, lowest bit (low_first bits))
+    let rest : (bit_of bit + 2 * low_first bits) / 2 % 2 ^ n ≡ low_first (take n bits) =
+    ap (λ (m : ℕ). m % 2 ^ n) (half bit (low_first bits)) ∙ low_take bits n in
+    ap (λ (k : ℕ). (bit_of bit + 2 * low_first bits) % 2 ^ k) next ∙ parts
+    ∙ omega (arith, rest, lowest bit (low_first bits))
 
 -- one bit
 pub low_bit : (bits : List Bool) (i : ℕ) → is_high (low_first bits) i ≡ get_or bits i false
@@ -50,7 +54,9 @@ low_bit bits i = ap (λ (n : ℕ). n % 2 == 1) (low_drop bits i) ∙ by bits i
     by [] zero = refl
     by [] (suc i) = refl
     by (true ∷ bits) zero = test_yes ((1 + 2 * low_first bits) % 2) 1 (lowest true (low_first bits))
-    by (false ∷ bits) zero = test_no ((0 + 2 * low_first bits) % 2) 1 (λ is. let e = lowest false (low_first bits) in absurd (omega (arith, e, is)))
+    by (false ∷ bits) zero =
+        test_no ((0 + 2 * low_first bits) % 2) 1
+        (λ is. let e = lowest false (low_first bits) in absurd (omega (arith, e, is)))
     by (bit ∷ bits) (suc i) = by bits i
 
 -- how many bits are high
@@ -67,8 +73,10 @@ pub low_none : (bits : List Bool) → (low_first bits == 0) ≡ not (any_high bi
 low_none [] = refl
 low_none (true ∷ bits) = test_no (1 + 2 * low_first bits) 0 (λ is. absurd (omega (arith, is)))
 low_none (false ∷ bits) = elim (cases_eq (low_first bits) 0) [
-  | inl none ↦ test_yes (0 + 2 * low_first bits) 0 (omega (arith, none)) ∙ sym (test_yes (low_first bits) 0 none) ∙ low_none bits
-  | inr some ↦ test_no (0 + 2 * low_first bits) 0 (λ is. some (omega (arith, is))) ∙ sym (test_no (low_first bits) 0 some) ∙ low_none bits
+  | inl none ↦ test_yes (0 + 2 * low_first bits) 0 (omega (arith, none))
+      ∙ sym (test_yes (low_first bits) 0 none) ∙ low_none bits
+  | inr some ↦ test_no (0 + 2 * low_first bits) 0 (λ is. some (omega (arith, is)))
+      ∙ sym (test_no (low_first bits) 0 some) ∙ low_none bits
 ]
 
 -- it has a 1 in each place exactly where no bit is low
@@ -77,11 +85,16 @@ low_all [] = refl
 low_all (false ∷ bits) =
     let twice : 2 ^ suc (length bits) ≡ 2 * 2 ^ length bits = pow-succ' 2 (length bits) in
     let some = pow_pos (length bits) in
-    test_no (0 + 2 * low_first bits) (2 ^ suc (length bits) - 1) (λ is. absurd (omega (arith, is, twice, some)))
+    test_no (0 + 2 * low_first bits) (2 ^ suc (length bits) - 1)
+    (λ is. absurd (omega (arith, is, twice, some)))
 low_all (true ∷ bits) =
     let twice : 2 ^ suc (length bits) ≡ 2 * 2 ^ length bits = pow-succ' 2 (length bits) in
     let some = pow_pos (length bits) in
     elim (cases_eq (low_first bits) (2 ^ length bits - 1)) [
-      | inl full ↦ test_yes (1 + 2 * low_first bits) (2 ^ suc (length bits) - 1) (omega (arith, full, twice, some)) ∙ sym (test_yes (low_first bits) (2 ^ length bits - 1) full) ∙ low_all bits
-      | inr less ↦ test_no (1 + 2 * low_first bits) (2 ^ suc (length bits) - 1) (λ is. less (omega (arith, is, twice, some))) ∙ sym (test_no (low_first bits) (2 ^ length bits - 1) less) ∙ low_all bits
+      | inl full ↦ test_yes (1 + 2 * low_first bits) (2 ^ suc (length bits) - 1)
+          (omega (arith, full, twice, some))
+          ∙ sym (test_yes (low_first bits) (2 ^ length bits - 1) full) ∙ low_all bits
+      | inr less ↦ test_no (1 + 2 * low_first bits) (2 ^ suc (length bits) - 1)
+          (λ is. less (omega (arith, is, twice, some)))
+          ∙ sym (test_no (low_first bits) (2 ^ length bits - 1) less) ∙ low_all bits
     ]

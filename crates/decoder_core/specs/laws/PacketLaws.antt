@@ -1,5 +1,6 @@
 -- What outputs of the packets that count promise, where outputs of packets promise it.
-use Rattle.std.proofs.Common.{◌≡◌, ℕ, ◌+◌, ◌≤◌, Bool, true, false, List, [], ◌∷◌, ◌++◌, length, map, refl, sym, ◌∙◌, ap, subst, if◌then◌else◌, arith}
+use Rattle.std.proofs.Common.{◌≡◌, ℕ, ◌+◌, ◌≤◌, Bool, true, false, List, [], ◌∷◌, ◌++◌, length, map}
+use Rattle.std.proofs.Common.{refl, sym, ◌∙◌, ap, subst, if◌then◌else◌, arith}
 use Rattle.std.specs.Prelude.{nat_le, ◌&&◌}
 use Rattle.std.proofs.lemmas.Bool.Decides.{nat_tests}
 use Rattle.std.proofs.lemmas.List.{append-nil}
@@ -7,16 +8,25 @@ use Rattle.std.proofs.Math.Nat.{le-add_right}
 use Rattle.la_base.specs.Kinds.{same_wire, wire_of}
 use Rattle.la_base.specs.declared.wires.Packet.{Packet}
 use Rattle.la_base.specs.declared.wires.Out.{Out}
-use Rattle.la_base.specs.declared.wires.Out.TheVariants.{Note as NoteOut, Piece as PieceOut, Packet as PacketOut}
+use Rattle.la_base.specs.declared.wires.Out.TheVariants.{Note as NoteOut, Piece as PieceOut}
+use Rattle.la_base.specs.declared.wires.Out.TheVariants.{Packet as PacketOut}
 use Rattle.la_base.specs.declared.wires.PacketKind.{PacketKind}
-use Rattle.la_base.specs.declared.wires.PacketKind.TheVariants.{I2cStart, I2cStop, I2cAddress, I2cData, I2cAck, SpiSelect, SpiWord, SpiDeselect, UartFrame, UartBreak, OwReset, OwPresence, OwBit, NetReset, NetCommand, NetRom, NetByte}
+use Rattle.la_base.specs.declared.wires.PacketKind.TheVariants.{I2cStart, I2cStop, I2cAddress}
+use Rattle.la_base.specs.declared.wires.PacketKind.TheVariants.{I2cData, I2cAck, SpiSelect, SpiWord}
+use Rattle.la_base.specs.declared.wires.PacketKind.TheVariants.{SpiDeselect, UartFrame, UartBreak}
+use Rattle.la_base.specs.declared.wires.PacketKind.TheVariants.{OwReset, OwPresence, OwBit}
+use Rattle.la_base.specs.declared.wires.PacketKind.TheVariants.{NetReset, NetCommand, NetRom}
+use Rattle.la_base.specs.declared.wires.PacketKind.TheVariants.{NetByte}
 use Rattle.std.proofs.lemmas.List.Sorted.{IsNonDecreasingBy-short}
 use Rattle.std.specs.List.Sorted.{IsNonDecreasing}
 use Rattle.la_base.specs.declared.wires.Wire.{Wire}
-use Rattle.la_base.specs.declared.wires.Wire.TheVariants.{Logic, I2c, Spi, Uart, OwLink, OwNet, Nothing}
+use Rattle.la_base.specs.declared.wires.Wire.TheVariants.{Logic, I2c, Spi, Uart, OwLink, OwNet}
+use Rattle.la_base.specs.declared.wires.Wire.TheVariants.{Nothing}
 use Rattle.decoder_core.specs.Inputs.{Item, Sample, Pack}
-use Rattle.decoder_core.specs.Promises.{GivesNothing, KeepsFront, PacketsInOrder, AddsFew, GivesOn, IsFloor, PacketsOn, packet_starts}
-use Rattle.decoder_core.specs.Packets.{counts, counting, counted_packets, last_start, CountFrom, AllCount, PacketsStayInOrder, IsPacketFloor}
+use Rattle.decoder_core.specs.Promises.{GivesNothing, KeepsFront, PacketsInOrder, AddsFew, GivesOn}
+use Rattle.decoder_core.specs.Promises.{IsFloor, PacketsOn, packet_starts}
+use Rattle.decoder_core.specs.Packets.{counts, counting, counted_packets, last_start, CountFrom}
+use Rattle.decoder_core.specs.Packets.{AllCount, PacketsStayInOrder, IsPacketFloor}
 
 pub same_wire_true : (one other : Wire) → same_wire one other ≡ true → one ≡ other
 same_wire_true Logic Logic e = refl
@@ -32,32 +42,48 @@ both_true : (a b : Bool) → (a && b) ≡ true → (a ≡ true) × (b ≡ true)
 both_true true b e = (refl, e)
 both_true false b e = absurd cc
 
-pub counts_means : (wire : Wire) (last : ℕ) (packet : Packet) → counts wire last packet ≡ true → (wire_of packet.kind ≡ wire) × (last ≤ packet.start)
+pub counts_means : (wire : Wire) (last : ℕ) (packet : Packet) → counts wire last packet ≡ true
+    → (wire_of packet.kind ≡ wire) × (last ≤ packet.start)
 counts_means wire last packet e =
     let parts = both_true (same_wire (wire_of packet.kind) wire) (nat_le last packet.start) e in
-    let test = parts.1 in
-    (same_wire_true (wire_of packet.kind) wire parts.0, (let less : last ≤ packet.start = grind (arith, nat_tests) in less))
+    let test = parts.1 in (
+      same_wire_true (wire_of packet.kind) wire parts.0,
+      (let less : last ≤ packet.start = grind (arith, nat_tests) in less),
+    )
 
 -- one input behind another
-pub counting-append : (wire : Wire) (last : ℕ) (xs ys : List Item) → counting wire last (xs ++ ys) ≡ counting wire last xs ++ counting wire (last_start last (counting wire last xs)) ys
+pub counting-append : (wire : Wire) (last : ℕ) (xs ys : List Item)
+    → counting wire last (xs ++ ys)
+    ≡ counting wire last xs ++ counting wire (last_start last (counting wire last xs)) ys
 counting-append wire last [] ys = refl
 counting-append wire last (Sample v ∷ xs) ys = counting-append wire last xs ys
-counting-append wire last (Pack p ∷ xs) ys = by (counts wire last p) (counting-append wire p.start xs ys) (counting-append wire last xs ys)
+counting-append wire last (Pack p ∷ xs) ys =
+    by (counts wire last p) (counting-append wire p.start xs ys) (counting-append wire last xs ys)
   where
-    by : (b : Bool) → counting wire p.start (xs ++ ys) ≡ counting wire p.start xs ++ counting wire (last_start p.start (counting wire p.start xs)) ys
-        → counting wire last (xs ++ ys) ≡ counting wire last xs ++ counting wire (last_start last (counting wire last xs)) ys
+    by : (b : Bool) → counting wire p.start (xs ++ ys)
+        ≡ counting wire p.start xs
+        ++ counting wire (last_start p.start (counting wire p.start xs)) ys
+        → counting wire last (xs ++ ys)
+        ≡ counting wire last xs ++ counting wire (last_start last (counting wire last xs)) ys
         → (if b then p ∷ counting wire p.start (xs ++ ys) else counting wire last (xs ++ ys))
-        ≡ (if b then p ∷ counting wire p.start xs else counting wire last xs) ++ counting wire (last_start last (if b then p ∷ counting wire p.start xs else counting wire last xs)) ys
+        ≡ (if b then p ∷ counting wire p.start xs else counting wire last xs)
+        ++ counting wire (last_start last
+        (if b then p ∷ counting wire p.start xs else counting wire last xs)) ys
     by true longer passed = ap (λ (l : List Packet). p ∷ l) longer
     by false longer passed = passed
 
 -- what counts counts
-pub all_count : (wire : Wire) (last : ℕ) (items : List Item) → CountFrom wire last (counting wire last items)
+pub all_count : (wire : Wire) (last : ℕ) (items : List Item)
+    → CountFrom wire last (counting wire last items)
 all_count wire last [] = tt
 all_count wire last (Sample v ∷ items) = all_count wire last items
-all_count wire last (Pack p ∷ items) = by (counts wire last p) refl (all_count wire p.start items) (all_count wire last items)
+all_count wire last (Pack p ∷ items) =
+    by (counts wire last p) refl (all_count wire p.start items) (all_count wire last items)
   where
-    by : (b : Bool) → counts wire last p ≡ b → CountFrom wire p.start (counting wire p.start items) → CountFrom wire last (counting wire last items) → CountFrom wire last (if b then p ∷ counting wire p.start items else counting wire last items)
+    by : (b : Bool) → counts wire last p ≡ b → CountFrom wire p.start (counting wire p.start items)
+        → CountFrom wire last (counting wire last items)
+        → CountFrom wire last
+        (if b then p ∷ counting wire p.start items else counting wire last items)
     by true e longer passed = let m = counts_means wire last p e in (m.0, m.1, longer)
     by false e longer passed = passed
 
@@ -66,7 +92,9 @@ module _ (wire : Wire) where
   unfolding counted_packets
   packets_count input = all_count wire 0 input
 
-  pub counted_on : (input more : List Item) → counted_packets wire (input ++ more) ≡ counted_packets wire input ++ counting wire (last_start 0 (counted_packets wire input)) more
+  pub counted_on : (input more : List Item)
+      → counted_packets wire (input ++ more) ≡ counted_packets wire input
+      ++ counting wire (last_start 0 (counted_packets wire input)) more
   unfolding counted_packets
   counted_on input more = counting-append wire 0 input more
 
@@ -74,22 +102,36 @@ module _ (wire : Wire) where
   unfolding counted_packets
   none_counted = refl
 
-  pub packet_counted : (input : List Item) (p : Packet) → counts wire (last_start 0 (counted_packets wire input)) p ≡ true → counted_packets wire (input ++ Pack p ∷ []) ≡ counted_packets wire input ++ p ∷ []
-  packet_counted input p e = counted_on input (Pack p ∷ []) ∙ ap (λ (b : Bool). counted_packets wire input ++ (if b then p ∷ [] else [])) e
+  pub packet_counted : (input : List Item) (p : Packet)
+      → counts wire (last_start 0 (counted_packets wire input)) p ≡ true
+      → counted_packets wire (input ++ Pack p ∷ []) ≡ counted_packets wire input ++ p ∷ []
+  packet_counted input p e =
+      counted_on input (Pack p ∷ [])
+      ∙ ap (λ (b : Bool). counted_packets wire input ++ (if b then p ∷ [] else [])) e
 
-  pub packet_passed : (input : List Item) (p : Packet) → counts wire (last_start 0 (counted_packets wire input)) p ≡ false → counted_packets wire (input ++ Pack p ∷ []) ≡ counted_packets wire input
-  packet_passed input p e = counted_on input (Pack p ∷ []) ∙ ap (λ (b : Bool). counted_packets wire input ++ (if b then p ∷ [] else [])) e ∙ append-nil (counted_packets wire input)
+  pub packet_passed : (input : List Item) (p : Packet)
+      → counts wire (last_start 0 (counted_packets wire input)) p ≡ false
+      → counted_packets wire (input ++ Pack p ∷ []) ≡ counted_packets wire input
+  packet_passed input p e =
+      counted_on input (Pack p ∷ [])
+      ∙ ap (λ (b : Bool). counted_packets wire input ++ (if b then p ∷ [] else [])) e
+      ∙ append-nil (counted_packets wire input)
 
   only_samples : (last : ℕ) (l : List ℕ) → counting wire last (map Sample l) ≡ []
   only_samples last [] = refl
   only_samples last (v ∷ l) = only_samples last l
 
-  pub samples_passed : (input : List Item) (l : List ℕ) → counted_packets wire (input ++ map Sample l) ≡ counted_packets wire input
+  pub samples_passed : (input : List Item) (l : List ℕ)
+      → counted_packets wire (input ++ map Sample l) ≡ counted_packets wire input
   samples_passed input l =
-      counted_on input (map Sample l) ∙ ap (λ (ps : List Packet). counted_packets wire input ++ ps) (only_samples (last_start 0 (counted_packets wire input)) l) ∙ append-nil (counted_packets wire input)
+      counted_on input (map Sample l)
+      ∙ ap (λ (ps : List Packet). counted_packets wire input ++ ps)
+      (only_samples (last_start 0 (counted_packets wire input)) l)
+      ∙ append-nil (counted_packets wire input)
 
   module _ (outs : List Packet → List Out) where
-    pub nothing_followed : GivesNothing outs → GivesNothing (λ input. outs (counted_packets wire input))
+    pub nothing_followed : GivesNothing outs
+        → GivesNothing (λ input. outs (counted_packets wire input))
     nothing_followed none = ap outs none_counted ∙ none
 
     pub front_followed : KeepsFront outs → KeepsFront (λ input. outs (counted_packets wire input))
@@ -98,25 +140,41 @@ module _ (wire : Wire) where
         let k = keeps had (counting wire (last_start 0 had) more) in
         (k.0, ap outs (counted_on input more) ∙ k.1)
 
-    pub order_followed : PacketsStayInOrder wire outs → PacketsInOrder (λ input. outs (counted_packets wire input))
+    pub order_followed : PacketsStayInOrder wire outs
+        → PacketsInOrder (λ input. outs (counted_packets wire input))
     order_followed order input = order (counted_packets wire input) (packets_count input)
 
-    pub wire_followed : (gives : Wire) → GivesOn gives outs → GivesOn gives (λ input. outs (counted_packets wire input))
+    pub wire_followed : (gives : Wire) → GivesOn gives outs
+        → GivesOn gives (λ input. outs (counted_packets wire input))
     wire_followed gives on input = on (counted_packets wire input)
 
-    few_by : (had : List Packet) (p : Packet) (now : List Packet) (b : Bool) → AddsFew outs → now ≡ had ++ (if b then p ∷ [] else []) → length (outs now) ≤ length (outs had) + 16
-    few_by had p now true few is = subst (λ (l : List Packet). length (outs l) ≤ length (outs had) + 16) (sym is) (few had p)
-    few_by had p now false few is = subst (λ (l : List Packet). length (outs l) ≤ length (outs had) + 16) (sym (is ∙ append-nil had)) (le-add_right (length (outs had)) 16)
+    few_by : (had : List Packet) (p : Packet) (now : List Packet) (b : Bool) → AddsFew outs
+        → now ≡ had ++ (if b then p ∷ [] else []) → length (outs now) ≤ length (outs had) + 16
+    few_by had p now true few is =
+        subst (λ (l : List Packet). length (outs l) ≤ length (outs had) + 16) (sym is) (few had p)
+    few_by had p now false few is =
+        subst (λ (l : List Packet). length (outs l) ≤ length (outs had) + 16)
+        (sym (is ∙ append-nil had)) (le-add_right (length (outs had)) 16)
 
     pub few_followed : AddsFew outs → AddsFew (λ input. outs (counted_packets wire input))
-    few_followed few input (Sample v) = subst (λ (l : List Packet). length (outs l) ≤ length (outs (counted_packets wire input)) + 16) (sym (samples_passed input (v ∷ []))) (le-add_right (length (outs (counted_packets wire input))) 16)
-    few_followed few input (Pack p) = few_by (counted_packets wire input) p (counted_packets wire (input ++ Pack p ∷ [])) (counts wire (last_start 0 (counted_packets wire input)) p) few (counted_on input (Pack p ∷ []))
+    few_followed few input (Sample v) =
+        let had = counted_packets wire input in
+        subst (λ (l : List Packet). length (outs l) ≤ length (outs had) + 16)
+        (sym (samples_passed input (v ∷ []))) (le-add_right (length (outs had)) 16)
+    few_followed few input (Pack p) =
+        few_by (counted_packets wire input) p (counted_packets wire (input ++ Pack p ∷ []))
+        (counts wire (last_start 0 (counted_packets wire input)) p) few
+        (counted_on input (Pack p ∷ []))
 
-    pub floor_followed : (input : List Item) (floor : ℕ) → IsPacketFloor wire outs (counted_packets wire input) floor → IsFloor (λ i. outs (counted_packets wire i)) input floor
+    pub floor_followed : (input : List Item) (floor : ℕ)
+        → IsPacketFloor wire outs (counted_packets wire input) floor
+        → IsFloor (λ i. outs (counted_packets wire i)) input floor
     floor_followed input floor holds more new is =
         let had = counted_packets wire input in
         let added = counting wire (last_start 0 had) more in
-        holds added new (subst (AllCount wire) (counted_on input more) (packets_count (input ++ more))) (ap outs (sym (counted_on input more)) ∙ is)
+        holds added new
+        (subst (AllCount wire) (counted_on input more) (packets_count (input ++ more)))
+        (ap outs (sym (counted_on input more)) ∙ is)
 
 -- no kind of packet is of the wire Nothing
 none_of : (kind : PacketKind) → wire_of kind ≡ Nothing → ⊥
@@ -145,10 +203,14 @@ no_starts (PieceOut piece ∷ outs) on = no_starts outs on
 no_starts (PacketOut packet ∷ outs) on = absurd (none_of packet.kind on.0)
 
 -- what puts no packet out puts packets out in order
-pub order_free : (wire : Wire) (outs : List Packet → List Out) → GivesOn Nothing outs → PacketsStayInOrder wire outs
-order_free wire outs on packets all = subst IsNonDecreasing (sym (no_starts (outs packets) (on packets))) (IsNonDecreasingBy-short (λ x. x) [] (omega arith))
+pub order_free : (wire : Wire) (outs : List Packet → List Out) → GivesOn Nothing outs
+    → PacketsStayInOrder wire outs
+order_free wire outs on packets all =
+    subst IsNonDecreasing (sym (no_starts (outs packets) (on packets)))
+    (IsNonDecreasingBy-short (λ x. x) [] (omega arith))
 
 -- what is behind packets that count counts behind the last of them
-pub count_rest : (wire : Wire) (last : ℕ) (seen more : List Packet) → CountFrom wire last (seen ++ more) → CountFrom wire (last_start last seen) more
+pub count_rest : (wire : Wire) (last : ℕ) (seen more : List Packet)
+    → CountFrom wire last (seen ++ more) → CountFrom wire (last_start last seen) more
 count_rest wire last [] more all = all
 count_rest wire last (x ∷ seen) more all = count_rest wire x.start seen more all.2

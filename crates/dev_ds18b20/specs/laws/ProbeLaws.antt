@@ -13,7 +13,8 @@ use Rattle.dev_ds18b20.specs.laws.Held.{transaction_kept, probe_steps}
 use Rattle.dev_ds18b20.specs.laws.ByteLaws.{probe_pushed}
 use Rattle.dev_ds18b20.specs.laws.SoundLaws.{probe_fits, probe_sound}
 
-all : Promises (transaction_walk probe probe_steps) NetWire NoWire probe_outs (held_of probe probe_steps transaction_kept)
+all : Promises (transaction_walk probe probe_steps) NetWire NoWire probe_outs
+    (held_of probe probe_steps transaction_kept)
 all = promises probe probe_steps NetWire probe_fits transaction_kept probe_sound probe_pushed
 
 pub probe_nothing : GivesNothing probe_outs
@@ -32,5 +33,6 @@ pub probe_order : PacketsStayInOrder NetWire probe_outs
 probe_order = all.order
 
 -- packets make their decoder
-pub one_probe : (one other : ProbeDecoder) (packets : List Packet) → StandsFor one packets → StandsFor other packets → one ≡ other
+pub one_probe : (one other : ProbeDecoder) (packets : List Packet) → StandsFor one packets
+    → StandsFor other packets → one ≡ other
 one_probe one other packets stands also = λ i. record { held = (stands ∙ sym also) i }

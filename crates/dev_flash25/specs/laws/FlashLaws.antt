@@ -13,7 +13,8 @@ use Rattle.dev_flash25.specs.laws.Held.{open_kept, flash_steps}
 use Rattle.dev_flash25.specs.laws.WordLaws.{flash_pushed}
 use Rattle.dev_flash25.specs.laws.SoundLaws.{flash_fits, flash_sound}
 
-all : Promises (transaction_walk flash flash_steps) SpiWire NoWire flash_outs (held_of flash flash_steps open_kept)
+all : Promises (transaction_walk flash flash_steps) SpiWire NoWire flash_outs
+    (held_of flash flash_steps open_kept)
 all = promises flash flash_steps SpiWire flash_fits open_kept flash_sound flash_pushed
 
 pub flash_nothing : GivesNothing flash_outs
@@ -32,5 +33,6 @@ pub flash_order : PacketsStayInOrder SpiWire flash_outs
 flash_order = all.order
 
 -- packets make their decoder
-pub one_flash : (one other : FlashDecoder) (packets : List Packet) → StandsFor one packets → StandsFor other packets → one ≡ other
+pub one_flash : (one other : FlashDecoder) (packets : List Packet) → StandsFor one packets
+    → StandsFor other packets → one ≡ other
 one_flash one other packets stands also = λ i. record { held = (stands ∙ sym also) i }

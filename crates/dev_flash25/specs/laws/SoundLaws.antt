@@ -1,5 +1,6 @@
 -- The walk over packets of SPI is sound.
-use Rattle.std.proofs.Common.{ℕ, ◌≤◌, Bool, true, false, if◌then◌else◌, ◌==◌, List, [], ◌∷◌, length, arith}
+use Rattle.std.proofs.Common.{ℕ, ◌≤◌, Bool, true, false, if◌then◌else◌, ◌==◌, List, [], ◌∷◌, length}
+use Rattle.std.proofs.Common.{arith}
 use Rattle.std.specs.Prelude.{min}
 use Rattle.std.proofs.Math.Nat.{le_refl}
 use Rattle.la_base.specs.declared.wires.Out.{Out}
@@ -8,14 +9,20 @@ use Rattle.decoder_core.specs.Outputs.{span_note}
 use Rattle.decoder_core.specs.Promises.{NotesFrom}
 use Rattle.packet_walks.specs.laws.Steps.{NoPackets, Sound}
 use Rattle.dev_flash25.specs.declared.held.Command.{Command}
-use Rattle.dev_flash25.specs.declared.held.Command.TheVariants.{Id, Status, WriteStatus, Read, FastRead, Program, EraseSector, EraseBlock, EraseChip, Other}
+use Rattle.dev_flash25.specs.declared.held.Command.TheVariants.{Id, Status, WriteStatus, Read}
+use Rattle.dev_flash25.specs.declared.held.Command.TheVariants.{FastRead, Program, EraseSector}
+use Rattle.dev_flash25.specs.declared.held.Command.TheVariants.{EraseBlock, EraseChip, Other}
 use Rattle.dev_flash25.specs.declared.held.Said.{Said}
 use Rattle.dev_flash25.specs.declared.held.Said.TheVariants.{Nothing, One, Two, Dummy, Whole}
 use Rattle.dev_flash25.specs.declared.held.Words.{Words}
 use Rattle.dev_flash25.specs.declared.held.Words.TheVariants.{Empty, Begun}
 use Rattle.dev_flash25.specs.declared.held.Open.{Open}
 use Rattle.dev_flash25.specs.Flash.{is_word, flash}
-use Rattle.dev_flash25.specs.laws.Held.{has_number, has_dummy, rest_begun, number_next, said_next, each_outs, data_outs, said_gives, count_summary, whole_summary, bare_summary, said_summary, words_next, words_give, words_close, open_next, open_gives, flash_steps, whole_begun}
+use Rattle.dev_flash25.specs.laws.Held.{has_number, has_dummy, rest_begun, number_next, said_next}
+use Rattle.dev_flash25.specs.laws.Held.{each_outs, data_outs, said_gives, count_summary}
+use Rattle.dev_flash25.specs.laws.Held.{whole_summary, bare_summary, said_summary, words_next}
+use Rattle.dev_flash25.specs.laws.Held.{words_give, words_close, open_next, open_gives, flash_steps}
+use Rattle.dev_flash25.specs.laws.Held.{whole_begun}
 
 -- what has begun starts no earlier than the select, and the select no later than the last packet
 abbrev said_fits : ℕ → Said → Type 0
@@ -123,11 +130,14 @@ module _ (low from end : ℕ) (after : low ≤ min from end) where
 
 few_closing : (words : Words) → Few (words_close words)
 few_closing Empty = (omega arith, tt)
-few_closing (Begun command from end said) = let one = one_said 0 from end (omega arith) command said in (one.0, one.1)
+few_closing (Begun command from end said) =
+    let one = one_said 0 from end (omega arith) command said in
+    (one.0, one.1)
 
 notes_closing : (low : ℕ) (words : Words) → words_fit low words → NotesFrom low (words_close words)
 notes_closing low Empty fit = tt
-notes_closing low (Begun command from end said) fit = let first = fit.0 in let last = fit.1 in (one_said low from end (omega (arith, first, last)) command said).2
+notes_closing low (Begun command from end said) fit = let first = fit.0 in let last = fit.1 in
+    (one_said low from end (omega (arith, first, last)) command said).2
 
 -- a word of a transaction whose select starts there
 module _ (low : ℕ) (w : Packet) (after : low ≤ w.start) where
@@ -158,7 +168,8 @@ module _ (low : ℕ) (w : Packet) (after : low ≤ w.start) where
   notes_data EraseChip number place = tt
   notes_data Other number place = tt
 
-  notes_said : (c : Command) (said : Said) → said_fits low said → NotesFrom low (said_gives c said w)
+  notes_said : (c : Command) (said : Said) → said_fits low said
+      → NotesFrom low (said_gives c said w)
   notes_said c Nothing fit = notes_each c
   notes_said c (One first start) fit = tt
   notes_said c (Two first second start) fit = (omega (arith, fit, here), tt)
@@ -176,7 +187,8 @@ module _ (low : ℕ) (w : Packet) (after : low ≤ w.start) where
       by true = tt
       by false = tt
 
-  fits_number : (c : Command) (said : Said) → said_fits low said → said_fits low (number_next c said w)
+  fits_number : (c : Command) (said : Said) → said_fits low said
+      → said_fits low (number_next c said w)
   fits_number c Nothing fit = after
   fits_number c (One first start) fit = fit
   fits_number c (Two first second start) fit = fits_rest c _
@@ -192,16 +204,20 @@ module _ (low : ℕ) (w : Packet) (after : low ≤ w.start) where
 
   fits_words : (words : Words) → words_fit low words → words_fit low (words_next words w)
   fits_words Empty fit = (after, omega (arith, after, w.in_order), tt)
-  fits_words (Begun command from end said) fit = (fit.0, omega (arith, after, w.in_order), fits_said command said fit.2)
+  fits_words (Begun command from end said) fit =
+      (fit.0, omega (arith, after, w.in_order), fits_said command said fit.2)
 
-module _ (kept : Open) (last : ℕ) (p : Packet) (fit : flash_fits kept last) (after : last ≤ p.start) where
+module _ (kept : Open) (last : ℕ) (p : Packet) (fit : flash_fits kept last)
+    (after : last ≤ p.start) where
   later : kept.start ≤ p.start
   later = let below = fit.0 in omega (arith, below, after)
 
   fits_next : flash_fits (open_next kept p) p.start
   fits_next = by (is_word p.kind)
     where
-      by : (t : Bool) → flash_fits (if t then record { start = kept.start; words = words_next kept.words p } else kept) p.start
+      by : (t : Bool) → flash_fits
+          (if t then record { start = kept.start; words = words_next kept.words p } else kept)
+          p.start
       by true = (later, fits_words kept.start p later kept.words fit.1)
       by false = (later, fit.1)
 
@@ -215,7 +231,9 @@ module _ (kept : Open) (last : ℕ) (p : Packet) (fit : flash_fits kept last) (a
 start_stays : (kept : Open) (p : Packet) → kept.start ≤ (open_next kept p).start
 start_stays kept p = by (is_word p.kind)
   where
-    by : (t : Bool) → kept.start ≤ (if t then record { start = kept.start; words = words_next kept.words p } else kept).start
+    by : (t : Bool)
+        → kept.start ≤ (if t then record { start = kept.start; words = words_next kept.words p }
+        else kept).start
     by true = le_refl kept.start
     by false = le_refl kept.start
 

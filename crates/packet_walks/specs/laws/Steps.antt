@@ -1,7 +1,10 @@
--- A device's transactions packet by packet: what is kept of the one that is open, and what a device owes of it.
-use Rattle.std.specs.Prelude.{ℕ, ◌≡◌, ◌≤◌, if◌then◌else◌, List, [], ◌∷◌, ◌++◌, length, Option, Some, None}
+-- A device's transactions packet by packet: what is kept of the one that is open, and what a device
+-- owes of it.
+use Rattle.std.specs.Prelude.{ℕ, ◌≡◌, ◌≤◌, if◌then◌else◌, List, [], ◌∷◌, ◌++◌, length, Option, Some}
+use Rattle.std.specs.Prelude.{None}
 use Rattle.la_base.specs.declared.wires.Out.{Out}
-use Rattle.la_base.specs.declared.wires.Out.TheVariants.{Note as NoteOut, Piece as PieceOut, Packet as PacketOut}
+use Rattle.la_base.specs.declared.wires.Out.TheVariants.{Note as NoteOut, Piece as PieceOut}
+use Rattle.la_base.specs.declared.wires.Out.TheVariants.{Packet as PacketOut}
 use Rattle.la_base.specs.declared.wires.Packet.{Packet}
 use Rattle.decoder_core.specs.Promises.{NotesFrom}
 use Rattle.packet_walks.specs.Walks.{PacketWalk}
@@ -14,8 +17,9 @@ NoPackets (NoteOut note ∷ outs) = NoPackets outs
 NoPackets (PieceOut piece ∷ outs) = NoPackets outs
 NoPackets (PacketOut packet ∷ outs) = ⊥
 
--- what is kept of the transaction that is open: behind the packet that begins it; how one more packet changes it, and what that
--- gives; what the packet gives that ends it; and where that starts which may still give notes, by where the last packet starts
+-- what is kept of the transaction that is open: behind the packet that begins it; how one more
+-- packet changes it, and what that gives; what the packet gives that ends it; and where that starts
+-- which may still give notes, by where the last packet starts
 pub record Steps (O : Type 0) : Type 0 where
   pub opens : Packet → O
   pub next : O → Packet → O
@@ -31,13 +35,16 @@ module _ {O : Type 0} (device : Device) (steps : Steps O) where
   -- what a packet gives, and what is kept behind it
   abbrev pub held_gives : Option O → Packet → List Out
   held_gives None packet = []
-  held_gives (Some kept) packet = if device.ends packet then steps.closes kept else steps.gives kept packet
+  held_gives (Some kept) packet =
+      if device.ends packet then steps.closes kept else steps.gives kept packet
 
   abbrev pub held_next : Option O → Packet → Option O
   held_next None packet = begin_next packet
-  held_next (Some kept) packet = if device.ends packet then begin_next packet else Some (steps.next kept packet)
+  held_next (Some kept) packet =
+      if device.ends packet then begin_next packet else Some (steps.next kept packet)
 
-  -- where that starts which may still give notes; where no transaction is open, where the last packet does
+  -- where that starts which may still give notes; where no transaction is open, where the last
+  -- packet does
   abbrev pub held_near : Option O → ℕ → ℕ
   held_near None last = last
   held_near (Some kept) last = steps.near kept last
@@ -60,21 +67,30 @@ module _ {O : Type 0} (device : Device) (steps : Steps O) where
   pub record Pushed (kept : Packet → List Packet → O) : Type 0 where
     pub no_packets : device.inside [] ≡ []
     pub none_kept : (first : Packet) → kept first [] ≡ steps.opens first
-    pub inside_push : (first : Packet) (ps : List Packet) (p : Packet) → device.inside (ps ++ p ∷ []) ≡ device.inside ps ++ steps.gives (kept first ps) p
-    pub kept_push : (first : Packet) (ps : List Packet) (p : Packet) → kept first (ps ++ p ∷ []) ≡ steps.next (kept first ps) p
-    pub closing_is : (first : Packet) (ps : List Packet) → device.closing ps ≡ steps.closes (kept first ps)
-    pub near_after : (first : Packet) (ps : List Packet) (last : ℕ) → first.start ≤ steps.near (kept first ps) last
+    pub inside_push : (first : Packet) (ps : List Packet) (p : Packet)
+        → device.inside (ps ++ p ∷ []) ≡ device.inside ps ++ steps.gives (kept first ps) p
+    pub kept_push : (first : Packet) (ps : List Packet) (p : Packet)
+        → kept first (ps ++ p ∷ []) ≡ steps.next (kept first ps) p
+    pub closing_is : (first : Packet) (ps : List Packet)
+        → device.closing ps ≡ steps.closes (kept first ps)
+    pub near_after : (first : Packet) (ps : List Packet) (last : ℕ)
+        → first.start ≤ steps.near (kept first ps) last
 
-  -- what a device owes of one transaction and one packet. `fits`: this may be kept behind packets the last of which starts there
+  -- what a device owes of one transaction and one packet. `fits`: this may be kept behind packets
+  -- the last of which starts there
   pub record Sound (fits : O → ℕ → Type 0) : Type 0 where
     pub opens_fits : (p : Packet) → fits (steps.opens p) p.start
-    pub next_fits : (kept : O) (last : ℕ) (p : Packet) → fits kept last → last ≤ p.start → fits (steps.next kept p) p.start
+    pub next_fits : (kept : O) (last : ℕ) (p : Packet) → fits kept last → last ≤ p.start
+        → fits (steps.next kept p) p.start
     pub opens_near : (p : Packet) → p.start ≤ steps.near (steps.opens p) p.start
-    pub next_near : (kept : O) (last : ℕ) (p : Packet) → fits kept last → last ≤ p.start → steps.near kept last ≤ steps.near (steps.next kept p) p.start
+    pub next_near : (kept : O) (last : ℕ) (p : Packet) → fits kept last → last ≤ p.start
+        → steps.near kept last ≤ steps.near (steps.next kept p) p.start
     pub near_below : (kept : O) (last : ℕ) → fits kept last → steps.near kept last ≤ last
     pub few : (kept : O) (p : Packet) → length (steps.gives kept p) ≤ 16
     pub few_closing : (kept : O) → length (steps.closes kept) ≤ 16
     pub no_packet : (kept : O) (p : Packet) → NoPackets (steps.gives kept p)
     pub no_packet_closing : (kept : O) → NoPackets (steps.closes kept)
-    pub notes : (kept : O) (last : ℕ) (p : Packet) → fits kept last → last ≤ p.start → NotesFrom (steps.near kept last) (steps.gives kept p)
-    pub notes_closing : (kept : O) (last : ℕ) → fits kept last → NotesFrom (steps.near kept last) (steps.closes kept)
+    pub notes : (kept : O) (last : ℕ) (p : Packet) → fits kept last → last ≤ p.start
+        → NotesFrom (steps.near kept last) (steps.gives kept p)
+    pub notes_closing : (kept : O) (last : ℕ) → fits kept last
+        → NotesFrom (steps.near kept last) (steps.closes kept)

@@ -17,5 +17,7 @@ module _ {O S : Type 0} (device : Device) (steps : Steps O) (kept : Packet → L
   Opens (Ok machine) = StandsFor machine []
   Opens (Err fault) = ⊥
 
-  pub one_transacting : (opts : S) (one other : Transacting O S) (packets : List Packet) → opts ≡ opts → StandsFor one packets → StandsFor other packets → one ≡ other
-  one_transacting opts one other packets same stands also = λ i. record { held = (stands ∙ sym also) i }
+  pub one_transacting : (opts : S) (one other : Transacting O S) (packets : List Packet)
+      → opts ≡ opts → StandsFor one packets → StandsFor other packets → one ≡ other
+  one_transacting opts one other packets same stands also =
+      λ i. record { held = (stands ∙ sym also) i }

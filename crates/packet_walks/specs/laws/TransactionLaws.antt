@@ -1,9 +1,12 @@
 -- A device that owes what it does with one packet of a transaction walks soundly over all packets.
-use Rattle.std.proofs.Common.{◌≡◌, ℕ, ◌≤◌, Bool, true, false, cond, if◌then◌else◌, List, [], ◌∷◌, ◌++◌, length, Option, Some, None, refl, sym, ◌∙◌, ap, subst, append_assoc, arith}
+use Rattle.std.proofs.Common.{◌≡◌, ℕ, ◌≤◌, Bool, true, false, cond, if◌then◌else◌, List, [], ◌∷◌}
+use Rattle.std.proofs.Common.{◌++◌, length, Option, Some, None, refl, sym, ◌∙◌, ap, subst}
+use Rattle.std.proofs.Common.{append_assoc, arith}
 use Rattle.std.proofs.Math.Nat.{le_refl}
 use Rattle.std.proofs.lemmas.List.{append-nil}
 use Rattle.la_base.specs.declared.wires.Out.{Out}
-use Rattle.la_base.specs.declared.wires.Out.TheVariants.{Note as NoteOut, Piece as PieceOut, Packet as PacketOut}
+use Rattle.la_base.specs.declared.wires.Out.TheVariants.{Note as NoteOut, Piece as PieceOut}
+use Rattle.la_base.specs.declared.wires.Out.TheVariants.{Packet as PacketOut}
 use Rattle.la_base.specs.declared.wires.Packet.{Packet}
 use Rattle.la_base.specs.declared.wires.Wire.{Wire}
 use Rattle.la_base.specs.declared.wires.Wire.TheVariants.{Nothing as NoWire}
@@ -11,11 +14,16 @@ use Rattle.decoder_core.specs.Packets.{IsPacketFloor, last_start}
 use Rattle.decoder_core.specs.Promises.{NotesFrom, PacketsOn, packet_starts}
 use Rattle.sample_walks.specs.Walks.{Between}
 use Rattle.packet_walks.specs.Walks.{SoundPackets, PushedPackets}
-use Rattle.packet_walks.specs.Transactions.{from_first, Device, closed_outs, open_outs, transaction_outs, open_part, begun_at, transaction_near}
+use Rattle.packet_walks.specs.Transactions.{from_first, Device, closed_outs, open_outs}
+use Rattle.packet_walks.specs.Transactions.{transaction_outs, open_part, begun_at, transaction_near}
 use Rattle.packet_walks.specs.Promises.{Promises}
-use Rattle.packet_walks.specs.laws.Steps.{NoPackets, Steps, begin_next, held_gives, held_next, held_near, transaction_walk, held_in, held_of, Pushed, Sound}
-use Rattle.packet_walks.specs.laws.WalkLaws.{notes_from_less, walk_nothing, walk_prefix, walk_few, walk_on, walk_order, walk_floor}
-use Rattle.packet_walks.specs.laws.CutLaws.{grown_first, first_push, ended_of, last_of, ended_stay, last_grows, ended_grow, last_begins}
+use Rattle.packet_walks.specs.laws.Steps.{NoPackets, Steps, begin_next, held_gives, held_next}
+use Rattle.packet_walks.specs.laws.Steps.{held_near, transaction_walk, held_in, held_of, Pushed}
+use Rattle.packet_walks.specs.laws.Steps.{Sound}
+use Rattle.packet_walks.specs.laws.WalkLaws.{notes_from_less, walk_nothing, walk_prefix, walk_few}
+use Rattle.packet_walks.specs.laws.WalkLaws.{walk_on, walk_order, walk_floor}
+use Rattle.packet_walks.specs.laws.CutLaws.{grown_first, first_push, ended_of, last_of, ended_stay}
+use Rattle.packet_walks.specs.laws.CutLaws.{last_grows, ended_grow, last_begins}
 
 -- outputs without a packet are of any wire
 pub any_wire : (wire : Wire) (outs : List Out) → NoPackets outs → PacketsOn wire outs
@@ -50,12 +58,14 @@ module _ {O : Type 0} (device : Device) (steps : Steps O) where
       ends_with None = []
       ends_with (Some o) = steps.closes o
 
-      open_gives : (part : List Packet) (begins : Bool) → open_outs device (grown_first p part begins) ≡ open_outs device part ++ told (held part)
+      open_gives : (part : List Packet) (begins : Bool)
+          → open_outs device (grown_first p part begins) ≡ open_outs device part ++ told (held part)
       open_gives [] true = pushed.no_packets
       open_gives [] false = refl
       open_gives (first ∷ packets) begins = pushed.inside_push first packets p
 
-      open_next : (part : List Packet) → held (grown_first p part (device.begins p)) ≡ goes (held part)
+      open_next : (part : List Packet)
+          → held (grown_first p part (device.begins p)) ≡ goes (held part)
       open_next [] = by (device.begins p)
         where
           by : (t : Bool) → held (cond t (p ∷ []) []) ≡ (if t then Some (steps.opens p) else None)
@@ -63,16 +73,19 @@ module _ {O : Type 0} (device : Device) (steps : Steps O) where
           by false = refl
       open_next (first ∷ packets) = ap Some (pushed.kept_push first packets p)
 
-      closes : (part : List Packet) → closed_outs device part ≡ open_outs device part ++ ends_with (held part)
+      closes : (part : List Packet)
+          → closed_outs device part ≡ open_outs device part ++ ends_with (held part)
       closes [] = refl
-      closes (first ∷ packets) = ap (λ (l : List Out). device.inside packets ++ l) (pushed.closing_is first packets)
+      closes (first ∷ packets) =
+          ap (λ (l : List Out). device.inside packets ++ l) (pushed.closing_is first packets)
 
       -- a transaction that this packet alone may have begun gives nothing
       alone_gives : (begins : Bool) → open_outs device (cond begins (p ∷ []) []) ≡ []
       alone_gives true = pushed.no_packets
       alone_gives false = refl
 
-      alone_held : (begins : Bool) → held (cond begins (p ∷ []) []) ≡ (if begins then Some (steps.opens p) else None)
+      alone_held : (begins : Bool)
+          → held (cond begins (p ∷ []) []) ≡ (if begins then Some (steps.opens p) else None)
       alone_held true = ap Some (pushed.none_kept p)
       alone_held false = refl
 
@@ -91,28 +104,39 @@ module _ {O : Type 0} (device : Device) (steps : Steps O) where
 
         gives_no : (h : Option O) → device.ends p ≡ false → told h ≡ held_gives device steps h p
         gives_no None is = refl
-        gives_no (Some o) is = sym (ap (λ (t : Bool). if t then steps.closes o else steps.gives o p) is)
+        gives_no (Some o) is =
+            sym (ap (λ (t : Bool). if t then steps.closes o else steps.gives o p) is)
 
-        gives_yes : (h : Option O) → device.ends p ≡ true → ends_with h ≡ held_gives device steps h p
+        gives_yes : (h : Option O) → device.ends p ≡ true
+            → ends_with h ≡ held_gives device steps h p
         gives_yes None is = refl
-        gives_yes (Some o) is = sym (ap (λ (t : Bool). if t then steps.closes o else steps.gives o p) is)
+        gives_yes (Some o) is =
+            sym (ap (λ (t : Bool). if t then steps.closes o else steps.gives o p) is)
 
         next_no : (h : Option O) → device.ends p ≡ false → goes h ≡ held_next device steps h p
         next_no None is = refl
-        next_no (Some o) is = sym (ap (λ (t : Bool). if t then begin_next device steps p else Some (steps.next o p)) is)
+        next_no (Some o) is =
+            sym (ap (λ (t : Bool). if t then begin_next device steps p else Some (steps.next o p))
+            is)
 
-        next_yes : (h : Option O) → device.ends p ≡ true → begin_next device steps p ≡ held_next device steps h p
+        next_yes : (h : Option O) → device.ends p ≡ true
+            → begin_next device steps p ≡ held_next device steps h p
         next_yes None is = refl
-        next_yes (Some o) is = sym (ap (λ (t : Bool). if t then begin_next device steps p else Some (steps.next o p)) is)
+        next_yes (Some o) is =
+            sym (ap (λ (t : Bool). if t then begin_next device steps p else Some (steps.next o p))
+            is)
 
         abbrev GoesOn : Type 0
         GoesOn =
-            (ended_of device more ++ open_outs device (open_part device more) ≡ given ++ held_gives device steps (held part) p)
+            (ended_of device more ++ open_outs device (open_part device more)
+            ≡ given ++ held_gives device steps (held part) p)
             × (held (open_part device more) ≡ held_next device steps (held part) p)
 
         joins : device.ends p ≡ false → GoesOn
         joins is =
-            let grown : open_part device more ≡ grown_first p part (device.begins p) = ap (from_first device.begins) (last_grows device p xs is) ∙ first_push p device.begins (last_of device xs) in (
+            let grown : open_part device more ≡ grown_first p part (device.begins p) =
+            ap (from_first device.begins) (last_grows device p xs is)
+            ∙ first_push p device.begins (last_of device xs) in (
               (λ i. ended_stay device p xs is i ++ open_outs device (grown i))
                   ∙ ap (λ (l : List Out). before ++ l) (open_gives part (device.begins p))
                   ∙ sym (append_assoc before (open_outs device part) (told (held part)))
@@ -122,9 +146,11 @@ module _ {O : Type 0} (device : Device) (steps : Steps O) where
 
         ends : device.ends p ≡ true → GoesOn
         ends is =
-            let alone : open_part device more ≡ cond (device.begins p) (p ∷ []) [] = ap (from_first device.begins) (last_begins device p xs is) in (
+            let alone : open_part device more ≡ cond (device.begins p) (p ∷ []) [] =
+            ap (from_first device.begins) (last_begins device p xs is) in (
               (λ i. ended_grow device p xs is i ++ open_outs device (alone i))
-                  ∙ ap (λ (l : List Out). (before ++ closed_outs device part) ++ l) (alone_gives (device.begins p))
+                  ∙ ap (λ (l : List Out). (before ++ closed_outs device part) ++ l)
+                  (alone_gives (device.begins p))
                   ∙ append-nil (before ++ closed_outs device part)
                   ∙ ap (λ (l : List Out). before ++ l) (closes part)
                   ∙ sym (append_assoc before (open_outs device part) (ends_with (held part)))
@@ -139,7 +165,8 @@ module _ {O : Type 0} (device : Device) (steps : Steps O) where
             by true is = ends is
             by false is = joins is
 
-    pub transactions_pushed : PushedPackets (transaction_walk device steps) (transaction_outs device) (held_of device steps kept)
+    pub transactions_pushed : PushedPackets (transaction_walk device steps)
+        (transaction_outs device) (held_of device steps kept)
     unfolding transaction_outs held_of
     transactions_pushed = record {
       no_outs = refl;
@@ -161,11 +188,13 @@ module _ {O : Type 0} (device : Device) (steps : Steps O) where
         by true = sound.opens_fits p
         by false = tt
 
-    fits_next : (h : Option O) (last : ℕ) (p : Packet) → held_fits fits h last → last ≤ p.start → held_fits fits (held_next device steps h p) p.start
+    fits_next : (h : Option O) (last : ℕ) (p : Packet) → held_fits fits h last → last ≤ p.start
+        → held_fits fits (held_next device steps h p) p.start
     fits_next None last p fit after = fits_begin p
     fits_next (Some kept) last p fit after = by (device.ends p)
       where
-        by : (t : Bool) → held_fits fits (if t then begin_next device steps p else Some (steps.next kept p)) p.start
+        by : (t : Bool) → held_fits fits
+            (if t then begin_next device steps p else Some (steps.next kept p)) p.start
         by true = fits_begin p
         by false = sound.next_fits kept last p fit after
 
@@ -185,28 +214,36 @@ module _ {O : Type 0} (device : Device) (steps : Steps O) where
         by true = sound.no_packet_closing kept
         by false = sound.no_packet kept p
 
-    notes : (h : Option O) (last : ℕ) (p : Packet) → held_fits fits h last → last ≤ p.start → NotesFrom (held_near device steps h last) (held_gives device steps h p)
+    notes : (h : Option O) (last : ℕ) (p : Packet) → held_fits fits h last → last ≤ p.start
+        → NotesFrom (held_near device steps h last) (held_gives device steps h p)
     notes None last p fit after = tt
     notes (Some kept) last p fit after = by (device.ends p)
       where
-        by : (t : Bool) → NotesFrom (steps.near kept last) (if t then steps.closes kept else steps.gives kept p)
+        by : (t : Bool) → NotesFrom (steps.near kept last)
+            (if t then steps.closes kept else steps.gives kept p)
         by true = sound.notes_closing kept last fit
         by false = sound.notes kept last p fit after
 
     -- the near place never goes back
-    near_begin : (low : ℕ) (p : Packet) → low ≤ p.start → low ≤ held_near device steps (begin_next device steps p) p.start
+    near_begin : (low : ℕ) (p : Packet) → low ≤ p.start
+        → low ≤ held_near device steps (begin_next device steps p) p.start
     near_begin low p below = by (device.begins p)
       where
-        by : (t : Bool) → low ≤ held_near device steps (if t then Some (steps.opens p) else None) p.start
+        by : (t : Bool)
+            → low ≤ held_near device steps (if t then Some (steps.opens p) else None) p.start
         by true = let opens = sound.opens_near p in omega (arith, below, opens)
         by false = below
 
-    near_rises : (h : Option O) (last : ℕ) (p : Packet) → held_fits fits h last → last ≤ p.start → held_near device steps h last ≤ held_near device steps (held_next device steps h p) p.start
+    near_rises : (h : Option O) (last : ℕ) (p : Packet) → held_fits fits h last → last ≤ p.start
+        → held_near device steps h last ≤ held_near device steps
+        (held_next device steps h p) p.start
     near_rises None last p fit after = near_begin last p after
     near_rises (Some kept) last p fit after = by (device.ends p)
       where
-        by : (t : Bool) → steps.near kept last ≤ held_near device steps (if t then begin_next device steps p else Some (steps.next kept p)) p.start
-        by true = let below = sound.near_below kept last fit in near_begin (steps.near kept last) p (omega (arith, below, after))
+        by : (t : Bool) → steps.near kept last ≤ held_near device steps
+            (if t then begin_next device steps p else Some (steps.next kept p)) p.start
+        by true = let below = sound.near_below kept last fit in
+            near_begin (steps.near kept last) p (omega (arith, below, after))
         by false = sound.next_near kept last p fit after
 
     pub transactions_sound : SoundPackets (transaction_walk device steps) NoWire (held_fits fits)
@@ -216,22 +253,33 @@ module _ {O : Type 0} (device : Device) (steps : Steps O) where
       few = few;
       on_wire = λ h p. any_wire NoWire (held_gives device steps h p) (none h p);
       notes = notes;
-      packets = λ h last p fit after. subst (Between (held_near device steps h last) (held_near device steps (held_next device steps h p) p.start)) (sym (no_starts (held_gives device steps h p) (none h p))) (near_rises h last p fit after);
+      packets =
+          λ h last p fit after. subst
+          (Between (held_near device steps h last)
+          (held_near device steps (held_next device steps h p) p.start))
+          (sym (no_starts (held_gives device steps h p) (none h p)))
+          (near_rises h last p fit after);
     }
 
   -- the near place is no later than the one that is kept
   module _ (kept : Packet → List Packet → O) (pushed : Pushed device steps kept) where
-    pub near_most : (packets : List Packet) → transaction_near device packets ≤ held_near device steps (held_of device steps kept packets) (last_start 0 packets)
+    pub near_most : (packets : List Packet) → transaction_near device packets ≤ held_near device
+        steps (held_of device steps kept packets) (last_start 0 packets)
     unfolding transaction_near held_of
     near_most packets = by (open_part device packets)
       where
-        by : (part : List Packet) → begun_at device part (last_start 0 packets) ≤ held_near device steps (held_in device steps kept part) (last_start 0 packets)
+        by : (part : List Packet) → begun_at device part
+            (last_start 0 packets) ≤ held_near device steps (held_in device steps kept part)
+            (last_start 0 packets)
         by [] = le_refl (last_start 0 packets)
         by (first ∷ others) = pushed.near_after first others (last_start 0 packets)
 
 -- what a device promises that owes this
-module _ {O : Type 0} (device : Device) (steps : Steps O) (wants : Wire) (fits : O → ℕ → Type 0) (kept : Packet → List Packet → O) (sound : Sound device steps fits) (pushed : Pushed device steps kept) where
-  pub promises : Promises (transaction_walk device steps) wants NoWire (transaction_outs device) (held_of device steps kept)
+module _ {O : Type 0} (device : Device) (steps : Steps O) (wants : Wire) (fits : O → ℕ → Type 0)
+    (kept : Packet → List Packet → O) (sound : Sound device steps fits)
+    (pushed : Pushed device steps kept) where
+  pub promises : Promises (transaction_walk device steps) wants NoWire (transaction_outs device)
+      (held_of device steps kept)
   promises =
       let w = transaction_walk device steps in
       let outs = transaction_outs device in
@@ -243,31 +291,46 @@ module _ {O : Type 0} (device : Device) (steps : Steps O) (wants : Wire) (fits :
         prefix = walk_prefix w outs held walks;
         few = walk_few w outs held walks NoWire (held_fits device steps fits) walks_soundly;
         on_wire = walk_on w outs held walks NoWire (held_fits device steps fits) walks_soundly;
-        order = walk_order w outs held walks NoWire (held_fits device steps fits) walks_soundly wants;
-        floor = walk_floor w outs held walks NoWire (held_fits device steps fits) walks_soundly wants;
+        order = walk_order w outs held walks NoWire
+            (held_fits device steps fits) walks_soundly wants;
+        floor = walk_floor w outs held walks NoWire
+            (held_fits device steps fits) walks_soundly wants;
       }
 
-  pub floor_is : (seen : List Packet) → IsPacketFloor wants (transaction_outs device) seen (transaction_near device seen)
+  pub floor_is : (seen : List Packet)
+      → IsPacketFloor wants (transaction_outs device) seen (transaction_near device seen)
   floor_is seen more new all is =
-      notes_from_less new (transaction_near device seen) (held_near device steps (held_of device steps kept seen) (last_start 0 seen)) (near_most device steps kept pushed seen) (promises.floor seen more new all is)
+      notes_from_less new (transaction_near device seen)
+      (held_near device steps (held_of device steps kept seen) (last_start 0 seen))
+      (near_most device steps kept pushed seen) (promises.floor seen more new all is)
 
   -- what is kept of packets makes the floor and the near place, and says what one more packet does
-  module _ (held : Option O) (seen : List Packet) (stands : held ≡ held_of device steps kept seen) where
-    module _ (from result : ℕ) (from_is : from ≡ last_start 0 seen) (result_is : result ≡ held_near device steps held from) where
+  module _ (held : Option O) (seen : List Packet)
+      (stands : held ≡ held_of device steps kept seen) where
+    module _ (from result : ℕ) (from_is : from ≡ last_start 0 seen)
+        (result_is : result ≡ held_near device steps held from) where
       same : held_near device steps (held_of device steps kept seen) (last_start 0 seen) ≡ result
       same = sym (result_is ∙ (λ i. held_near device steps (stands i) (from_is i)))
 
       pub kept_floor : IsPacketFloor wants (transaction_outs device) seen result
-      kept_floor = subst (IsPacketFloor wants (transaction_outs device) seen) same (promises.floor seen)
+      kept_floor =
+          subst (IsPacketFloor wants (transaction_outs device) seen) same (promises.floor seen)
 
       pub kept_near : transaction_near device seen ≤ result
-      kept_near = subst (λ (n : ℕ). transaction_near device seen ≤ n) same (near_most device steps kept pushed seen)
+      kept_near =
+          subst (λ (n : ℕ). transaction_near device seen ≤ n) same
+          (near_most device steps kept pushed seen)
 
     module _ (packet : Packet) where
-      pub kept_stands : (new : Option O) → new ≡ held_next device steps held packet → new ≡ held_of device steps kept (seen ++ packet ∷ [])
-      kept_stands new is = is ∙ ap (λ (h : Option O). held_next device steps h packet) stands ∙ sym ((transactions_pushed device steps kept pushed).kept_push seen packet)
+      pub kept_stands : (new : Option O) → new ≡ held_next device steps held packet
+          → new ≡ held_of device steps kept (seen ++ packet ∷ [])
+      kept_stands new is =
+          is ∙ ap (λ (h : Option O). held_next device steps h packet) stands
+          ∙ sym ((transactions_pushed device steps kept pushed).kept_push seen packet)
 
-      pub kept_loud : (into : List Out) → into ≡ held_gives device steps held packet → transaction_outs device (seen ++ packet ∷ []) ≡ transaction_outs device seen ++ into
+      pub kept_loud : (into : List Out) → into ≡ held_gives device steps held packet
+          → transaction_outs device (seen ++ packet ∷ []) ≡ transaction_outs device seen ++ into
       kept_loud into is =
           (transactions_pushed device steps kept pushed).outs_push seen packet
-          ∙ ap (λ (l : List Out). transaction_outs device seen ++ l) (ap (λ (h : Option O). held_gives device steps h packet) (sym stands) ∙ sym is)
+          ∙ ap (λ (l : List Out). transaction_outs device seen ++ l)
+          (ap (λ (h : Option O). held_gives device steps h packet) (sym stands) ∙ sym is)

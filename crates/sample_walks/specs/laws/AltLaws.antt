@@ -1,5 +1,6 @@
 -- What alternatives say of lines.
-use Rattle.std.proofs.Common.{◌≡◌, ◌≢◌, inl, inr, ℕ, zero, suc, ◌<◌, ◌^◌, Bool, true, false, List, [], ◌∷◌, slice_get, Option, Some, refl, sym, ◌∙◌, ap, subst, arith}
+use Rattle.std.proofs.Common.{◌≡◌, ◌≢◌, inl, inr, ℕ, zero, suc, ◌<◌, ◌^◌, Bool, true, false, List}
+use Rattle.std.proofs.Common.{[], ◌∷◌, slice_get, Option, Some, refl, sym, ◌∙◌, ap, subst, arith}
 use Rattle.std.specs.Prelude.{unwrap_or}
 use Rattle.std.specs.Int.{bit_at}
 use Rattle.std.proofs.lemmas.Bool.{cases_eq, true≢false}
@@ -52,24 +53,37 @@ level_bit value line = by (is_high value line) refl
 -- one alternative is met and no other, and none is
 module _ (alts : List Alt) (before : Option ℕ) (now from q : ℕ) where
   pub one_met : (j : ℕ) (alt : Alt) → slice_get alts j ≡ Some alt → MeetsAt alt before now from q
-      → ((i : ℕ) (other : Alt) → slice_get alts i ≡ Some other → MeetsAt other before now from q → i ≡ j) → MetSet alts before now from q (2 ^ j)
+      → ((i : ℕ) (other : Alt) → slice_get alts i ≡ Some other → MeetsAt other before now from q
+      → i ≡ j) → MetSet alts before now from q (2 ^ j)
   one_met j alt at meets only = record {
-    each = λ i one. (alt, subst (λ (n : ℕ). slice_get alts n ≡ Some alt) (sym (only_line j i one)) at, meets);
-    all = λ i other there meet. subst (λ (n : ℕ). bit_at (2 ^ j) n ≡ 1) (sym (only i other there meet)) (bit_at-pow_same j);
+    each = λ i one. (
+      alt,
+      subst (λ (n : ℕ). slice_get alts n ≡ Some alt)
+          (sym (only_line j i one)) at,
+      meets,
+    );
+    all = λ i other there meet. subst (λ (n : ℕ). bit_at (2 ^ j) n ≡ 1)
+        (sym (only i other there meet)) (bit_at-pow_same j);
   }
 
-  pub none_met : ((i : ℕ) (alt : Alt) → slice_get alts i ≡ Some alt → MeetsAt alt before now from q → ⊥) → MetSet alts before now from q 0
+  pub none_met : ((i : ℕ) (alt : Alt) → slice_get alts i ≡ Some alt → MeetsAt alt before now from q
+      → ⊥) → MetSet alts before now from q 0
   none_met none = record {
     each = λ i one. no_line i one;
     all = λ i alt at meets. absurd (none i alt at meets);
   }
 
   -- the alternative at a place is the one that stands there
-  pub same_alt : (alt other : Alt) → Some alt ≡ Some other → MeetsAt other before now from q → MeetsAt alt before now from q
-  same_alt alt other is meets = subst (λ (a : Alt). MeetsAt a before now from q) (sym (ap (λ (o : Option Alt). unwrap_or o alt) is)) meets
+  pub same_alt : (alt other : Alt) → Some alt ≡ Some other → MeetsAt other before now from q
+      → MeetsAt alt before now from q
+  same_alt alt other is meets =
+      subst (λ (a : Alt). MeetsAt a before now from q)
+      (sym (ap (λ (o : Option Alt). unwrap_or o alt) is)) meets
 
 -- a wait for one alternative meets it exactly where a test says so
-module _ (alt : Alt) (before : Option ℕ) (now from q met : ℕ) (b : Bool) (yes : b ≡ true → MeetsAt alt before now from q) (then_ : MeetsAt alt before now from q → b ≡ true) where
+module _ (alt : Alt) (before : Option ℕ) (now from q met : ℕ) (b : Bool)
+    (yes : b ≡ true → MeetsAt alt before now from q)
+    (then_ : MeetsAt alt before now from q → b ≡ true) where
   pub alone_none : MetSet (alt ∷ []) before now from q 0 → b ≡ false
   alone_none set = by b refl
     where
@@ -80,9 +94,13 @@ module _ (alt : Alt) (before : Option ℕ) (now from q met : ℕ) (b : Bool) (ye
   nothing : b ≡ false → MetSet (alt ∷ []) before now from q 0
   nothing not = none_met (alt ∷ []) before now from q (λ i other at meets. none_at i other at meets)
     where
-      none_at : (i : ℕ) (other : Alt) → slice_get (alt ∷ []) i ≡ Some other → MeetsAt other before now from q → ⊥
-      none_at zero other at meets = true≢false (sym (then_ (same_alt (alt ∷ []) before now from q alt other at meets)) ∙ not)
-      none_at (suc i) other at meets = let within : suc i < 1 = slice_get_within (alt ∷ []) (suc i) other at in absurd (omega (arith, within))
+      none_at : (i : ℕ) (other : Alt) → slice_get (alt ∷ []) i ≡ Some other
+          → MeetsAt other before now from q → ⊥
+      none_at zero other at meets =
+          true≢false (sym (then_ (same_alt (alt ∷ []) before now from q alt other at meets)) ∙ not)
+      none_at (suc i) other at meets =
+          let within : suc i < 1 = slice_get_within (alt ∷ []) (suc i) other at in
+          absurd (omega (arith, within))
 
   pub alone_some : MetSet (alt ∷ []) before now from q met → met ≢ 0 → b ≡ true
   alone_some set some = by b refl
@@ -92,9 +110,14 @@ module _ (alt : Alt) (before : Option ℕ) (now from q met : ℕ) (b : Bool) (ye
       by false is = absurd (some (one_set (alt ∷ []) before now from q met 0 set (nothing is)))
 
 -- where nothing is met, no alternative is
-pub met_none : (alts : List Alt) (before : Option ℕ) (now from q i : ℕ) (alt : Alt) → MetSet alts before now from q 0 → slice_get alts i ≡ Some alt → MeetsAt alt before now from q → ⊥
+pub met_none : (alts : List Alt) (before : Option ℕ) (now from q i : ℕ) (alt : Alt)
+    → MetSet alts before now from q 0 → slice_get alts i ≡ Some alt → MeetsAt alt before now from q
+    → ⊥
 met_none alts before now from q i alt set at meets = no_line i (set.all i alt at meets)
 
 -- where something is met, not every alternative fails
-pub met_some : (alts : List Alt) (before : Option ℕ) (now from q met : ℕ) → MetSet alts before now from q met → met ≢ 0 → ((i : ℕ) (alt : Alt) → slice_get alts i ≡ Some alt → MeetsAt alt before now from q → ⊥) → ⊥
-met_some alts before now from q met set some none = some (one_set alts before now from q met 0 set (none_met alts before now from q none))
+pub met_some : (alts : List Alt) (before : Option ℕ) (now from q met : ℕ)
+    → MetSet alts before now from q met → met ≢ 0
+    → ((i : ℕ) (alt : Alt) → slice_get alts i ≡ Some alt → MeetsAt alt before now from q → ⊥) → ⊥
+met_some alts before now from q met set some none =
+    some (one_set alts before now from q met 0 set (none_met alts before now from q none))

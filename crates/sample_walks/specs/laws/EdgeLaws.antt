@@ -1,5 +1,6 @@
 -- The laws of edges: their walk is sound, and gives what the definition gives.
-use Rattle.std.proofs.Common.{◌≡◌, inl, inr, ◌⊎◌, ℕ, ◌+◌, Bool, true, false, List, [], ◌∷◌, length, Option, Some, None, refl, sym, ◌∙◌, ap, subst, arith}
+use Rattle.std.proofs.Common.{◌≡◌, inl, inr, ◌⊎◌, ℕ, ◌+◌, Bool, true, false, List, [], ◌∷◌, length}
+use Rattle.std.proofs.Common.{Option, Some, None, refl, sym, ◌∙◌, ap, subst, arith}
 use Rattle.std.proofs.Math.Nat.{le_refl}
 use Rattle.std.proofs.lemmas.Bool.{true≢false}
 use Rattle.std.proofs.lemmas.List.{map-append}
@@ -10,13 +11,16 @@ use Rattle.wait_cond.specs.Meets.{Rises, Falls, MeetsAt}
 use Rattle.decoder_core.specs.Promises.{NotesFrom, PacketsOn, packet_starts}
 use Rattle.sample_walks.specs.Walks.{Between, given}
 use Rattle.sample_walks.specs.Events.{is_some_event, by_events, SoundEvents, PushedEvents}
-use Rattle.sample_walks.specs.Edges.{Edge, To, edge_by, edge_at, edge_note, notes_of, edge_notes, edge_alt, edge_walk}
-use Rattle.sample_walks.specs.laws.AltLaws.{no_line, at_line, high_is, high_bit, low_is, low_bit, alone_none, alone_some}
+use Rattle.sample_walks.specs.Edges.{Edge, To, edge_by, edge_at, edge_note, notes_of, edge_notes}
+use Rattle.sample_walks.specs.Edges.{edge_alt, edge_walk}
+use Rattle.sample_walks.specs.laws.AltLaws.{no_line, at_line, high_is, high_bit, low_is, low_bit}
+use Rattle.sample_walks.specs.laws.AltLaws.{alone_none, alone_some}
 use Rattle.sample_walks.specs.laws.EventWalks.{events_given}
 use Rattle.sample_walks.specs.laws.EventDecoders.{EventDecoder}
 
 -- where there is an edge, it stands at its sample with the level there
-some_edge : (q : ℕ) (before : Option ℕ) (now : ℕ) → is_some_event (edge_at q before now) ≡ true → edge_at q before now ≡ To q (is_high now 0) ∷ []
+some_edge : (q : ℕ) (before : Option ℕ) (now : ℕ) → is_some_event (edge_at q before now) ≡ true
+    → edge_at q before now ≡ To q (is_high now 0) ∷ []
 some_edge q None now some = absurd (true≢false (sym some))
 some_edge q (Some before) now some = by (is_high before 0) (is_high now 0) some
   where
@@ -38,7 +42,8 @@ module _ (q : ℕ) (before : Option ℕ) (now : ℕ) where
   moves_here : is_edge ≡ true → Rises before now 0 ⊎ Falls before now 0
   moves_here edge = by before edge
     where
-      at : (was : ℕ) (x y : Bool) → is_high was 0 ≡ x → is_high now 0 ≡ y → is_some_event (edge_by q x y) ≡ true → Rises (Some was) now 0 ⊎ Falls (Some was) now 0
+      at : (was : ℕ) (x y : Bool) → is_high was 0 ≡ x → is_high now 0 ≡ y
+          → is_some_event (edge_by q x y) ≡ true → Rises (Some was) now 0 ⊎ Falls (Some was) now 0
       at was false true low high some = inl (low_bit was 0 low, high_bit now 0 high)
       at was true false high low some = inr (high_bit was 0 high, low_bit now 0 low)
       at was false false low also some = absurd (true≢false (sym some))
@@ -55,7 +60,8 @@ module _ (q : ℕ) (before : Option ℕ) (now : ℕ) where
       by None some = elim some [ inl up ↦ absurd up | inr down ↦ absurd down ]
       by (Some was) some = elim some [
         | inl up ↦ (λ i. is_some_event (edge_by q (low_is was 0 up.0 i) (high_is now 0 up.1 i)))
-        | inr down ↦ (λ i. is_some_event (edge_by q (high_is was 0 down.0 i) (low_is now 0 down.1 i)))
+        | inr down ↦
+            (λ i. is_some_event (edge_by q (high_is was 0 down.0 i) (low_is now 0 down.1 i)))
       ]
 
   -- which is what the alternative asks for
@@ -79,15 +85,19 @@ module _ (q : ℕ) (before : Option ℕ) (now : ℕ) where
 abbrev fits : Unit {0} → ℕ → Option ℕ → Type 0
 fits h q before = Unit {0}
 
-one_edge : (q : ℕ) (before : Option ℕ) (now : ℕ) → (edge_at q before now ≡ []) ⊎ ((e : Edge) × (edge_at q before now ≡ e ∷ []))
+one_edge : (q : ℕ) (before : Option ℕ) (now : ℕ)
+    → (edge_at q before now ≡ []) ⊎ ((e : Edge) × (edge_at q before now ≡ e ∷ []))
 one_edge q before now = by (is_edge q before now) refl
   where
-    by : (b : Bool) → is_edge q before now ≡ b → (edge_at q before now ≡ []) ⊎ ((e : Edge) × (edge_at q before now ≡ e ∷ []))
+    by : (b : Bool) → is_edge q before now ≡ b
+        → (edge_at q before now ≡ []) ⊎ ((e : Edge) × (edge_at q before now ≡ e ∷ []))
     by true some = inr (To q (is_high now 0), some_edge q before now some)
     by false none = inl (no_edge (edge_at q before now) none)
 
-some_is : (q : ℕ) (before : Option ℕ) (now : ℕ) (e : Edge) → edge_at q before now ≡ e ∷ [] → To q (is_high now 0) ∷ [] ≡ e ∷ []
-some_is q before now e is = sym (some_edge q before now (ap (λ (es : List Edge). is_some_event es) is)) ∙ is
+some_is : (q : ℕ) (before : Option ℕ) (now : ℕ) (e : Edge) → edge_at q before now ≡ e ∷ []
+    → To q (is_high now 0) ∷ [] ≡ e ∷ []
+some_is q before now e is =
+    sym (some_edge q before now (ap (λ (es : List Edge). is_some_event es) is)) ∙ is
 
 note_on : (h : Unit {0}) (e : Edge) → PacketsOn Nothing (edge_note e ∷ [])
 note_on h (To at level) = tt
@@ -99,13 +109,20 @@ edges_sound = record {
   fits_on = λ h q before now fit none. tt;
   next_fits = λ h q before now e fit is. tt;
   none = λ h q before now from fit set. no_edge (edge_at q before now)
-      (alone_none edge_alt before now from q 0 (is_edge q before now) (edge_meets q before now from) (meets_edge q before now from) set);
+      (alone_none edge_alt before now from q 0 (is_edge q before now) (edge_meets q before now from)
+      (meets_edge q before now from) set);
   some = λ h q before now from met fit set some.
-      some_edge q before now (alone_some edge_alt before now from q met (is_edge q before now) (edge_meets q before now from) (meets_edge q before now from) set some);
+      some_edge q before now
+      (alone_some edge_alt before now from q met (is_edge q before now)
+      (edge_meets q before now from) (meets_edge q before now from) set some);
   few = λ h e. omega arith;
   near_on = λ h q before fit. omega arith;
-  notes = λ h q before now e fit is. subst (λ (es : List Edge). NotesFrom q (notes_of es)) (some_is q before now e is) (le_refl q, tt);
-  packets = λ h q before now e fit is. subst (λ (es : List Edge). Between q (q + 1) (packet_starts (notes_of es))) (some_is q before now e is) (omega arith);
+  notes = λ h q before now e fit is. subst (λ (es : List Edge). NotesFrom q (notes_of es))
+      (some_is q before now e is) (le_refl q, tt);
+  packets =
+      λ h q before now e fit is. subst
+      (λ (es : List Edge). Between q (q + 1) (packet_starts (notes_of es)))
+      (some_is q before now e is) (omega arith);
   on_wire = note_on;
 }
 

@@ -1,13 +1,16 @@
--- What a decoder by events promises of its outputs, and what a machine of it answers that holds what the walk keeps of the
--- samples up to its last stop.
-use Rattle.std.proofs.Common.{◌≡◌, ℕ, ◌+◌, ◌≤◌, List, [], ◌∷◌, ◌++◌, take, length, Option, sym, ◌∙◌, ap, subst}
+-- What a decoder by events promises of its outputs, and what a machine of it answers that holds
+-- what the walk keeps of the samples up to its last stop.
+use Rattle.std.proofs.Common.{◌≡◌, ℕ, ◌+◌, ◌≤◌, List, [], ◌∷◌, ◌++◌, take, length, Option, sym, ◌∙◌}
+use Rattle.std.proofs.Common.{ap, subst}
 use Rattle.std.proofs.lemmas.List.{append-nil}
 use Rattle.la_base.specs.declared.wires.Out.{Out}
-use Rattle.decoder_core.specs.Promises.{IsFloor, GivesNothing, KeepsFront, PacketsInOrder, AddsFew, GivesOn, PacketsOn, Rests, StopsIn}
+use Rattle.decoder_core.specs.Promises.{IsFloor, GivesNothing, KeepsFront, PacketsInOrder, AddsFew}
+use Rattle.decoder_core.specs.Promises.{GivesOn, PacketsOn, Rests, StopsIn}
 use Rattle.sample_walks.specs.Walks.{Walk, walked, given, EndsThere, Sound}
 use Rattle.sample_walks.specs.Events.{EventWalk, by_events, gives_all, next_all, SoundEvents}
 use Rattle.sample_walks.specs.laws.EventWalks.{events_sound, events_on}
-use Rattle.sample_walks.specs.laws.HeldLaws.{held_quiet, held_one_stop, held_floor, held_near, Stopped, held_stop}
+use Rattle.sample_walks.specs.laws.HeldLaws.{held_quiet, held_one_stop, held_floor, held_near}
+use Rattle.sample_walks.specs.laws.HeldLaws.{Stopped, held_stop}
 use Rattle.sample_walks.specs.laws.WalkLaws.{outs_nothing, outs_prefix, outs_few, outs_order}
 
 -- a decoder by events: its walk with what that owes, and its definition, which the walk gives
@@ -43,7 +46,9 @@ module _ {H E : Type 0} (d : EventDecoder H E) where
   order_of = outs_order samples d.fits timed sound d.outs d.given_is
 
   pub on_wire_of : GivesOn d.walk.wire d.outs
-  on_wire_of list = subst (λ (l : List Out). PacketsOn d.walk.wire l) (sym (d.given_is list)) (events_on d.walk d.fits d.sound list)
+  on_wire_of list =
+      subst (λ (l : List Out). PacketsOn d.walk.wire l) (sym (d.given_is list))
+      (events_on d.walk d.fits d.sound list)
 
   -- what a machine holds is what the walk keeps of samples that end with an event, or of none
   abbrev pub Holds : H → List ℕ → Type 0
@@ -52,17 +57,26 @@ module _ {H E : Type 0} (d : EventDecoder H E) where
   module _ (held : H) (seen more : List ℕ) (holds : Holds held seen) where
     module _ (none : Rests (d.walk.alts held) seen more) where
       pub quiet_of : d.outs (seen ++ more) ≡ d.outs seen
-      quiet_of = held_quiet samples d.fits timed sound d.outs d.given_is held seen more holds.0 holds.1 none
+      quiet_of =
+          held_quiet samples d.fits timed sound d.outs d.given_is held seen more holds.0 holds.1
+          none
 
       pub one_stop_of : EndsThere samples (seen ++ more) → more ≡ []
-      one_stop_of also = held_one_stop samples d.fits timed sound d.outs d.given_is held seen more holds.0 holds.1 none also
+      one_stop_of also =
+          held_one_stop samples d.fits timed sound d.outs d.given_is held seen more holds.0 holds.1
+          none also
 
-      module _ (count result : ℕ) (count_is : count ≡ length (seen ++ more)) (result_is : result ≡ d.walk.near held count) where
+      module _ (count result : ℕ) (count_is : count ≡ length (seen ++ more))
+          (result_is : result ≡ d.walk.near held count) where
         pub floor_of : IsFloor d.outs (seen ++ more) result
-        floor_of = held_floor samples d.fits timed sound d.outs d.given_is held seen more holds.0 holds.1 none count result count_is result_is
+        floor_of =
+            held_floor samples d.fits timed sound d.outs d.given_is held seen more holds.0 holds.1
+            none count result count_is result_is
 
         pub near_of : d.near (seen ++ more) ≤ result
-        near_of = held_near samples d.fits timed sound d.outs d.given_is held seen more holds.0 holds.1 none count result count_is result_is d.near d.near_is
+        near_of =
+            held_near samples d.fits timed sound d.outs d.given_is held seen more holds.0 holds.1
+            none count result count_is result_is d.near d.near_is
 
     -- a stop
     module _ (at value met : ℕ) (s : StopsIn (d.walk.alts held) seen more at value met) where
@@ -70,15 +84,25 @@ module _ {H E : Type 0} (d : EventDecoder H E) where
       event = d.walk.event_of held at value met
 
       stop : Stopped samples d.fits d.outs held seen (seen ++ more) at value met
-      stop = held_stop samples d.fits timed sound d.outs d.given_is held seen more holds.0 holds.1 at value met s
+      stop = held_stop samples d.fits timed sound d.outs d.given_is held seen more holds.0 holds.1
+          at value met s
 
       event_is : d.walk.event_at at stop.before value ≡ event ∷ []
-      event_is = d.sound.some held at stop.before value (length seen) met stop.fit stop.set stop.some
+      event_is =
+          d.sound.some held at stop.before value (length seen) met stop.fit stop.set stop.some
 
-      pub loud_of : (into : List Out) → into ≡ d.walk.gives held event → d.outs (take (at + 1) (seen ++ more)) ≡ d.outs seen ++ into
+      pub loud_of : (into : List Out) → into ≡ d.walk.gives held event
+          → d.outs (take (at + 1) (seen ++ more)) ≡ d.outs seen ++ into
       loud_of into is =
           stop.gives
-          ∙ ap (λ (l : List Out). d.outs seen ++ l) (ap (λ (es : List E). gives_all d.walk held es) event_is ∙ append-nil (d.walk.gives held event) ∙ sym is)
+          ∙ ap (λ (l : List Out). d.outs seen ++ l)
+          (ap (λ (es : List E). gives_all d.walk held es) event_is
+          ∙ append-nil (d.walk.gives held event) ∙ sym is)
 
-      pub holds_of : (new : H) → new ≡ d.walk.next held event → Holds new (take (at + 1) (seen ++ more))
-      holds_of new is = (stop.ends, is ∙ ap (λ (es : List E). next_all d.walk held es) (sym event_is) ∙ stop.keeps)
+      pub holds_of : (new : H) → new ≡ d.walk.next held event
+          → Holds new (take (at + 1) (seen ++ more))
+      holds_of new is = (
+        stop.ends,
+        is ∙ ap (λ (es : List E). next_all d.walk held es) (sym event_is)
+            ∙ stop.keeps,
+      )

@@ -7,4 +7,4 @@ returns g c =
     let laws = g.met.L.LogicMachine in
     let one = c.args.one.now in
     let other = c.args.other.now in
-    λ input same d e. one_state m.setup m.stands m.alts laws.one_machine laws.one_stop one.machine other.machine one.waiter other.waiter input same d e
+    λ input same d e. one_state g.L.Configured.setup m.stands m.alts laws.one_machine laws.one_stop one.machine other.machine one.waiter other.waiter input same d e

@@ -28,8 +28,8 @@ loop-place-init g c =
       alts = refl;
       empty = c.requires.empty;
       some = c.requires.some;
-      treads = λ says list waits st. subst (λ (l : List ℕ). OnWalk (m.outs (m.setup c.args.machine.now)) m.stands (m.alts c.args.machine.now) c.args.machine.now c.args.walk.now list l []) (sym (append-nil list))
-          (record { waits = waits; machine_stands = st; gives = sym (append-nil (m.outs (m.setup c.args.machine.now) list)) });
+      treads = λ says list waits st. subst (λ (l : List ℕ). OnWalk (m.outs (g.L.Configured.setup c.args.machine.now)) m.stands (m.alts c.args.machine.now) c.args.machine.now c.args.walk.now list l []) (sym (append-nil list))
+          (record { waits = waits; machine_stands = st; gives = sym (append-nil (m.outs (g.L.Configured.setup c.args.machine.now) list)) });
     }
 
 pub returns-then-not-has_room-clause-treads : goal.returns-then-not-has_room-clause-treads
@@ -40,7 +40,7 @@ returns-then-not-has_room-clause-treads g c =
       more = samples_of (take c.loop-place.place c.args.runs.now);
       whole = λ _. refl;
       front = λ yes. absurd (false≢true yes);
-      treads = λ says list waits st. subst (λ (outs : List Out). OnWalk (m.outs (m.setup c.args.machine.now)) m.stands (m.alts c.args.machine.now) c.loop-place.machine c.loop-place.walk list (list ++ samples_of (take c.loop-place.place c.args.runs.now)) outs) (sym i.empty) (i.treads says list waits st);
+      treads = λ says list waits st. subst (λ (outs : List Out). OnWalk (m.outs (g.L.Configured.setup c.args.machine.now)) m.stands (m.alts c.args.machine.now) c.loop-place.machine c.loop-place.walk list (list ++ samples_of (take c.loop-place.place c.args.runs.now)) outs) (sym i.empty) (i.treads says list waits st);
     }
 
 pub returns-clause-treads : goal.returns-clause-treads
@@ -53,7 +53,7 @@ returns-clause-treads g c =
       more = samples_of (take c.loop-place.place runs);
       whole = λ _. ap (λ (n : ℕ). samples_of (take n runs)) (sym end);
       front = λ yes. absurd (false≢true yes);
-      treads = λ says list waits st. subst (λ (outs : List Out). OnWalk (m.outs (m.setup c.args.machine.now)) m.stands (m.alts c.args.machine.now) c.loop-place.machine c.loop-place.walk list (list ++ samples_of (take c.loop-place.place runs)) outs) (sym i.empty) (i.treads says list waits st);
+      treads = λ says list waits st. subst (λ (outs : List Out). OnWalk (m.outs (g.L.Configured.setup c.args.machine.now)) m.stands (m.alts c.args.machine.now) c.loop-place.machine c.loop-place.walk list (list ++ samples_of (take c.loop-place.place runs)) outs) (sym i.empty) (i.treads says list waits st);
     }
 
 pub returns-then-resume-clause-treads : goal.returns-then-resume-clause-treads
@@ -90,11 +90,11 @@ returns-then-resume-clause-treads g c =
           let from : walk_from c.stop.new.self ≡ length all + 1 = c.stop.ensures.from ∙ ap (λ (n : ℕ). n + 1) (sym count) in
           let last : length all + 1 ≡ length (all ++ samples first) = omega (arith, length-append all (samples first), samples_len first, c.first_of.ensures.len) in
           let value_is : run.value ≡ slice_index (all ++ samples first) (length all) = sym c.first_of.ensures.value ∙ first_value all first first.not_empty in
-          subst (λ (l : List ℕ). OnWalk (m.outs (m.setup c.args.machine.now)) m.stands asked c.resume.new.self c.stop.new.self list l c.resume.new.into) (append_assoc list so_far (samples first))
-          (tread_there m.setup m.outs m.stands m.alts g.met.L.LogicMachine.quiet c.loop-place.machine walk c.stop.new.self list all (samples first) c.resume.new.self (length all) run.value c.met-met.result c.resume.new.into
+          subst (λ (l : List ℕ). OnWalk (m.outs (g.L.Configured.setup c.args.machine.now)) m.stands asked c.resume.new.self c.stop.new.self list l c.resume.new.into) (append_assoc list so_far (samples first))
+          (tread_there g.L.Configured.setup m.outs m.stands m.alts g.met.L.LogicMachine.quiet c.loop-place.machine walk c.stop.new.self list all (samples first) c.resume.new.self (length all) run.value c.met-met.result c.resume.new.into
           (subst (λ (n : ℕ). StandsThere (m.stands c.loop-place.machine) (m.stands c.resume.new.self) (m.alts c.loop-place.machine) n run.value c.met-met.result) place c.resume.ensures.stands)
-          (subst (λ (n : ℕ). IsLoud (m.outs (m.setup c.loop-place.machine)) (m.stands c.loop-place.machine) (m.alts c.loop-place.machine) n run.value c.met-met.result c.resume.new.into) place c.resume.ensures.loud)
-          value_is (m.setup c.args.machine.now) asked i.setup i.alts last on both.0 both.1 from);
+          (subst (λ (n : ℕ). IsLoud (m.outs (g.L.Configured.setup c.loop-place.machine)) (m.stands c.loop-place.machine) (m.alts c.loop-place.machine) n run.value c.met-met.result c.resume.new.into) place c.resume.ensures.loud)
+          value_is (g.L.Configured.setup c.args.machine.now) asked i.setup i.alts last on both.0 both.1 from);
     }
 
 pub returns-then-not-is_empty-clause-treads : goal.returns-then-not-is_empty-clause-treads
@@ -120,11 +120,11 @@ returns-then-not-is_empty-clause-treads g c =
           let both = c.stop-else-met-eq0.ensures.waits asked all c.met-met.result on.waits i.some c.if-met-eq0.false set (says.stands run.value) in
           let place : c.consumed-at.result ≡ length all = c.consumed-at.ensures ∙ sym on.waits.count in
           let from : walk_from next ≡ length all + 1 = c.stop-else-met-eq0.ensures.from ∙ ap (λ (n : ℕ). n + 1) (sym on.waits.count) in
-          subst (λ (l : List ℕ). OnWalk (m.outs (m.setup c.args.machine.now)) m.stands asked c.resume.new.self next list l c.resume.new.into) (append_assoc list so_far (samples run))
-          (tread_stop m.setup m.outs m.stands m.alts g.met.L.LogicMachine.quiet c.loop-place.machine walk next list all (samples run) c.resume.new.self (length all) run.value c.met-met.result c.resume.new.into
+          subst (λ (l : List ℕ). OnWalk (m.outs (g.L.Configured.setup c.args.machine.now)) m.stands asked c.resume.new.self next list l c.resume.new.into) (append_assoc list so_far (samples run))
+          (tread_stop g.L.Configured.setup m.outs m.stands m.alts g.met.L.LogicMachine.quiet c.loop-place.machine walk next list all (samples run) c.resume.new.self (length all) run.value c.met-met.result c.resume.new.into
           (subst (λ (n : ℕ). StandsThere (m.stands c.loop-place.machine) (m.stands c.resume.new.self) (m.alts c.loop-place.machine) n run.value c.met-met.result) place c.resume.ensures.stands)
-          (subst (λ (n : ℕ). IsLoud (m.outs (m.setup c.loop-place.machine)) (m.stands c.loop-place.machine) (m.alts c.loop-place.machine) n run.value c.met-met.result c.resume.new.into) place c.resume.ensures.loud)
-          (first_value all run run.not_empty) (m.setup c.args.machine.now) asked i.setup i.alts c.resume.ensures.setup (c.resume.ensures.waits c.if-resume.false) on both.0 both.1 from);
+          (subst (λ (n : ℕ). IsLoud (m.outs (g.L.Configured.setup c.loop-place.machine)) (m.stands c.loop-place.machine) (m.alts c.loop-place.machine) n run.value c.met-met.result c.resume.new.into) place c.resume.ensures.loud)
+          (first_value all run run.not_empty) (g.L.Configured.setup c.args.machine.now) asked i.setup i.alts c.resume.ensures.setup (c.resume.ensures.waits c.if-resume.false) on both.0 both.1 from);
     }
 
 pub loop-place-preserved : goal.loop-place-preserved
@@ -139,10 +139,10 @@ loop-place-preserved g c =
     let asked = m.alts c.args.machine.now in
     let so_far = samples_of (take at runs) in
     let longer = λ (list : List ℕ). append_assoc list so_far (samples run) ∙ ap (λ (l : List ℕ). list ++ l) (sym (samples_more runs at run within c.index-runs-place.is)) in
-    let Goes = λ (list : List ℕ) (machine : g.row.L.Denot) (next : Walk) (all : List ℕ). OnWalk (m.outs (m.setup c.args.machine.now)) m.stands asked machine next list all [] in
+    let Goes = λ (list : List ℕ) (machine : g.row.L.Denot) (next : Walk) (all : List ℕ). OnWalk (m.outs (g.L.Configured.setup c.args.machine.now)) m.stands asked machine next list all [] in
     elim c.if-met-eq0.branch [
       | then-met-eq0 w ↦ record {
-        setup = ap m.setup w.machine-is ∙ i.setup;
+        setup = ap g.L.Configured.setup w.machine-is ∙ i.setup;
         alts = ap m.alts w.machine-is ∙ i.alts;
         empty = w.into-is ∙ i.empty;
         some = λ none. i.some (omega (arith, none, ap walked w.walk-is, w.pass.ensures.walked));
@@ -155,13 +155,13 @@ loop-place-preserved g c =
             subst (λ (machine : g.row.L.Denot). Goes list machine c.if-met-eq0.walk (list ++ samples_of (take (at + 1) runs))) (sym w.machine-is)
             (subst (λ (next : Walk). Goes list c.loop-place.machine next (list ++ samples_of (take (at + 1) runs))) (sym w.walk-is)
             (subst (λ (l : List ℕ). Goes list c.loop-place.machine w.pass.new.self l) (longer list)
-            (tread_pass m.setup m.outs m.stands m.alts g.met.L.LogicMachine.quiet c.loop-place.machine walk w.pass.new.self list all (samples run) (m.setup c.args.machine.now) asked i.setup i.alts on both.1 w.pass.ensures.from)));
+            (tread_pass g.L.Configured.setup m.outs m.stands m.alts g.met.L.LogicMachine.quiet c.loop-place.machine walk w.pass.new.self list all (samples run) (g.L.Configured.setup c.args.machine.now) asked i.setup i.alts on both.1 w.pass.ensures.from)));
       }
       | else-met-eq0+else-resume+else-not-is_empty w ↦
           let none : w.resume.new.into ≡ [] = sym w.list.ensures.list ∙ nil_from_length w.list.result.now (is_zero (length w.list.result.now) (sym w.is_empty.ensures ∙ w.if-not-is_empty.false)) in
           let next = w.stop-else-met-eq0.new.self in
           record {
-            setup = ap m.setup w.machine-is ∙ w.resume.ensures.setup ∙ i.setup;
+            setup = ap g.L.Configured.setup w.machine-is ∙ w.resume.ensures.setup ∙ i.setup;
             alts = ap m.alts w.machine-is ∙ w.resume.ensures.waits w.if-resume.false ∙ i.alts;
             empty = w.into-is ∙ none;
             some = λ zero. i.some (omega (arith, zero, ap walked w.walk-is, w.stop-else-met-eq0.ensures.walked));
@@ -175,10 +175,10 @@ loop-place-preserved g c =
                 subst (λ (machine : g.row.L.Denot). Goes list machine c.if-met-eq0.walk (list ++ samples_of (take (at + 1) runs))) (sym w.machine-is)
                 (subst (λ (n : Walk). Goes list w.resume.new.self n (list ++ samples_of (take (at + 1) runs))) (sym w.walk-is)
                 (subst (λ (l : List ℕ). Goes list w.resume.new.self next l) (longer list)
-                (subst (λ (outs : List Out). OnWalk (m.outs (m.setup c.args.machine.now)) m.stands asked w.resume.new.self next list (all ++ samples run) outs) none
-                (tread_stop m.setup m.outs m.stands m.alts g.met.L.LogicMachine.quiet c.loop-place.machine walk next list all (samples run) w.resume.new.self (length all) run.value c.met-met.result w.resume.new.into
+                (subst (λ (outs : List Out). OnWalk (m.outs (g.L.Configured.setup c.args.machine.now)) m.stands asked w.resume.new.self next list (all ++ samples run) outs) none
+                (tread_stop g.L.Configured.setup m.outs m.stands m.alts g.met.L.LogicMachine.quiet c.loop-place.machine walk next list all (samples run) w.resume.new.self (length all) run.value c.met-met.result w.resume.new.into
                 (subst (λ (n : ℕ). StandsThere (m.stands c.loop-place.machine) (m.stands w.resume.new.self) (m.alts c.loop-place.machine) n run.value c.met-met.result) place w.resume.ensures.stands)
-                (subst (λ (n : ℕ). IsLoud (m.outs (m.setup c.loop-place.machine)) (m.stands c.loop-place.machine) (m.alts c.loop-place.machine) n run.value c.met-met.result w.resume.new.into) place w.resume.ensures.loud)
-                (first_value all run run.not_empty) (m.setup c.args.machine.now) asked i.setup i.alts w.resume.ensures.setup (w.resume.ensures.waits w.if-resume.false) on both.0 both.1 from))));
+                (subst (λ (n : ℕ). IsLoud (m.outs (g.L.Configured.setup c.loop-place.machine)) (m.stands c.loop-place.machine) (m.alts c.loop-place.machine) n run.value c.met-met.result w.resume.new.into) place w.resume.ensures.loud)
+                (first_value all run run.not_empty) (g.L.Configured.setup c.args.machine.now) asked i.setup i.alts w.resume.ensures.setup (w.resume.ensures.waits w.if-resume.false) on both.0 both.1 from))));
           }
     ]

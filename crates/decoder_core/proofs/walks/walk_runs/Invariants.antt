@@ -8,10 +8,10 @@ abbrev pub invariant-loop-place : goal.invariant-loop-place
 invariant-loop-place g l =
     let m = g.L.LogicMachine in
     record {
-      setup : m.setup l.machine ≡ m.setup l.fn.machine;
+      setup : g.L.Configured.setup l.machine ≡ g.L.Configured.setup l.fn.machine;
       alts : m.alts l.machine ≡ m.alts l.fn.machine;
       empty : l.into ≡ [];
       some : walked l.walk ≢ 0;
       treads : SaysAlts l.pair (m.alts l.fn.machine) → (list : List ℕ) → Walks (m.alts l.fn.machine) l.fn.walk list → m.stands l.fn.machine (take (walk_from l.fn.walk) list)
-          → OnWalk (m.outs (m.setup l.fn.machine)) m.stands (m.alts l.fn.machine) l.machine l.walk list (list ++ samples_of (take l.place l.runs)) [];
+          → OnWalk (m.outs (g.L.Configured.setup l.fn.machine)) m.stands (m.alts l.fn.machine) l.machine l.walk list (list ++ samples_of (take l.place l.runs)) [];
     }

@@ -17,8 +17,8 @@ returns-then-before-ge-MOST_SAMPLES-clause-step g c =
     let s = c.args.self.now in
     let front = map Sample (samples c.args.run) in
     let goes = λ (input : List Item) (d : Drives m.stands m.alts s.machine s.waiter input).
-    through m.setup m.outs m.stands m.alts g.met.L.LogicMachine.quiet s.machine s.waiter input d s.waiter [] front
-    (spent m.setup m.outs m.stands m.alts g.met.L.LogicMachine.quiet s.machine s.waiter input d c.args.run (omega (arith, c.consumed-before.ensures.consumed)))
+    through g.L.Configured.setup m.outs m.stands m.alts g.met.L.LogicMachine.quiet s.machine s.waiter input d s.waiter [] front
+    (spent g.L.Configured.setup m.outs m.stands m.alts g.met.L.LogicMachine.quiet s.machine s.waiter input d c.args.run (omega (arith, c.consumed-before.ensures.consumed)))
     (subst (λ (l : List ℕ). Waits s.waiter l) (sym (append-nil (counted_samples input))) d.waits) refl refl in
     record {
       front = front;
@@ -26,7 +26,7 @@ returns-then-before-ge-MOST_SAMPLES-clause-step g c =
       some = λ some. some;
       more = tt;
       consumes = λ input d. (goes input d).0;
-      gives = λ input d. (goes input d).1 ∙ sym (append-nil (m.outs (m.setup s.machine) (counted_samples input))) ∙ ap (λ (l : List Out). m.outs (m.setup s.machine) (counted_samples input) ++ l) (sym c.requires);
+      gives = λ input d. (goes input d).1 ∙ sym (append-nil (m.outs (g.L.Configured.setup s.machine) (counted_samples input))) ∙ ap (λ (l : List Out). m.outs (g.L.Configured.setup s.machine) (counted_samples input) ++ l) (sym c.requires);
     }
 
 pub returns-then-before-ge-MOST_SAMPLES-clause-stops : goal.returns-then-before-ge-MOST_SAMPLES-clause-stops
@@ -37,7 +37,7 @@ returns-then-before-ge-MOST_SAMPLES-clause-stops g c =
     record {
       front = step.front;
       split = step.split;
-      none = λ input earlier last d is. passed_over m.setup m.outs m.stands m.alts g.met.L.LogicMachine.quiet s.machine s.waiter input d s.waiter step.front earlier last (step.consumes input d) refl is;
+      none = λ input earlier last d is. passed_over g.L.Configured.setup m.outs m.stands m.alts g.met.L.LogicMachine.quiet s.machine s.waiter input d s.waiter step.front earlier last (step.consumes input d) refl is;
       stop = λ some. absurd (omega (arith, some));
     }
 
@@ -50,8 +50,8 @@ returns-in-Through-clause-step g c =
     let front = map Sample (samples run) in
     let len : part.len ≡ min run.len (2 ^ 60 - consumed_by s.waiter) = c.part_of.ensures.len ∙ ap (λ (n : ℕ). min run.len (2 ^ 60 - n)) c.consumed-before.ensures.consumed in
     let goes = λ (input : List Item) (d : Drives m.stands m.alts s.machine s.waiter input).
-    through m.setup m.outs m.stands m.alts g.met.L.LogicMachine.quiet s.machine s.waiter input d c.scan.new.self (samples part) front
-    (part_counts m.setup m.outs m.stands m.alts g.met.L.LogicMachine.quiet s.machine s.waiter input d run part c.part_of.ensures.value len)
+    through g.L.Configured.setup m.outs m.stands m.alts g.met.L.LogicMachine.quiet s.machine s.waiter input d c.scan.new.self (samples part) front
+    (part_counts g.L.Configured.setup m.outs m.stands m.alts g.met.L.LogicMachine.quiet s.machine s.waiter input d run part c.part_of.ensures.value len)
     (c.in-Through.ensures.scanned (counted_samples input) d.waits).0 c.in-Through.ensures.counts.from c.scan.ensures.alts in
     record {
       front = front;
@@ -59,7 +59,7 @@ returns-in-Through-clause-step g c =
       some = λ some. some;
       more = tt;
       consumes = λ input d. (goes input d).0;
-      gives = λ input d. (goes input d).1 ∙ sym (append-nil (m.outs (m.setup s.machine) (counted_samples input))) ∙ ap (λ (l : List Out). m.outs (m.setup s.machine) (counted_samples input) ++ l) (sym c.requires);
+      gives = λ input d. (goes input d).1 ∙ sym (append-nil (m.outs (g.L.Configured.setup s.machine) (counted_samples input))) ∙ ap (λ (l : List Out). m.outs (g.L.Configured.setup s.machine) (counted_samples input) ++ l) (sym c.requires);
     }
 
 pub returns-in-Through-clause-stops : goal.returns-in-Through-clause-stops
@@ -70,7 +70,7 @@ returns-in-Through-clause-stops g c =
     record {
       front = step.front;
       split = step.split;
-      none = λ input earlier last d is. passed_over m.setup m.outs m.stands m.alts g.met.L.LogicMachine.quiet s.machine s.waiter input d c.scan.new.self step.front earlier last (step.consumes input d) c.in-Through.ensures.counts.from is;
+      none = λ input earlier last d is. passed_over g.L.Configured.setup m.outs m.stands m.alts g.met.L.LogicMachine.quiet s.machine s.waiter input d c.scan.new.self step.front earlier last (step.consumes input d) c.in-Through.ensures.counts.from is;
       stop = λ some. absurd (omega (arith, some));
     }
 
@@ -91,14 +91,14 @@ returns-in-Met-clause-step g c =
     let seen = λ (input : List Item). take (wait_from s.waiter) (counted_samples input) in
     let more = λ (input : List Item). drop (wait_from s.waiter) (counted_samples input) ++ samples part in
     let place = λ (input : List Item) (d : Drives m.stands m.alts s.machine s.waiter input).
-    let e : at + 1 ≡ length (counted_samples input) + used = omega (arith, counts.behind, before, list_len m.setup m.outs m.stands m.alts g.met.L.LogicMachine.quiet s.machine s.waiter input d) in
-    counted_front m.setup m.outs m.stands m.alts g.met.L.LogicMachine.quiet s.machine s.waiter input d part used at run.value e used_fits c.part_of.ensures.value part_fits in
+    let e : at + 1 ≡ length (counted_samples input) + used = omega (arith, counts.behind, before, list_len g.L.Configured.setup m.outs m.stands m.alts g.met.L.LogicMachine.quiet s.machine s.waiter input d) in
+    counted_front g.L.Configured.setup m.outs m.stands m.alts g.met.L.LogicMachine.quiet s.machine s.waiter input d part used at run.value e used_fits c.part_of.ensures.value part_fits in
     let parts = λ (input : List Item) (d : Drives m.stands m.alts s.machine s.waiter input).
-    seen_parts m.setup m.outs m.stands m.alts g.met.L.LogicMachine.quiet s.machine s.waiter input d (samples part) in
+    seen_parts g.L.Configured.setup m.outs m.stands m.alts g.met.L.LogicMachine.quiet s.machine s.waiter input d (samples part) in
     let stops = λ (input : List Item) (d : Drives m.stands m.alts s.machine s.waiter input).
     let scanned = c.in-Met.ensures.scanned (counted_samples input) d.waits in
     let is : StopsIn (m.alts s.machine) (seen input) (more input) at c.in-Met.value c.in-Met.met = record {
-      stop = stop_seen m.setup m.outs m.stands m.alts g.met.L.LogicMachine.quiet s.machine s.waiter input d (samples part) at c.in-Met.met scanned.0;
+      stop = stop_seen g.L.Configured.setup m.outs m.stands m.alts g.met.L.LogicMachine.quiet s.machine s.waiter input d (samples part) at c.in-Met.met scanned.0;
       value_is = scanned.1 ∙ ap (λ (l : List ℕ). slice_index l at) (sym (parts input d));
     } in
     is in
@@ -119,9 +119,9 @@ returns-in-Met-clause-step g c =
             cond = c.wait_on.ensures.alts (λ same. c.scan.ensures.alts ∙ d.cond ∙ sym (c.resume-anew.ensures.waits same));
           };
       gives = λ input d.
-          ap (λ (l : List ℕ). m.outs (m.setup s.machine) l) (place input d ∙ ap (λ (l : List ℕ). take (at + 1) l) (sym (parts input d)))
+          ap (λ (l : List ℕ). m.outs (g.L.Configured.setup s.machine) l) (place input d ∙ ap (λ (l : List ℕ). take (at + 1) l) (sym (parts input d)))
           ∙ c.resume-anew.ensures.loud (seen input) (more input) d.machine_stands (stops input d)
-          ∙ ap (λ (l : List Out). l ++ c.resume-anew.new.into) (sym (outs_now m.setup m.outs m.stands m.alts g.met.L.LogicMachine.quiet s.machine s.waiter input d));
+          ∙ ap (λ (l : List Out). l ++ c.resume-anew.new.into) (sym (outs_now g.L.Configured.setup m.outs m.stands m.alts g.met.L.LogicMachine.quiet s.machine s.waiter input d));
     }
 
 pub returns-in-Met-clause-stops : goal.returns-in-Met-clause-stops
@@ -140,17 +140,17 @@ returns-in-Met-clause-stops g c =
     let run_fits : used ≤ run.len = omega (arith, used_fits, c.part_of.ensures.len) in
     let length_is : length front ≡ used = length-map (replicate used run.value) Sample ∙ length-replicate used run.value in
     let place = λ (input : List Item) (d : Drives m.stands m.alts s.machine s.waiter input).
-    let e : at + 1 ≡ length (counted_samples input) + used = omega (arith, counts.behind, before, list_len m.setup m.outs m.stands m.alts g.met.L.LogicMachine.quiet s.machine s.waiter input d) in
+    let e : at + 1 ≡ length (counted_samples input) + used = omega (arith, counts.behind, before, list_len g.L.Configured.setup m.outs m.stands m.alts g.met.L.LogicMachine.quiet s.machine s.waiter input d) in
     e in
     let ends = λ (input : List Item) (d : Drives m.stands m.alts s.machine s.waiter input).
-    counted_front m.setup m.outs m.stands m.alts g.met.L.LogicMachine.quiet s.machine s.waiter input d part used at run.value (place input d) used_fits c.part_of.ensures.value part_fits in
+    counted_front g.L.Configured.setup m.outs m.stands m.alts g.met.L.LogicMachine.quiet s.machine s.waiter input d part used at run.value (place input d) used_fits c.part_of.ensures.value part_fits in
     record {
       front = front;
       split = parts_of_run run used run_fits ∙ ap (λ (l : List Item). front ++ l) (sym c.behind.ensures.rest);
       none = λ input earlier last d is.
-          before_stop m.setup m.outs m.stands m.alts g.met.L.LogicMachine.quiet s.machine s.waiter input d front (counted_samples input ++ samples part) at c.in-Met.met (ends input d)
+          before_stop g.L.Configured.setup m.outs m.stands m.alts g.met.L.LogicMachine.quiet s.machine s.waiter input d front (counted_samples input ++ samples part) at c.in-Met.met (ends input d)
           (c.in-Met.ensures.scanned (counted_samples input) d.waits).0 earlier last (place input d ∙ ap (λ (n : ℕ). length (counted_samples input) + n) (sym length_is)) is;
       stop = λ some input d.
-          awake m.setup m.outs m.stands m.alts g.met.L.LogicMachine.quiet s.machine s.waiter input d front (counted_samples input ++ samples part) at c.in-Met.met (ends input d)
+          awake g.L.Configured.setup m.outs m.stands m.alts g.met.L.LogicMachine.quiet s.machine s.waiter input d front (counted_samples input ++ samples part) at c.in-Met.met (ends input d)
           (c.in-Met.ensures.scanned (counted_samples input) d.waits).0;
     }

@@ -14,7 +14,7 @@ returns-then-pass_rest-clause-step g c =
     let s = c.args.self.now in
     let mid = c.look.new.self in
     let new = c.pass_rest.new.self in
-    steps_on (Drives m.stands m.alts s.machine s.waiter) (Drives m.stands m.alts mid.machine mid.waiter) (Drives m.stands m.alts new.machine new.waiter) (λ input. m.outs (m.setup s.machine) (counted_samples input)) (RunFeed c.args.run) c.in-Some.rest c.look.new.into
+    steps_on (Drives m.stands m.alts s.machine s.waiter) (Drives m.stands m.alts mid.machine mid.waiter) (Drives m.stands m.alts new.machine new.waiter) (λ input. m.outs (g.L.Configured.setup s.machine) (counted_samples input)) (RunFeed c.args.run) c.in-Some.rest c.look.new.into
     c.in-Some.ensures.step
     (subst (λ (outputs : List Item → List Out). Passes (Drives m.stands m.alts mid.machine mid.waiter) (Drives m.stands m.alts new.machine new.waiter) outputs (samples c.in-Some.rest))
     (ap (λ setup input. m.outs setup (counted_samples input)) c.look.ensures.setup) (c.if-pass_rest.ensures.passes refl))

@@ -18,7 +18,7 @@ returns-then-pass_rest-clause-steps g c =
       front = rest;
       split = map_equal (run.len - 1) run.value ∙ sym c.behind.ensures.rest ∙ ap (λ o. left_items (left_feed o)) c.in-Some.is ∙ sym (append-nil rest);
       consumes = λ input d. (passes input d).0;
-      gives = λ input d. (passes input d).1 ∙ sym (append-nil (m.outs (m.setup c.args.self.now.machine) (counted_samples input)));
+      gives = λ input d. (passes input d).1 ∙ sym (append-nil (m.outs (g.L.Configured.setup c.args.self.now.machine) (counted_samples input)));
     }
 
 pub returns-else-pass_rest-clause-steps : goal.returns-else-pass_rest-clause-steps
@@ -26,7 +26,7 @@ returns-else-pass_rest-clause-steps g c =
     let m = g.L.LogicMachine in
     let s = c.args.self.now in
     let run = c.args.run in
-    subst (λ (d : Driver g.row.L.Denot g.row.L-Setup.Denot). StepsRuns (Drives m.stands m.alts s.machine s.waiter) (Drives m.stands m.alts d.machine d.waiter) (λ input. m.outs (m.setup s.machine) (counted_samples input))
+    subst (λ (d : Driver g.row.L.Denot g.row.L-Setup.Denot). StepsRuns (Drives m.stands m.alts s.machine s.waiter) (Drives m.stands m.alts d.machine d.waiter) (λ input. m.outs (g.L.Configured.setup s.machine) (counted_samples input))
     (replicate (run.len - 1) run.value) (Some c.in-Some.rest) []) (sym (c.pass_rest.ensures.kept c.if-pass_rest.false))
     (rests_runs (map_equal (run.len - 1) run.value ∙ sym c.behind.ensures.rest ∙ ap (λ o. left_items (left_feed o)) c.in-Some.is))
 

@@ -11,8 +11,8 @@ returns-then-rests-clause-passes g c = λ is input d.
     let s = c.args.self.now in
     let rest = c.args.rest in
     let len : rest.len ≡ min rest.len (2 ^ 60 - consumed_by s.waiter) = omega (arith, c.consumed.ensures.consumed, c.if-rest-consumed.false) in
-    through m.setup m.outs m.stands m.alts g.met.L.LogicMachine.quiet s.machine s.waiter input d c.pass.new.self (samples rest) (map Sample (samples rest))
-    (part_counts m.setup m.outs m.stands m.alts g.met.L.LogicMachine.quiet s.machine s.waiter input d rest rest refl len)
+    through g.L.Configured.setup m.outs m.stands m.alts g.met.L.LogicMachine.quiet s.machine s.waiter input d c.pass.new.self (samples rest) (map Sample (samples rest))
+    (part_counts g.L.Configured.setup m.outs m.stands m.alts g.met.L.LogicMachine.quiet s.machine s.waiter input d rest rest refl len)
     (c.pass.ensures.waits (counted_samples input) d.waits (c.if-rests.ensures.none refl (counted_samples input) d.waits)) c.pass.ensures.counts.from c.pass.ensures.alts
 
 pub returns-then-passes-clause-passes : goal.returns-then-passes-clause-passes
@@ -21,6 +21,6 @@ returns-then-passes-clause-passes g c = λ is input d.
     let s = c.args.self.now in
     let rest = c.args.rest in
     let len : rest.len ≡ min rest.len (2 ^ 60 - consumed_by s.waiter) = omega (arith, c.consumed.ensures.consumed, c.if-rest-consumed.false) in
-    through m.setup m.outs m.stands m.alts g.met.L.LogicMachine.quiet s.machine s.waiter input d c.pass-then-passes.new.self (samples rest) (map Sample (samples rest))
-    (part_counts m.setup m.outs m.stands m.alts g.met.L.LogicMachine.quiet s.machine s.waiter input d rest rest refl len)
+    through g.L.Configured.setup m.outs m.stands m.alts g.met.L.LogicMachine.quiet s.machine s.waiter input d c.pass-then-passes.new.self (samples rest) (map Sample (samples rest))
+    (part_counts g.L.Configured.setup m.outs m.stands m.alts g.met.L.LogicMachine.quiet s.machine s.waiter input d rest rest refl len)
     (c.pass-then-passes.ensures.waits (counted_samples input) d.waits (c.if-passes.ensures.none refl (counted_samples input) d.waits)) c.pass-then-passes.ensures.counts.from c.pass-then-passes.ensures.alts

@@ -13,8 +13,8 @@ returns-then-passed-runs-clause-steps g c =
     let s = c.args.self.now in
     let passed = c.pass_runs-passed.ensures in
     let samples = samples_of (take c.pass_runs-passed.result c.args.runs.now) in
-    let over = passes_over m.setup m.outs m.stands m.alts g.met.L.LogicMachine.quiet s.machine s.waiter c.pass_runs-passed.new.self samples passed.waits passed.count passed.from passed.alts in
-    subst (λ (o : List Out). StepsRuns (Drives m.stands m.alts s.machine s.waiter) (Drives m.stands m.alts s.machine c.pass_runs-passed.new.self) (λ input. m.outs (m.setup s.machine) (counted_samples input)) samples None o) (sym c.requires)
+    let over = passes_over g.L.Configured.setup m.outs m.stands m.alts g.met.L.LogicMachine.quiet s.machine s.waiter c.pass_runs-passed.new.self samples passed.waits passed.count passed.from passed.alts in
+    subst (λ (o : List Out). StepsRuns (Drives m.stands m.alts s.machine s.waiter) (Drives m.stands m.alts s.machine c.pass_runs-passed.new.self) (λ input. m.outs (g.L.Configured.setup s.machine) (counted_samples input)) samples None o) (sym c.requires)
     (passes_runs over)
 
 pub returns-clause-steps : goal.returns-clause-steps
@@ -26,7 +26,7 @@ returns-clause-steps g c =
     let runs = c.args.runs.now in
     let samples = samples_of (take at runs) in
     let within : at < length runs = omega (arith, c.if-passed-runs.false) in
-    let over = passes_over m.setup m.outs m.stands m.alts g.met.L.LogicMachine.quiet s.machine s.waiter c.pass_runs-passed.new.self samples passed.waits passed.count passed.from passed.alts in
-    subst (λ (l : List ℕ). StepsRuns (Drives m.stands m.alts s.machine s.waiter) (Drives m.stands m.alts c.look_on.new.self.machine c.look_on.new.self.waiter) (λ input. m.outs (m.setup s.machine) (counted_samples input)) l c.look_on.result c.look_on.new.into)
+    let over = passes_over g.L.Configured.setup m.outs m.stands m.alts g.met.L.LogicMachine.quiet s.machine s.waiter c.pass_runs-passed.new.self samples passed.waits passed.count passed.from passed.alts in
+    subst (λ (l : List ℕ). StepsRuns (Drives m.stands m.alts s.machine s.waiter) (Drives m.stands m.alts c.look_on.new.self.machine c.look_on.new.self.waiter) (λ input. m.outs (g.L.Configured.setup s.machine) (counted_samples input)) l c.look_on.result c.look_on.new.into)
     (sym (samples_more runs at c.index-runs-passed.result within c.index-runs-passed.is))
     (runs_then (passes_runs over) (step_runs c.look_on.ensures.step))

@@ -12,9 +12,9 @@ returns-then-not-walked-clause-steps g c =
     let s = c.args.self.now in
     let walked = c.walk_runs-walked.ensures in
     let same = is_false c.walk_runs-walked.result.anew c.if-not-walked.true in
-    subst (λ (l : List ℕ). StepsRuns (Drives m.stands m.alts s.machine s.waiter) (Drives m.stands m.alts c.walk_runs-walked.new.machine c.put.new.self) (λ input. m.outs (m.setup s.machine) (counted_samples input)) l None c.walk_runs-walked.new.into)
+    subst (λ (l : List ℕ). StepsRuns (Drives m.stands m.alts s.machine s.waiter) (Drives m.stands m.alts c.walk_runs-walked.new.machine c.put.new.self) (λ input. m.outs (g.L.Configured.setup s.machine) (counted_samples input)) l None c.walk_runs-walked.new.into)
     (sym (walked.treads.whole same))
-    (walk_steps m.setup m.outs m.stands m.alts c.pair-pair.result s.machine c.walk_runs-walked.new.machine s.waiter c.put.new.self c.walk-walk.result c.walk_runs-walked.new.walk walked.treads.more c.walk_runs-walked.new.into
+    (walk_steps g.L.Configured.setup m.outs m.stands m.alts c.pair-pair.result s.machine c.walk_runs-walked.new.machine s.waiter c.put.new.self c.walk-walk.result c.walk_runs-walked.new.walk walked.treads.more c.walk_runs-walked.new.into
     (record { says = c.pair-pair.ensures.says; stands = c.pair-pair.ensures.stands }) c.walk-walk.ensures.waits c.walk-walk.ensures.from walked.treads.treads c.put.ensures.waits c.put.ensures.from
     (λ cond. c.put.ensures.alts ∙ cond ∙ sym (walked.alts same)))
 
@@ -31,11 +31,11 @@ returns-clause-steps g c =
     let machine = c.walk_runs-walked.new.machine in
     let run = c.index-runs-walked.result in
     let new = c.pass_behind.new.self in
-    let there = walk_steps m.setup m.outs m.stands m.alts c.pair-pair.result s.machine machine s.waiter c.wait.new.waiter c.walk-walk.result c.walk_runs-walked.new.walk treads.more into
+    let there = walk_steps g.L.Configured.setup m.outs m.stands m.alts c.pair-pair.result s.machine machine s.waiter c.wait.new.waiter c.walk-walk.result c.walk_runs-walked.new.walk treads.more into
     (record { says = c.pair-pair.ensures.says; stands = c.pair-pair.ensures.stands }) c.walk-walk.ensures.waits c.walk-walk.ensures.from treads.treads (λ list on. c.wait.ensures.waits list (c.put.ensures.waits list on)) (c.wait.ensures.from ∙ c.put.ensures.from)
     (λ cond. c.wait.ensures.alts) in
     let rest = subst (λ (o : List Item → List Out). StepsRuns (Drives m.stands m.alts machine c.wait.new.waiter) (Drives m.stands m.alts new.machine new.waiter) o (replicate (run.len - 1) run.value) c.pass_behind.result [])
     (ap (λ setup input. m.outs setup (counted_samples input)) walked.setup) c.pass_behind.ensures.steps in
-    let Goes = λ (l : List ℕ) (o : List Out). StepsRuns (Drives m.stands m.alts s.machine s.waiter) (Drives m.stands m.alts new.machine new.waiter) (λ input. m.outs (m.setup s.machine) (counted_samples input)) l c.pass_behind.result o in
+    let Goes = λ (l : List ℕ) (o : List Out). StepsRuns (Drives m.stands m.alts s.machine s.waiter) (Drives m.stands m.alts new.machine new.waiter) (λ input. m.outs (g.L.Configured.setup s.machine) (counted_samples input)) l c.pass_behind.result o in
     subst (λ (l : List ℕ). Goes l into) (sym (treads.front (is_true c.walk_runs-walked.result.anew c.if-not-walked.false) run c.index-runs-walked.is))
     (subst (λ (o : List Out). Goes (treads.more ++ replicate (run.len - 1) run.value) o) (append-nil into) (runs_then there rest))

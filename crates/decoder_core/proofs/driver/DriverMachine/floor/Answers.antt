@@ -11,9 +11,9 @@ returns-clause-floor g c = λ input d more new is.
     let m = g.L.LogicMachine in
     let s = c.args.self.now in
     let list = counted_samples input in
-    let q = quiet_parts m.setup m.outs m.stands m.alts g.met.L.LogicMachine.quiet s.machine s.waiter input d in
+    let q = quiet_parts g.L.Configured.setup m.outs m.stands m.alts g.met.L.LogicMachine.quiet s.machine s.waiter input d in
     let added = take (2 ^ 60 - length list) (samples_in more) in
-    let outs = m.outs (m.setup s.machine) in
+    let outs = m.outs (g.L.Configured.setup s.machine) in
     c.floor.ensures.floor (take (wait_from s.waiter) list) (drop (wait_from s.waiter) list) d.machine_stands q.0 (c.consumed.ensures.consumed ∙ q.1) added new
     (ap (λ (l : List ℕ). outs (l ++ added)) q.2 ∙ sym (ap outs (counted_more input more)) ∙ is ∙ ap (λ (l : List ℕ). outs l ++ new) (sym q.2))
 
@@ -22,6 +22,6 @@ returns-clause-near g c = λ input d.
     let m = g.L.LogicMachine in
     let s = c.args.self.now in
     let list = counted_samples input in
-    let q = quiet_parts m.setup m.outs m.stands m.alts g.met.L.LogicMachine.quiet s.machine s.waiter input d in
-    subst (λ (l : List ℕ). m.near (m.setup s.machine) l ≤ c.floor.result) q.2
+    let q = quiet_parts g.L.Configured.setup m.outs m.stands m.alts g.met.L.LogicMachine.quiet s.machine s.waiter input d in
+    subst (λ (l : List ℕ). m.near (g.L.Configured.setup s.machine) l ≤ c.floor.result) q.2
     (c.floor.ensures.near (take (wait_from s.waiter) list) (drop (wait_from s.waiter) list) d.machine_stands q.0 (c.consumed.ensures.consumed ∙ q.1))

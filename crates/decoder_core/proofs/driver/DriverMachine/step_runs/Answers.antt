@@ -15,7 +15,7 @@ returns-clause-steps g c =
     let last = c.step_any.new.self in
     let Goes = λ (d : Driver g.row.L.Denot g.row.L-Setup.Denot) (o : List Item → List Out). StepsRuns (Drives m.stands m.alts d.machine d.waiter) (Drives m.stands m.alts last.machine last.waiter) o
     (samples_of (take c.step_any.result.count c.args.runs.now)) c.step_any.result.rest c.step_any.new.into in
-    let all = λ (d : Driver g.row.L.Denot g.row.L-Setup.Denot) (is : c.if-is_exact.self ≡ d). subst (λ (x : Driver g.row.L.Denot g.row.L-Setup.Denot). Goes x (λ input. m.outs (m.setup x.machine) (counted_samples input))) is c.step_any.ensures.steps in
+    let all = λ (d : Driver g.row.L.Denot g.row.L-Setup.Denot) (is : c.if-is_exact.self ≡ d). subst (λ (x : Driver g.row.L.Denot g.row.L-Setup.Denot). Goes x (λ input. m.outs (g.L.Configured.setup x.machine) (counted_samples input))) is c.step_any.ensures.steps in
     elim c.if-is_exact.branch [
       | then-is_exact+else-taken-gt0 w ↦
           let taken = w.step_exact-taken.ensures in

@@ -11,14 +11,14 @@ pub returns-clause-step : goal.returns-clause-step
 returns-clause-step g c =
     let m = g.D.PacketMachine in
     let s = c.args.self.now in
-    let wire = m.wire (m.setup s.machine) in
+    let wire = m.wire (g.D.Configured.setup s.machine) in
     let run = c.args._run in
-    passes m.stands wire (m.outs (m.setup s.machine)) s.machine s.from (RunFeed run) (map Sample (samples run)) c.args._into.now refl c.requires (λ input d. samples_passed wire input (samples run))
+    passes m.stands wire (m.outs (g.D.Configured.setup s.machine)) s.machine s.from (RunFeed run) (map Sample (samples run)) c.args._into.now refl c.requires (λ input d. samples_passed wire input (samples run))
 
 pub returns-clause-stops : goal.returns-clause-stops
 returns-clause-stops g c =
     let m = g.D.PacketMachine in
     let s = c.args.self.now in
-    let wire = m.wire (m.setup s.machine) in
+    let wire = m.wire (g.D.Configured.setup s.machine) in
     let run = c.args._run in
     reaches wire (Follows m.stands wire s.machine s.from) (RunFeed run) (run_feed wire (Follows m.stands wire s.machine s.from) (RunFeed run) (samples run) refl)

@@ -1,6 +1,6 @@
 use Rattle.std.proofs.Common.{[], ◌∷◌, ◌++◌, sym, ◌∙◌, subst}
 use Rattle.i2c_phases.specs.declared.tracker.Event.{Event}
-use Rattle.i2c_phases.specs.Tracking.{track_next}
+use Rattle.i2c_phases.specs.laws.Tracking.{track_next}
 use Rattle.i2c_phases.specs.Devices.{Happens, StandsFor}
 use Rattle.i2c_phases.specs.laws.DeviceLaws.{stands_more, loud_more}
 use Rattle.i2c_phases.proofs.phased.PhasedPacketMachine.accept.Goals as goal
@@ -10,7 +10,7 @@ returns-clause-stands g c =
     let m = g.D.I2cDevice in
     let s = c.args.self.now in
     let p = c.args.packet in
-    let setup = m.setup s.device in
+    let setup = g.D.Configured.setup s.device in
     let step = m.step setup in
     let new = c.happen.new.device in
     let into = c.happen.new.into in
@@ -24,7 +24,7 @@ returns-clause-loud g c =
     let m = g.D.I2cDevice in
     let s = c.args.self.now in
     let p = c.args.packet in
-    let setup = m.setup s.device in
+    let setup = g.D.Configured.setup s.device in
     let step = m.step setup in
     let new = c.happen.new.device in
     let into = c.happen.new.into in

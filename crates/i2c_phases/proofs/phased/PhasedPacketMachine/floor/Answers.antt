@@ -11,7 +11,7 @@ pub returns-clause-floor : goal.returns-clause-floor
 returns-clause-floor g c =
     let m = g.D.I2cDevice in
     let s = c.args.self.now in
-    let setup = m.setup s.device in
+    let setup = g.D.Configured.setup s.device in
     λ seen stands from. subst (λ (n : ℕ). IsPacketFloor I2c (phased (m.bus_address setup) (m.takes_reset setup) (m.step setup)) seen n)
     (near_kept (m.bus_address setup) (m.takes_reset setup) s.kept seen c.args.from c.near.result stands.0 from c.near.ensures)
     (phased_floor (m.step setup) (g.met.D.I2cDevice.by_byte s.device) (m.bus_address setup) (m.takes_reset setup) seen)
@@ -20,5 +20,5 @@ pub returns-clause-near : goal.returns-clause-near
 returns-clause-near g c =
     let m = g.D.I2cDevice in
     let s = c.args.self.now in
-    let setup = m.setup s.device in
+    let setup = g.D.Configured.setup s.device in
     λ seen stands from. subst (λ (n : ℕ). phase_near seen ≤ n) (near_kept (m.bus_address setup) (m.takes_reset setup) s.kept seen c.args.from c.near.result stands.0 from c.near.ensures) (le_refl (phase_near seen))

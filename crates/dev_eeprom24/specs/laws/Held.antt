@@ -1,5 +1,6 @@
 -- What an EEPROM keeps of the phases that it knows, and what a byte gives.
-use Rattle.std.specs.Prelude.{ℕ, ◌≡◌, ◌+◌, ◌-◌, ◌*◌, ◌%◌, nat_le, if◌then◌else◌, List, [], ◌∷◌, length}
+use Rattle.std.specs.Prelude.{ℕ, ◌≡◌, ◌+◌, ◌-◌, ◌*◌, ◌%◌, nat_le, if◌then◌else◌, List, [], ◌∷◌}
+use Rattle.std.specs.Prelude.{length}
 use Rattle.decoder_core.specs.Outputs.{span_note}
 use Rattle.la_base.specs.declared.wires.Packet.{Packet}
 use Rattle.la_base.specs.declared.wires.Out.{Out}
@@ -21,7 +22,11 @@ half_of (packet ∷ packets) = Half (byte_of packet) packet.start
 module _ (o : Chip) where
   -- what is kept of the bytes of a write phase, and of the open phase
   abbrev pub word_known : List Packet → Word
-  word_known bytes = if has_word o bytes then Whole (word_of o bytes - word_of o bytes % o.page) ((word_of o bytes + length (data_of o bytes)) % o.page) else half_of bytes
+  word_known bytes =
+      if has_word o bytes
+      then Whole (word_of o bytes - word_of o bytes % o.page)
+      ((word_of o bytes + length (data_of o bytes)) % o.page)
+      else half_of bytes
 
   abbrev pub word_in : Meaning → Word
   word_in Nothing = Empty
@@ -35,18 +40,31 @@ module _ (o : Chip) where
 
   -- what is kept behind a whole word address, and behind one more byte that is written
   abbrev pub started : ℕ → Held
-  started w = record { pointer = (w - w % o.page + w % o.page) % o.size; word = Whole (w - w % o.page) (w % o.page) }
+  started w =
+      record {
+        pointer = (w - w % o.page + w % o.page) % o.size;
+        word = Whole (w - w % o.page) (w % o.page);
+      }
 
   abbrev pub put_by : ℕ → Word → Packet → Held
-  put_by at Empty packet = if nat_le o.size 256 then started (byte_of packet % o.size) else (record { pointer = at; word = Half (byte_of packet) packet.start })
+  put_by at Empty packet =
+      if nat_le o.size 256 then started (byte_of packet % o.size)
+      else (record { pointer = at; word = Half (byte_of packet) packet.start })
   put_by at (Half high first) packet = started ((high * 256 + byte_of packet) % o.size)
-  put_by at (Whole front place) packet = record { pointer = (front + (place + 1) % o.page) % o.size; word = Whole front ((place + 1) % o.page) }
+  put_by at (Whole front place) packet =
+      record {
+        pointer = (front + (place + 1) % o.page) % o.size;
+        word = Whole front ((place + 1) % o.page);
+      }
 
   -- what a byte that is written gives
   abbrev pub put_gives : Word → Packet → List Out
-  put_gives Empty packet = if nat_le o.size 256 then byte_note 0 packet (byte_of packet % o.size) 0 ∷ [] else []
-  put_gives (Half high first) packet = span_note 0 first packet.end ((high * 256 + byte_of packet) % o.size) 0 ∷ []
-  put_gives (Whole front place) packet = byte_note 1 packet (byte_of packet) (front + place) ∷ byte_piece 0 packet ∷ []
+  put_gives Empty packet =
+      if nat_le o.size 256 then byte_note 0 packet (byte_of packet % o.size) 0 ∷ [] else []
+  put_gives (Half high first) packet =
+      span_note 0 first packet.end ((high * 256 + byte_of packet) % o.size) 0 ∷ []
+  put_gives (Whole front place) packet =
+      byte_note 1 packet (byte_of packet) (front + place) ∷ byte_piece 0 packet ∷ []
 
   -- what a byte that is read gives
   abbrev pub get_gives : ℕ → Packet → List Out

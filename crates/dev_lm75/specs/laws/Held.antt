@@ -37,7 +37,8 @@ byte_gives class packet = byte_note class packet (byte_of packet) 0 ∷ []
 abbrev pub pair_gives : ℕ → Part → Packet → List Out
 pair_gives class Fresh packet = []
 pair_gives class Even packet = []
-pair_gives class (Half high first) packet = span_note class first packet.end ((high * 256 + byte_of packet) / 128) 0 ∷ []
+pair_gives class (Half high first) packet =
+    span_note class first packet.end ((high * 256 + byte_of packet) / 128) 0 ∷ []
 
 -- what bytes in pairs leave behind one more
 abbrev pub next_part : Part → Part → Packet → Part
@@ -47,10 +48,16 @@ next_part none (Half high first) packet = none
 
 -- what one more byte gives that is written behind the pointer byte, and that is read
 abbrev pub set_gives : ℕ → Part → Packet → List Out
-set_gives at part packet = if at == 1 then byte_gives 1 packet else (if at == 2 then pair_gives 4 part packet else (if at == 3 then pair_gives 6 part packet else []))
+set_gives at part packet =
+    if at == 1 then byte_gives 1 packet
+    else (if at == 2 then pair_gives 4 part packet
+    else (if at == 3 then pair_gives 6 part packet else []))
 
 abbrev pub get_gives : ℕ → Part → Packet → List Out
-get_gives at part packet = if at == 1 then byte_gives 2 packet else (if at == 2 then pair_gives 5 part packet else (if at == 3 then pair_gives 7 part packet else pair_gives 3 part packet))
+get_gives at part packet =
+    if at == 1 then byte_gives 2 packet
+    else (if at == 2 then pair_gives 5 part packet
+    else (if at == 3 then pair_gives 7 part packet else pair_gives 3 part packet))
 
 -- what a byte that is written gives, and what is then kept
 abbrev pub put_gives : ℕ → Part → Packet → List Out
