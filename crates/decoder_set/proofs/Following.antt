@@ -10,7 +10,7 @@ use Rattle.decoder_core.specs.Inputs.{Item}
 use Rattle.decoder_core.specs.Packets.{Follows}
 use Rattle.decoder_core.specs.Promises.{IsFloor}
 use Rattle.decoder_core.specs.declared.follower.Follower.{Follower}
-use Rattle.decoder_set.specs.declared.any.AnyMachine.{AnyMachine}
+use Rattle.decoder_set.specs.declared.any_machine.AnyMachine.{AnyMachine}
 use Rattle.decoder_set.specs.declared.setup.Setup.{Setup}
 use Rattle.decoder_set.specs.Opening.{FollowedBy}
 use Rattle.decoder_set.specs.Setups.{outs_of}

@@ -8,9 +8,10 @@ use Rattle.decoder_core.specs.Driving.{Drives, ReachesStop, Sleeps, Steps, Steps
 use Rattle.decoder_core.specs.Inputs.{Item, counted_samples}
 use Rattle.decoder_core.specs.Promises.{IsFloor}
 use Rattle.decoder_core.specs.declared.driver.Driver.{Driver}
-use Rattle.decoder_set.specs.declared.any.AnyMachine.{AnyMachine}
+use Rattle.decoder_set.specs.declared.any_machine.AnyMachine.{AnyMachine}
 use Rattle.decoder_set.specs.declared.setup.Setup.{Setup}
-use Rattle.decoder_set.specs.Opening.{Consumed, ConsumedBy, SleepsBy, kind_in}
+use Rattle.decoder_set.specs.Opening.{Consumed, ConsumedBy, SleepsBy}
+use Rattle.decoder_set.specs.Owning.{kind_in}
 use Rattle.decoder_set.specs.Setups.{outs_of, near_of}
 
 -- a machine of a decoder with this setup has consumed this input, and is of its kind

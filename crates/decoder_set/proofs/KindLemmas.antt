@@ -40,7 +40,7 @@ use Rattle.i2c_phases.specs.declared.phased.Phased.{Phased}
 use Rattle.decoder_set.specs.declared.kinds.Kind.{Kind}
 use Rattle.decoder_set.specs.declared.kinds.Kind.TheVariants as kind
 use Rattle.decoder_set.specs.declared.setup.Setup.{Setup}
-use Rattle.decoder_set.specs.Opening.{IsClock, IsEeprom, IsI2c, IsLink, IsLm75, IsSpi, IsUart}
+use Rattle.decoder_set.specs.Owning.{IsClock, IsEeprom, IsI2c, IsLink, IsLm75, IsSpi, IsUart}
 use Rattle.decoder_set.specs.Options.{clock_options, eeprom_options, i2c_options, link_options, lm75_options, spi_options, uart_options}
 use Rattle.decoder_set.specs.Setups.{outs_by, outs_of, near_by, near_of}
 

@@ -6,3 +6,4 @@ pub mod Handing
 pub mod KindLemmas
 pub mod Seen
 pub mod Following
+pub mod Owned

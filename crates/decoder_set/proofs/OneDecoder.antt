@@ -22,12 +22,12 @@ use Rattle.dec_uart.specs.declared.held.Line.{Line}
 use Rattle.dec_uart.specs.declared.options.UartOpts.{UartOpts}
 use Rattle.decoder_core.specs.Packets.{counted_packets}
 use Rattle.dev_ds18b20.specs.laws.ProbeLaws.{one_probe}
-use Rattle.dev_ds1307.specs.Held as clock_held
+use Rattle.dev_ds1307.specs.laws.Held as clock_held
 use Rattle.dev_ds1307.specs.laws.KnowingLaws as clock_laws
-use Rattle.dev_eeprom24.specs.Held as eeprom_held
+use Rattle.dev_eeprom24.specs.laws.Held as eeprom_held
 use Rattle.dev_eeprom24.specs.laws.KnowingLaws as eeprom_laws
 use Rattle.dev_flash25.specs.laws.FlashLaws.{one_flash}
-use Rattle.dev_lm75.specs.Held as lm75_held
+use Rattle.dev_lm75.specs.laws.Held as lm75_held
 use Rattle.dev_lm75.specs.laws.KnowingLaws as lm75_laws
 use Rattle.i2c_phases.specs.laws.OneLaw.{one_phased}
 use Rattle.la_base.specs.declared.wires.Wire.TheVariants as wire
@@ -54,10 +54,11 @@ use Rattle.i2c_phases.specs.declared.phased.Phased.{Phased}
 use Rattle.decoder_set.specs.declared.kinds.Kind.{Kind}
 use Rattle.decoder_set.specs.declared.kinds.Kind.TheVariants as kind
 use Rattle.decoder_set.specs.declared.any.AnyDecoder.{AnyDecoder}
-use Rattle.decoder_set.specs.declared.any.AnyMachine.{AnyMachine}
-use Rattle.decoder_set.specs.declared.any.AnyMachine.TheVariants as machine
+use Rattle.decoder_set.specs.declared.any_machine.AnyMachine.{AnyMachine}
+use Rattle.decoder_set.specs.declared.any_machine.AnyMachine.TheVariants as machine
 use Rattle.decoder_set.specs.declared.setup.Setup.{Setup}
-use Rattle.decoder_set.specs.Opening.{Consumed, ConsumedAs, HasConsumed, i2c_alts_of, kind_in, setup_of}
+use Rattle.decoder_set.specs.Opening.{Consumed, ConsumedAs, HasConsumed, i2c_alts_of, setup_of}
+use Rattle.decoder_set.specs.Owning.{kind_in}
 use Rattle.decoder_set.specs.Whole.{SameDecoder, SameMachine}
 
 -- two buses with the same lines are equal

@@ -6,7 +6,9 @@ use Rattle.la_base.specs.declared.wires.Wire.{Wire}
 use Rattle.la_base.specs.declared.wires.Wire.TheVariants as wire
 use Rattle.decoder_set.specs.declared.kinds.Asked.{Asked}
 use Rattle.decoder_set.specs.declared.kinds.Kind.{Kind}
-use Rattle.decoder_set.specs.declared.kinds.Kind.TheVariants.{I2c, Spi, Uart, OwLink, OwNet, Eeprom24, Ds1307, Lm75, Ds18b20, Flash25}
+use Rattle.decoder_set.specs.declared.kinds.Kind.TheVariants.{I2c, Spi, Uart, OwLink, OwNet}
+use Rattle.decoder_set.specs.declared.kinds.Kind.TheVariants.{Eeprom24, Ds1307, Lm75, Ds18b20}
+use Rattle.decoder_set.specs.declared.kinds.Kind.TheVariants.{Flash25}
 use Rattle.decoder_set.specs.declared.kinds.OptForm.{OptForm}
 use Rattle.decoder_set.specs.declared.kinds.OptForm.TheVariants as form
 use Rattle.decoder_set.specs.declared.kinds.OptRow.{OptRow}
@@ -16,7 +18,8 @@ use Rattle.decoder_set.specs.declared.kinds.KindRow.{KindRow}
 abbrev pub Text : Type 0
 Text = List ℕ
 
--- what an option takes: a channel, which may have to be given; a number in a range, with its usual value; one of some words
+-- what an option takes: a channel, which may have to be given; a number in a range, with its usual
+-- value; one of some words
 pub data Form : Type 0 where
   Pin : Bool → Form
   Number : ℕ → ℕ → ℕ → Form
@@ -27,7 +30,9 @@ pub record OptionRow : Type 0 where
   pub name : Text
   pub form : Form
 
--- a kind: its name, the wires that it reads and gives, its options, groups of these (by their rows) of each of which one has to be given, what options of its parent it asks for, the names of its classes of binary data
+-- a kind: its name, the wires that it reads and gives, its options, groups of these (by their rows)
+-- of each of which one has to be given, what options of its parent it asks for, the names of its
+-- classes of binary data
 pub record Row : Type 0 where
   pub name : Text
   pub input : Wire
@@ -37,13 +42,30 @@ pub record Row : Type 0 where
   pub parent : List Asked
   pub classes : List Text
 
+-- the words of the choices
+abbrev pub spi_modes : List Text
+spi_modes = codes "msb_low" ∷ codes "msb_high" ∷ codes "lsb_low" ∷ codes "lsb_high" ∷ []
+
+abbrev pub parities : List Text
+parities = codes "none" ∷ codes "odd" ∷ codes "even" ∷ codes "zero" ∷ codes "one" ∷ []
+
+abbrev pub eeprom_sizes : List Text
+eeprom_sizes =
+    codes "256" ∷ codes "128" ∷ codes "4096" ∷ codes "8192" ∷ codes "16384" ∷ codes "32768"
+    ∷ codes "65536" ∷ []
+
+abbrev pub eeprom_pages : List Text
+eeprom_pages = codes "8" ∷ codes "16" ∷ codes "32" ∷ codes "64" ∷ codes "128" ∷ []
+
 -- the table
 abbrev pub kind_row : Kind → Row
 kind_row I2c = record {
   name = codes "i2c";
   input = wire.Logic;
   output = wire.I2c;
-  options = record { name = codes "scl"; form = Pin true } ∷ record { name = codes "sda"; form = Pin true } ∷ [];
+  options =
+      record { name = codes "scl"; form = Pin true }
+      ∷ record { name = codes "sda"; form = Pin true } ∷ [];
   groups = [];
   parent = [];
   classes = codes "write" ∷ codes "read" ∷ [];
@@ -53,10 +75,14 @@ kind_row Spi = record {
   input = wire.Logic;
   output = wire.Spi;
   options =
-      record { name = codes "sck"; form = Pin true } ∷ record { name = codes "mosi"; form = Pin false } ∷ record { name = codes "miso"; form = Pin false }
-      ∷ record { name = codes "cs"; form = Pin false } ∷ record { name = codes "cpol"; form = Number 0 1 0 } ∷ record { name = codes "cpha"; form = Number 0 1 0 }
+      record { name = codes "sck"; form = Pin true }
+      ∷ record { name = codes "mosi"; form = Pin false }
+      ∷ record { name = codes "miso"; form = Pin false }
+      ∷ record { name = codes "cs"; form = Pin false }
+      ∷ record { name = codes "cpol"; form = Number 0 1 0 }
+      ∷ record { name = codes "cpha"; form = Number 0 1 0 }
       ∷ record { name = codes "bits"; form = Number 1 32 8 }
-      ∷ record { name = codes "mode"; form = Choice (codes "msb_low" ∷ codes "msb_high" ∷ codes "lsb_low" ∷ codes "lsb_high" ∷ []) } ∷ [];
+      ∷ record { name = codes "mode"; form = Choice spi_modes } ∷ [];
   groups = (1 ∷ 2 ∷ []) ∷ [];
   parent = [];
   classes = codes "mosi" ∷ codes "miso" ∷ [];
@@ -66,9 +92,12 @@ kind_row Uart = record {
   input = wire.Logic;
   output = wire.Uart;
   options =
-      record { name = codes "rx"; form = Pin true } ∷ record { name = codes "baud"; form = Number 1 10000000 9600 } ∷ record { name = codes "bits"; form = Number 5 9 8 }
-      ∷ record { name = codes "parity"; form = Choice (codes "none" ∷ codes "odd" ∷ codes "even" ∷ codes "zero" ∷ codes "one" ∷ []) }
-      ∷ record { name = codes "stop"; form = Number 1 2 1 } ∷ record { name = codes "sp"; form = Number 1 99 50 } ∷ [];
+      record { name = codes "rx"; form = Pin true }
+      ∷ record { name = codes "baud"; form = Number 1 10000000 9600 }
+      ∷ record { name = codes "bits"; form = Number 5 9 8 }
+      ∷ record { name = codes "parity"; form = Choice parities }
+      ∷ record { name = codes "stop"; form = Number 1 2 1 }
+      ∷ record { name = codes "sp"; form = Number 1 99 50 } ∷ [];
   groups = [];
   parent = [];
   classes = codes "data" ∷ [];
@@ -101,8 +130,8 @@ kind_row Eeprom24 = record {
   output = wire.Nothing;
   options =
       record { name = codes "addr"; form = Number 0 7 0 }
-      ∷ record { name = codes "size"; form = Choice (codes "256" ∷ codes "128" ∷ codes "4096" ∷ codes "8192" ∷ codes "16384" ∷ codes "32768" ∷ codes "65536" ∷ []) }
-      ∷ record { name = codes "page"; form = Choice (codes "8" ∷ codes "16" ∷ codes "32" ∷ codes "64" ∷ codes "128" ∷ []) }
+      ∷ record { name = codes "size"; form = Choice eeprom_sizes }
+      ∷ record { name = codes "page"; form = Choice eeprom_pages }
       ∷ record { name = codes "gcall"; form = Number 0 1 0 } ∷ [];
   groups = [];
   parent = [];
@@ -121,7 +150,9 @@ kind_row Lm75 = record {
   name = codes "lm75";
   input = wire.I2c;
   output = wire.Nothing;
-  options = record { name = codes "addr"; form = Number 0 7 0 } ∷ record { name = codes "gcall"; form = Number 0 1 0 } ∷ [];
+  options =
+      record { name = codes "addr"; form = Number 0 7 0 }
+      ∷ record { name = codes "gcall"; form = Number 0 1 0 } ∷ [];
   groups = [];
   parent = [];
   classes = [];

@@ -4,5 +4,6 @@ pub mod Options
 pub mod Setups
 pub mod laws
 pub mod Faults
+pub mod Owning
 pub mod Opening
 pub mod Whole

@@ -47,51 +47,27 @@ use Rattle.la_base.specs.declared.wires.Packet.{Packet}
 use Rattle.la_base.specs.declared.wires.Wire.{Wire}
 use Rattle.la_base.specs.declared.wires.Wire.TheVariants as wire
 use Rattle.la_base.specs.declared.samples.Rate.{Rate}
-use Rattle.la_base.specs.declared.samples.TheConstants.{MOST_PINS}
 use Rattle.wait_cond.specs.declared.alt.Alt.{Alt}
 use Rattle.decoder_set.specs.declared.kinds.Kind.{Kind}
-use Rattle.decoder_set.specs.declared.kinds.Kind.TheVariants as kind
 use Rattle.decoder_set.specs.declared.setup.OptValues.{OptValues}
 use Rattle.decoder_set.specs.declared.setup.Setup.{Setup}
 use Rattle.decoder_set.specs.declared.any.AnyDecoder.{AnyDecoder}
-use Rattle.decoder_set.specs.declared.any.AnyMachine.{AnyMachine}
-use Rattle.decoder_set.specs.declared.any.AnyMachine.TheVariants as machine
-use Rattle.decoder_set.specs.Options.{clock_options, eeprom_options, i2c_options, link_options, lm75_options, spi_options, uart_options}
-use Rattle.decoder_set.specs.Faults.{open_fault}
-
--- a machine of each kind has these options
-abbrev pub IsI2c : I2cOpts → I2c → Type 0
-IsI2c options machine = ((i2c.bus_of machine).scl ≡ options.scl) × ((i2c.bus_of machine).sda ≡ options.sda)
-
-abbrev pub IsSpi : SpiOpts → Spi → Type 0
-IsSpi options machine = spi.opts_of machine ≡ options
-
-abbrev pub IsUart : UartOpts → Rate → Uart → Type 0
-IsUart options rate machine = ((uart.line_of machine).opts ≡ options) × ((uart.line_of machine).rate ≡ rate)
-
-abbrev pub IsLink : OwLinkOpts → Rate → OwLink → Type 0
-IsLink options rate machine = ((onewire.line_of machine).opts ≡ options) × ((onewire.line_of machine).rate ≡ rate)
-
-abbrev pub IsEeprom : EepromOpts → Phased Eeprom Chip → Type 0
-IsEeprom options machine = eeprom.chip_in machine ≡ eeprom.chip_by options
-
-abbrev pub IsClock : ClockOpts → Phased Clock ClockChip → Type 0
-IsClock options machine = clock.chip_in machine ≡ clock.chip_by options
-
-abbrev pub IsLm75 : Lm75Opts → Phased Lm75 Lm75Chip → Type 0
-IsLm75 options machine = lm75.chip_in machine ≡ lm75.chip_by options
-
--- a machine without options has no others
-abbrev pub IsAny : {D : Type 0} → D → Type 0
-IsAny machine = Unit {0}
+use Rattle.decoder_set.specs.declared.any_machine.AnyMachine.{AnyMachine}
+use Rattle.decoder_set.specs.declared.any_machine.AnyMachine.TheVariants as machine
+use Rattle.decoder_set.specs.Options.{clock_options, eeprom_options, i2c_options, link_options}
+use Rattle.decoder_set.specs.Options.{lm75_options, spi_options, uart_options}
+use Rattle.decoder_set.specs.Faults.{IsOpened, open_fault}
+use Rattle.decoder_set.specs.Owning.{IsAny, IsClock, IsEeprom, IsI2c, IsLink, IsLm75, IsOwn}
+use Rattle.decoder_set.specs.Owning.{IsSpi, IsUart, kind_in}
 
 -- what an I2C machine waits for
 abbrev pub i2c_alts_of : I2c → List Alt
 i2c_alts_of machine = i2c_alts (i2c.bus_of machine).scl (i2c.bus_of machine).sda
 
 -- a driver of a machine with these options has consumed this input
-pub record ConsumedBy {L S : Type 0} (stands : L → List ℕ → Type 0) (alts : L → List Alt) (IsOwn : L → Type 0) (driver : Driver L S) (input : List Item) : Type 0 where
-  pub own : IsOwn driver.machine
+pub record ConsumedBy {L S : Type 0} (stands : L → List ℕ → Type 0) (alts : L → List Alt)
+    (HasOwn : L → Type 0) (driver : Driver L S) (input : List Item) : Type 0 where
+  pub own : HasOwn driver.machine
   pub drives : Drives stands alts driver.machine driver.waiter input
 
 abbrev pub I2cConsumed : I2cOpts → Driver I2c Bus → List Item → Type 0
@@ -101,27 +77,34 @@ abbrev pub SpiConsumed : SpiOpts → Driver Spi SpiOpts → List Item → Type 0
 SpiConsumed options driver input = ConsumedBy spi.StandsFor spi.alts_of (IsSpi options) driver input
 
 abbrev pub UartConsumed : UartOpts → Rate → Driver Uart Line → List Item → Type 0
-UartConsumed options rate driver input = ConsumedBy uart.StandsFor uart.alts_of (IsUart options rate) driver input
+UartConsumed options rate driver input =
+    ConsumedBy uart.StandsFor uart.alts_of (IsUart options rate) driver input
 
 abbrev pub LinkConsumed : OwLinkOpts → Rate → Driver OwLink DqLine → List Item → Type 0
-LinkConsumed options rate driver input = ConsumedBy onewire.StandsFor onewire.alts_of (IsLink options rate) driver input
+LinkConsumed options rate driver input =
+    ConsumedBy onewire.StandsFor onewire.alts_of (IsLink options rate) driver input
 
 -- a follower of a machine with these options, which reads this wire, has consumed this input
-pub record FollowedBy {D S : Type 0} (stands : D → List Packet → Type 0) (reads : Wire) (IsOwn : D → Type 0) (follower : Follower D S) (input : List Item) : Type 0 where
-  pub own : IsOwn follower.machine
+pub record FollowedBy {D S : Type 0} (stands : D → List Packet → Type 0) (reads : Wire)
+    (HasOwn : D → Type 0) (follower : Follower D S) (input : List Item) : Type 0 where
+  pub own : HasOwn follower.machine
   pub follows : Follows stands reads follower.machine follower.from input
 
 abbrev pub NetConsumed : Follower OwNet OwNetOpts → List Item → Type 0
 NetConsumed follower input = FollowedBy onewire.NetStandsFor wire.OwLink IsAny follower input
 
 abbrev pub EepromConsumed : EepromOpts → Follower (Phased Eeprom Chip) Chip → List Item → Type 0
-EepromConsumed options follower input = FollowedBy eeprom.StandsFor wire.I2c (IsEeprom options) follower input
+EepromConsumed options follower input =
+    FollowedBy eeprom.StandsFor wire.I2c (IsEeprom options) follower input
 
-abbrev pub ClockConsumed : ClockOpts → Follower (Phased Clock ClockChip) ClockChip → List Item → Type 0
-ClockConsumed options follower input = FollowedBy clock.StandsFor wire.I2c (IsClock options) follower input
+abbrev pub ClockConsumed : ClockOpts → Follower (Phased Clock ClockChip) ClockChip → List Item
+    → Type 0
+ClockConsumed options follower input =
+    FollowedBy clock.StandsFor wire.I2c (IsClock options) follower input
 
 abbrev pub Lm75Consumed : Lm75Opts → Follower (Phased Lm75 Lm75Chip) Lm75Chip → List Item → Type 0
-Lm75Consumed options follower input = FollowedBy lm75.StandsFor wire.I2c (IsLm75 options) follower input
+Lm75Consumed options follower input =
+    FollowedBy lm75.StandsFor wire.I2c (IsLm75 options) follower input
 
 abbrev pub ProbeConsumed : Follower ProbeDecoder ProbeOpts → List Item → Type 0
 ProbeConsumed follower input = FollowedBy probe.StandsFor wire.OwNet IsAny follower input
@@ -129,42 +112,39 @@ ProbeConsumed follower input = FollowedBy probe.StandsFor wire.OwNet IsAny follo
 abbrev pub FlashConsumed : Follower FlashDecoder FlashOpts → List Item → Type 0
 FlashConsumed follower input = FollowedBy flash.StandsFor wire.Spi IsAny follower input
 
--- the kind of a machine
-abbrev pub kind_in : AnyMachine → Kind
-kind_in (machine.I2c driver) = kind.I2c
-kind_in (machine.Spi driver) = kind.Spi
-kind_in (machine.Uart driver) = kind.Uart
-kind_in (machine.OwLink driver) = kind.OwLink
-kind_in (machine.OwNet follower) = kind.OwNet
-kind_in (machine.Eeprom24 follower) = kind.Eeprom24
-kind_in (machine.Ds1307 follower) = kind.Ds1307
-kind_in (machine.Lm75 follower) = kind.Lm75
-kind_in (machine.Ds18b20 follower) = kind.Ds18b20
-kind_in (machine.Flash25 follower) = kind.Flash25
-
 -- a machine with these values at this rate has consumed this input
 abbrev pub ConsumedAs : List (Option ℕ) → Rate → AnyMachine → List Item → Type 0
 ConsumedAs values rate (machine.I2c driver) input = I2cConsumed (i2c_options values) driver input
 ConsumedAs values rate (machine.Spi driver) input = SpiConsumed (spi_options values) driver input
-ConsumedAs values rate (machine.Uart driver) input = UartConsumed (uart_options values) rate driver input
-ConsumedAs values rate (machine.OwLink driver) input = LinkConsumed (link_options values) rate driver input
+ConsumedAs values rate (machine.Uart driver) input =
+    UartConsumed (uart_options values) rate driver input
+ConsumedAs values rate (machine.OwLink driver) input =
+    LinkConsumed (link_options values) rate driver input
 ConsumedAs values rate (machine.OwNet follower) input = NetConsumed follower input
-ConsumedAs values rate (machine.Eeprom24 follower) input = EepromConsumed (eeprom_options values) follower input
-ConsumedAs values rate (machine.Ds1307 follower) input = ClockConsumed (clock_options values) follower input
-ConsumedAs values rate (machine.Lm75 follower) input = Lm75Consumed (lm75_options values) follower input
+ConsumedAs values rate (machine.Eeprom24 follower) input =
+    EepromConsumed (eeprom_options values) follower input
+ConsumedAs values rate (machine.Ds1307 follower) input =
+    ClockConsumed (clock_options values) follower input
+ConsumedAs values rate (machine.Lm75 follower) input =
+    Lm75Consumed (lm75_options values) follower input
 ConsumedAs values rate (machine.Ds18b20 follower) input = ProbeConsumed follower input
 ConsumedAs values rate (machine.Flash25 follower) input = FlashConsumed follower input
 
 -- a decoder of this kind, with these values at this rate, has consumed this input
 abbrev pub Consumed : Kind → List (Option ℕ) → Rate → AnyMachine → List Item → Type 0
-Consumed kind values rate machine input = (kind ≡ kind_in machine) × ConsumedAs values rate machine input
+Consumed kind values rate machine input =
+    (kind ≡ kind_in machine) × ConsumedAs values rate machine input
 
 -- behind an input that it has consumed, no item of `more` is a stop of its wait
 abbrev pub SleepsBy : AnyMachine → List Item → List Item → Type 0
-SleepsBy (machine.I2c driver) input more = Sleeps i2c_alts_of driver.machine driver.waiter input more
-SleepsBy (machine.Spi driver) input more = Sleeps spi.alts_of driver.machine driver.waiter input more
-SleepsBy (machine.Uart driver) input more = Sleeps uart.alts_of driver.machine driver.waiter input more
-SleepsBy (machine.OwLink driver) input more = Sleeps onewire.alts_of driver.machine driver.waiter input more
+SleepsBy (machine.I2c driver) input more =
+    Sleeps i2c_alts_of driver.machine driver.waiter input more
+SleepsBy (machine.Spi driver) input more =
+    Sleeps spi.alts_of driver.machine driver.waiter input more
+SleepsBy (machine.Uart driver) input more =
+    Sleeps uart.alts_of driver.machine driver.waiter input more
+SleepsBy (machine.OwLink driver) input more =
+    Sleeps onewire.alts_of driver.machine driver.waiter input more
 SleepsBy (machine.OwNet follower) input more = NoneCount wire.OwLink input more
 SleepsBy (machine.Eeprom24 follower) input more = NoneCount wire.I2c input more
 SleepsBy (machine.Ds1307 follower) input more = NoneCount wire.I2c input more
@@ -180,14 +160,22 @@ abbrev pub setup_of : AnyDecoder → Setup
 setup_of decoder = decoder.setup
 
 -- it is a setup that a decoder can be opened with
-pub opened_by : (decoder : AnyDecoder) → open_fault MOST_PINS (setup_of decoder).kind (setup_of decoder).values.given (setup_of decoder).rate ≡ None
+pub opened_by : (decoder : AnyDecoder) → IsOpened (setup_of decoder)
 opened_by decoder = decoder.opened
+
+-- its machine is of the kind that its setup names, with the setup's options and rate
+abbrev pub IsOfSetup : AnyDecoder → Type 0
+IsOfSetup decoder = IsOwn decoder.setup decoder.machine
 
 -- a decoder has consumed this input
 abbrev pub HasConsumed : AnyDecoder → List Item → Type 0
-HasConsumed decoder input = Consumed decoder.setup.kind decoder.setup.values.given decoder.setup.rate decoder.machine input
+HasConsumed decoder input =
+    Consumed decoder.setup.kind decoder.setup.values.given decoder.setup.rate decoder.machine input
 
 -- a decoder of this kind, values and rate that has consumed nothing, or its fault
 abbrev pub Opens : ℕ → Kind → OptValues → Rate → Result AnyDecoder OptFault → Type 0
-Opens bits kind values rate (Ok decoder) = (open_fault bits kind values.given rate ≡ None) × (setup_of decoder ≡ record { kind = kind; values = values; rate = rate }) × HasConsumed decoder []
+Opens bits kind values rate (Ok decoder) =
+    (open_fault bits kind values.given rate ≡ None)
+    × (setup_of decoder ≡ record { kind = kind; values = values; rate = rate })
+    × HasConsumed decoder []
 Opens bits kind values rate (Err why) = open_fault bits kind values.given rate ≡ Some why

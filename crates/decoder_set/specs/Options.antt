@@ -10,7 +10,8 @@ use Rattle.dev_lm75.specs.declared.chip.Lm75Opts.{Lm75Opts}
 use Rattle.decoder_set.specs.Kinds.{kind_row}
 use Rattle.decoder_set.specs.Values.{channel_at, maybe_channel_at, number_at}
 use Rattle.decoder_set.specs.declared.kinds.Kind.{Kind}
-use Rattle.decoder_set.specs.declared.kinds.Kind.TheVariants.{Spi, Uart, OwLink, Eeprom24, Ds1307, Lm75}
+use Rattle.decoder_set.specs.declared.kinds.Kind.TheVariants.{Spi, Uart, OwLink, Eeprom24, Ds1307}
+use Rattle.decoder_set.specs.declared.kinds.Kind.TheVariants.{Lm75}
 
 -- the bits of the two lines of an I2C bus
 abbrev pub i2c_options : List (Option ℕ) → I2cOpts
@@ -68,4 +69,5 @@ clock_options values = record { gcall = option_number Ds1307 values 0 }
 
 -- the address of an LM75, and whether it takes a general call's reset
 abbrev pub lm75_options : List (Option ℕ) → Lm75Opts
-lm75_options values = record { addr = option_number Lm75 values 0; gcall = option_number Lm75 values 1 }
+lm75_options values =
+    record { addr = option_number Lm75 values 0; gcall = option_number Lm75 values 1 }

@@ -30,21 +30,28 @@ use Rattle.dev_lm75.specs.Texts as lm75_texts
 use Rattle.i2c_phases.specs.Phases.{phase_near}
 use Rattle.la_base.specs.declared.wires.Wire.TheVariants as wire
 use Rattle.decoder_set.specs.declared.kinds.Kind.{Kind}
-use Rattle.decoder_set.specs.declared.kinds.Kind.TheVariants.{I2c, Spi, Uart, OwLink, OwNet, Eeprom24, Ds1307, Lm75, Ds18b20, Flash25}
+use Rattle.decoder_set.specs.declared.kinds.Kind.TheVariants.{I2c, Spi, Uart, OwLink, OwNet}
+use Rattle.decoder_set.specs.declared.kinds.Kind.TheVariants.{Eeprom24, Ds1307, Lm75, Ds18b20}
+use Rattle.decoder_set.specs.declared.kinds.Kind.TheVariants.{Flash25}
 use Rattle.decoder_set.specs.declared.setup.Setup.{Setup}
 use Rattle.decoder_set.specs.Kinds.{Text}
-use Rattle.decoder_set.specs.Options.{clock_options, eeprom_options, i2c_options, link_options, lm75_options, spi_options, uart_options}
+use Rattle.decoder_set.specs.Options.{clock_options, eeprom_options, i2c_options, link_options}
+use Rattle.decoder_set.specs.Options.{lm75_options, spi_options, uart_options}
 
 -- what a kind gives with these values at a rate on a whole input
 abbrev pub outs_by : Kind → List (Option ℕ) → Rate → List Item → List Out
-outs_by I2c values rate input = i2c_outs (i2c_options values).scl (i2c_options values).sda (counted_samples input)
+outs_by I2c values rate input =
+    i2c_outs (i2c_options values).scl (i2c_options values).sda (counted_samples input)
 outs_by Spi values rate input = spi_outs (spi_options values) (counted_samples input)
 outs_by Uart values rate input = uart_outs (uart_options values) rate (counted_samples input)
 outs_by OwLink values rate input = link_outs (link_options values) rate (counted_samples input)
 outs_by OwNet values rate input = net_outs (counted_packets wire.OwLink input)
-outs_by Eeprom24 values rate input = eeprom_outs (chip_by (eeprom_options values)) (counted_packets wire.I2c input)
-outs_by Ds1307 values rate input = clock_outs (clock.chip_by (clock_options values)) (counted_packets wire.I2c input)
-outs_by Lm75 values rate input = lm75_outs (lm75.chip_by (lm75_options values)) (counted_packets wire.I2c input)
+outs_by Eeprom24 values rate input =
+    eeprom_outs (chip_by (eeprom_options values)) (counted_packets wire.I2c input)
+outs_by Ds1307 values rate input =
+    clock_outs (clock.chip_by (clock_options values)) (counted_packets wire.I2c input)
+outs_by Lm75 values rate input =
+    lm75_outs (lm75.chip_by (lm75_options values)) (counted_packets wire.I2c input)
 outs_by Ds18b20 values rate input = probe_outs (counted_packets wire.OwNet input)
 outs_by Flash25 values rate input = flash_outs (counted_packets wire.Spi input)
 
@@ -54,7 +61,8 @@ outs_of setup input = outs_by setup.kind setup.values.given setup.rate input
 
 -- where what has begun and isn't given yet starts, for a kind with these values at a rate
 abbrev pub near_by : Kind → List (Option ℕ) → Rate → List Item → ℕ
-near_by I2c values rate input = i2c_near (i2c_options values).scl (i2c_options values).sda (counted_samples input)
+near_by I2c values rate input =
+    i2c_near (i2c_options values).scl (i2c_options values).sda (counted_samples input)
 near_by Spi values rate input = spi_near (spi_options values) (counted_samples input)
 near_by Uart values rate input = uart_near (uart_options values) rate (counted_samples input)
 near_by OwLink values rate input = link_near (link_options values) (counted_samples input)

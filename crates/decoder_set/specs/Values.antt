@@ -1,5 +1,7 @@
--- Values of options: the one at a place, the number or the channel that it means, and whether all are in range.
-use Rattle.std.specs.Prelude.{ℕ, Bool, true, not, ◌&&◌, nat_lt, nat_le, List, length, Option, Some, None, is_some, option_and_then, unwrap_or, slice_get, zip}
+-- Values of options: the one at a place, the number or the channel that it means, and whether all
+-- are in range.
+use Rattle.std.specs.Prelude.{ℕ, Bool, true, not, ◌&&◌, nat_lt, nat_le, List, length, Option, Some}
+use Rattle.std.specs.Prelude.{None, is_some, option_and_then, unwrap_or, slice_get, zip}
 use Rattle.std.specs.List.{list_all, list_any}
 use Rattle.decoder_set.specs.declared.kinds.Kind.{Kind}
 use Rattle.decoder_set.specs.Kinds.{Form, OptionRow, Row, Pin, Number, Choice, kind_row}
@@ -16,7 +18,8 @@ maybe_channel_at values place = given_at values place
 abbrev pub channel_at : List (Option ℕ) → ℕ → ℕ
 channel_at values place = unwrap_or (given_at values place) 0
 
--- the number that an option has: the one that is given, else its usual one; the usual one of a choice is its first word
+-- the number that an option has: the one that is given, else its usual one; the usual one of a
+-- choice is its first word
 abbrev pub number_of : Form → Option ℕ → ℕ
 number_of form (Some number) = number
 number_of (Pin required) None = 0
@@ -47,7 +50,9 @@ has_groups is_given groups = list_all (λ group. list_any is_given group) groups
 
 -- each option of a row of the table takes its value, and of each group one is given
 abbrev pub row_in_range : ℕ → Row → List (Option ℕ) → Bool
-row_in_range bits row values = list_all (λ p. takes bits p.0.form p.1) (zip row.options values) && has_groups (λ place. is_some (given_at values place)) row.groups
+row_in_range bits row values =
+    list_all (λ p. takes bits p.0.form p.1) (zip row.options values)
+    && has_groups (λ place. is_some (given_at values place)) row.groups
 
 -- the values of a kind are in range
 abbrev pub in_range : ℕ → Kind → List (Option ℕ) → Bool

@@ -29,8 +29,8 @@ use Rattle.decoder_core.specs.declared.follower.Follower.{Follower}
 use Rattle.dev_eeprom24.specs.declared.chip.Chip.{Chip}
 use Rattle.dev_eeprom24.specs.declared.held.Eeprom.{Eeprom}
 use Rattle.i2c_phases.specs.declared.phased.Phased.{Phased}
-use Rattle.decoder_set.specs.declared.any.AnyMachine.{AnyMachine}
-use Rattle.decoder_set.specs.declared.any.AnyMachine.TheVariants as machine
+use Rattle.decoder_set.specs.declared.any_machine.AnyMachine.{AnyMachine}
+use Rattle.decoder_set.specs.declared.any_machine.AnyMachine.TheVariants as machine
 use Rattle.decoder_set.specs.declared.any.AnyDecoder.{AnyDecoder}
 use Rattle.decoder_set.specs.Opening.{setup_of}
 use Rattle.decoder_set.specs.Kinds.{Form, Pin, Number, Choice, Row}
@@ -47,11 +47,12 @@ NumberFits (Pin required) number = Unit {0}
 NumberFits (Number least most usual) number = (least ≤ number) × (number ≤ most)
 NumberFits (Choice words) number = number < length words
 
--- a row of the table: no more than eight options, each with a usual value that it takes, and groups of these
+-- a row of the table: no more than eight options, each with a usual value that it takes, and groups
+-- of these
 pub record IsWhole (row : Row) : Type 0 where
   pub few : length row.options ≤ 8
   pub usual : list_all (λ option. usual_fits option.form) row.options ≡ true
-  pub groups : list_all (λ group. list_all (λ place. nat_lt place (length row.options)) group) row.groups ≡ true
+  pub groups : list_all (list_all (λ place. nat_lt place (length row.options))) row.groups ≡ true
 
 -- a wire carries samples, or the packets of its own
 abbrev pub carries : Wire → Item → Bool
@@ -71,16 +72,36 @@ SameFollower one other = (one.machine ≡ other.machine) × (one.from ≡ other.
 
 -- a machine is that of a kind, and holds the same
 abbrev pub SameMachine : AnyMachine → AnyMachine → Type 0
-SameMachine (machine.I2c one) held = (other : Driver I2c Bus) × (held ≡ machine.I2c other) × SameDriver one other
-SameMachine (machine.Spi one) held = (other : Driver Spi SpiOpts) × (held ≡ machine.Spi other) × SameDriver one other
-SameMachine (machine.Uart one) held = (other : Driver Uart Line) × (held ≡ machine.Uart other) × SameDriver one other
-SameMachine (machine.OwLink one) held = (other : Driver OwLink DqLine) × (held ≡ machine.OwLink other) × SameDriver one other
-SameMachine (machine.OwNet one) held = (other : Follower OwNet OwNetOpts) × (held ≡ machine.OwNet other) × SameFollower one other
-SameMachine (machine.Eeprom24 one) held = (other : Follower (Phased Eeprom Chip) Chip) × (held ≡ machine.Eeprom24 other) × SameFollower one other
-SameMachine (machine.Ds1307 one) held = (other : Follower (Phased Clock ClockChip) ClockChip) × (held ≡ machine.Ds1307 other) × SameFollower one other
-SameMachine (machine.Lm75 one) held = (other : Follower (Phased Lm75 Lm75Chip) Lm75Chip) × (held ≡ machine.Lm75 other) × SameFollower one other
-SameMachine (machine.Ds18b20 one) held = (other : Follower ProbeDecoder ProbeOpts) × (held ≡ machine.Ds18b20 other) × SameFollower one other
-SameMachine (machine.Flash25 one) held = (other : Follower FlashDecoder FlashOpts) × (held ≡ machine.Flash25 other) × SameFollower one other
+SameMachine (machine.I2c one) held =
+    (other : Driver I2c Bus) × (held ≡ machine.I2c other)
+    × SameDriver one other
+SameMachine (machine.Spi one) held =
+    (other : Driver Spi SpiOpts) × (held ≡ machine.Spi other)
+    × SameDriver one other
+SameMachine (machine.Uart one) held =
+    (other : Driver Uart Line) × (held ≡ machine.Uart other)
+    × SameDriver one other
+SameMachine (machine.OwLink one) held =
+    (other : Driver OwLink DqLine) × (held ≡ machine.OwLink other)
+    × SameDriver one other
+SameMachine (machine.OwNet one) held =
+    (other : Follower OwNet OwNetOpts) × (held ≡ machine.OwNet other)
+    × SameFollower one other
+SameMachine (machine.Eeprom24 one) held =
+    (other : Follower (Phased Eeprom Chip) Chip) × (held ≡ machine.Eeprom24 other)
+    × SameFollower one other
+SameMachine (machine.Ds1307 one) held =
+    (other : Follower (Phased Clock ClockChip) ClockChip) × (held ≡ machine.Ds1307 other)
+    × SameFollower one other
+SameMachine (machine.Lm75 one) held =
+    (other : Follower (Phased Lm75 Lm75Chip) Lm75Chip) × (held ≡ machine.Lm75 other)
+    × SameFollower one other
+SameMachine (machine.Ds18b20 one) held =
+    (other : Follower ProbeDecoder ProbeOpts) × (held ≡ machine.Ds18b20 other)
+    × SameFollower one other
+SameMachine (machine.Flash25 one) held =
+    (other : Follower FlashDecoder FlashOpts) × (held ≡ machine.Flash25 other)
+    × SameFollower one other
 
 -- two decoders hold the same
 pub record SameDecoder (one other : AnyDecoder) : Type 0 where

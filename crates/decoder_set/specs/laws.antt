@@ -2,3 +2,4 @@
 pub mod RangeLaws
 pub mod FitLaws
 pub mod KindLaws
+pub mod OwnLaws

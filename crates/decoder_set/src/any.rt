@@ -2,39 +2,17 @@
 ghost use Rattle.std.specs.Prelude.{◌≡◌, None};
 ghost use Rattle.la_base.specs.declared.samples.TheConstants.{MOST_PINS};
 ghost use Rattle.decoder_set.specs.Faults.{open_fault};
+ghost use Rattle.decoder_set.specs.Owning.{IsOwn};
+ghost use Rattle.decoder_set.specs.laws.OwnLaws.{own_prop};
 
 use crate::Setup;
-use dec_i2c::I2c;
-use dec_onewire::{OwLink, OwNet};
-use dec_spi::Spi;
-use dec_uart::Uart;
-use decoder_core::{Driver, Follower};
-use dev_ds18b20::Probe;
-use dev_ds1307::Clock;
-use dev_eeprom24::Eeprom;
-use dev_flash25::Flash;
-use dev_lm75::Lm75;
-use i2c_phases::Phased;
-
-/// A driver or a follower of a machine of any kind.
-#[derive(Drop)]
-pub enum AnyMachine {
-    I2c(Driver<I2c>),
-    Spi(Driver<Spi>),
-    Uart(Driver<Uart>),
-    OwLink(Driver<OwLink>),
-    OwNet(Follower<OwNet>),
-    Eeprom24(Follower<Phased<Eeprom>>),
-    Ds1307(Follower<Phased<Clock>>),
-    Lm75(Follower<Phased<Lm75>>),
-    Ds18b20(Follower<Probe>),
-    Flash25(Follower<Flash>),
-}
+use crate::any_machine::AnyMachine;
 
 /// A decoder of any kind, with its kind, options and rate.
 #[derive(Drop)]
 pub struct AnyDecoder {
     pub(crate) setup: Setup,
     pub(crate) machine: AnyMachine,
+    ghost own: { IsOwn setup machine } by { own_prop setup machine },
     ghost opened: { open_fault MOST_PINS setup.kind setup.values.given setup.rate ≡ None },
 }

@@ -2,6 +2,7 @@
 #![tactic(auto)]
 
 mod any;
+mod any_machine;
 mod kinds;
 mod laws;
 mod machine;
@@ -15,7 +16,8 @@ mod values;
 pub use any::AnyDecoder;
 pub use kinds::{Asked, Kind, OptForm, OptRow};
 pub use laws::{
-    kinds_are_whole, kinds_read_their_wires, one_input_makes_one_decoder, values_in_range_fit,
+    decoder_is_send, kinds_are_whole, kinds_read_their_wires, machine_is_of_its_setup,
+    one_input_makes_one_decoder, values_in_range_fit,
 };
 pub use setup::{MOST_OPTIONS, OptValues, Setup};
 pub use table::{

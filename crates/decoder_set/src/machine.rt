@@ -2,9 +2,10 @@
 ghost use Rattle.decoder_set.specs.Setups.{outs_of, near_of};
 ghost use Rattle.decoder_set.specs.Opening.{HasConsumed, IsAsleep, opened_by, setup_of};
 ghost use Rattle.decoder_set.specs.Kinds.{kind_row};
-ghost use Rattle.decoder_set.specs.laws.KindLaws.{nothing_of, prefix_of, order_of, few_of, on_wire_of};
+ghost use Rattle.decoder_set.specs.laws.KindLaws.{nothing_of, prefix_of, order_of, few_of};
+ghost use Rattle.decoder_set.specs.laws.KindLaws.{on_wire_of};
 
-use crate::any::AnyMachine;
+use crate::any_machine::AnyMachine;
 use crate::{AnyDecoder, Setup, input_of};
 use decoder_core::{Machine, Outs, Taken};
 use la_base::{Feed, Run, Wire};

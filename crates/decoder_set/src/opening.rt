@@ -3,11 +3,14 @@ ghost use Rattle.std.specs.Prelude.{◌≡◌, ◌≤◌, ◌^◌, true, false, 
 ghost use Rattle.la_base.specs.declared.samples.TheConstants.{MOST_PINS};
 ghost use Rattle.decoder_core.specs.declared.faults.OptFault.TheVariants.{Rate as TooSlow};
 ghost use Rattle.decoder_set.specs.Faults.{too_slow};
-ghost use Rattle.decoder_set.specs.Opening.{Opens, ClockConsumed, Consumed, EepromConsumed, FlashConsumed, I2cConsumed, LinkConsumed, Lm75Consumed, NetConsumed, ProbeConsumed, SpiConsumed, UartConsumed};
-ghost use Rattle.decoder_set.specs.Options.{clock_options, eeprom_options, i2c_options, link_options, lm75_options, spi_options, uart_options};
+ghost use Rattle.decoder_set.specs.Opening.{Opens, ClockConsumed, Consumed, EepromConsumed};
+ghost use Rattle.decoder_set.specs.Opening.{FlashConsumed, I2cConsumed, LinkConsumed, Lm75Consumed};
+ghost use Rattle.decoder_set.specs.Opening.{NetConsumed, ProbeConsumed, SpiConsumed, UartConsumed};
+ghost use Rattle.decoder_set.specs.Options.{clock_options, eeprom_options, i2c_options};
+ghost use Rattle.decoder_set.specs.Options.{link_options, lm75_options, spi_options, uart_options};
 ghost use Rattle.decoder_set.specs.Values.{in_range};
 
-use crate::any::AnyMachine;
+use crate::any_machine::AnyMachine;
 use crate::options::{
     clock_options, eeprom_options, i2c_options, link_options, lm75_options, spi_options,
     uart_options,
@@ -55,7 +58,8 @@ fn open_spi(values: &OptValues, rate: Rate) -> Result<Driver<Spi>, OptFault>
 fn open_uart(values: &OptValues, rate: Rate) -> Result<Driver<Uart>, OptFault>
     requires range { in_range MOST_PINS Kind.Uart values.now.given ≡ true }
     requires rate { rate.num ≤ 10 ^ 15 }
-    ensures opens { IfOk result (λ driver. UartConsumed (uart_options values.now.given) rate driver []) }
+    ensures opens { IfOk result
+        (λ driver. UartConsumed (uart_options values.now.given) rate driver []) }
     ensures fast { OnOk result (too_slow Kind.Uart values.now.given rate ≡ false) }
     ensures slow { OnErr result (too_slow Kind.Uart values.now.given rate ≡ true) }
     ensures fault { IfErr result (λ fault. fault ≡ TooSlow) }
@@ -69,7 +73,8 @@ fn open_uart(values: &OptValues, rate: Rate) -> Result<Driver<Uart>, OptFault>
 // A decoder of an EEPROM with values in range.
 fn open_eeprom(values: &OptValues, rate: Rate) -> Result<Follower<Phased<Eeprom>>, OptFault>
     requires { in_range MOST_PINS Kind.Eeprom24 values.now.given ≡ true }
-    ensures opens { IfOk result (λ follower. EepromConsumed (eeprom_options values.now.given) follower []) }
+    ensures opens { IfOk result
+        (λ follower. EepromConsumed (eeprom_options values.now.given) follower []) }
     ensures always { IsOk result }
 {
     match Eeprom::open(eeprom_options(values), rate) {
@@ -82,7 +87,8 @@ fn open_eeprom(values: &OptValues, rate: Rate) -> Result<Follower<Phased<Eeprom>
 fn open_link(values: &OptValues, rate: Rate) -> Result<Driver<OwLink>, OptFault>
     requires range { in_range MOST_PINS Kind.OwLink values.now.given ≡ true }
     requires rate { rate.num ≤ 10 ^ 15 }
-    ensures opens { IfOk result (λ driver. LinkConsumed (link_options values.now.given) rate driver []) }
+    ensures opens { IfOk result
+        (λ driver. LinkConsumed (link_options values.now.given) rate driver []) }
     ensures fast { OnOk result (too_slow Kind.OwLink values.now.given rate ≡ false) }
     ensures slow { OnErr result (too_slow Kind.OwLink values.now.given rate ≡ true) }
     ensures fault { IfErr result (λ fault. fault ≡ TooSlow) }
@@ -107,7 +113,8 @@ fn open_net(rate: Rate) -> Result<Follower<OwNet>, OptFault>
 // A decoder of a clock with values in range.
 fn open_clock(values: &OptValues, rate: Rate) -> Result<Follower<Phased<Clock>>, OptFault>
     requires { in_range MOST_PINS Kind.Ds1307 values.now.given ≡ true }
-    ensures opens { IfOk result (λ follower. ClockConsumed (clock_options values.now.given) follower []) }
+    ensures opens { IfOk result
+        (λ follower. ClockConsumed (clock_options values.now.given) follower []) }
     ensures always { IsOk result }
 {
     match Clock::open(clock_options(values), rate) {
@@ -119,7 +126,8 @@ fn open_clock(values: &OptValues, rate: Rate) -> Result<Follower<Phased<Clock>>,
 // A decoder of an LM75 with values in range.
 fn open_lm75(values: &OptValues, rate: Rate) -> Result<Follower<Phased<Lm75>>, OptFault>
     requires { in_range MOST_PINS Kind.Lm75 values.now.given ≡ true }
-    ensures opens { IfOk result (λ follower. Lm75Consumed (lm75_options values.now.given) follower []) }
+    ensures opens { IfOk result
+        (λ follower. Lm75Consumed (lm75_options values.now.given) follower []) }
     ensures always { IsOk result }
 {
     match Lm75::open(lm75_options(values), rate) {
@@ -204,12 +212,12 @@ fn open_machine(kind: Kind, values: &OptValues, rate: Rate) -> Result<AnyMachine
 }
 
 impl AnyDecoder {
-    /// Opens a decoder of a kind with these options at a rate; it has consumed nothing. `Range` comes
-    /// exactly where an option isn't in its range: a channel that is required and not given, or that
-    /// isn't one of the bits of a sample; a number that is too small or too large; a place behind the
-    /// words of a choice; or where of some options at least one has to be given, and none is. `Rate`
-    /// comes where the options are in range and the rate is too low for them: only a serial line and the
-    /// link of a 1-Wire line ask for one.
+    /// Opens a decoder of a kind with these options at a rate; it has consumed nothing. `Range`
+    /// comes exactly where an option isn't in its range: a channel that is required and not given,
+    /// or that isn't one of the bits of a sample; a number that is too small or too large; a place
+    /// behind the words of a choice; or where of some options at least one has to be given, and
+    /// none is. `Rate` comes where the options are in range and the rate is too low for them: only
+    /// a serial line and the link of a 1-Wire line ask for one.
     pub fn open(kind: Kind, values: OptValues, rate: Rate) -> Result<AnyDecoder, OptFault>
         requires { rate.num ≤ 10 ^ 15 }
         ensures { Opens MOST_PINS kind values rate result }

@@ -8,7 +8,8 @@ ghost use Rattle.dec_onewire.specs.Opening.{LinkInRange};
 ghost use Rattle.dev_ds1307.specs.Opening.{InRange as ClockInRange};
 ghost use Rattle.dev_eeprom24.specs.Opening.{InRange as EepromInRange};
 ghost use Rattle.dev_lm75.specs.Opening.{InRange as Lm75InRange};
-ghost use Rattle.decoder_set.specs.Options.{clock_options, eeprom_options, i2c_options, link_options, lm75_options, spi_options, uart_options};
+ghost use Rattle.decoder_set.specs.Options.{clock_options, eeprom_options, i2c_options};
+ghost use Rattle.decoder_set.specs.Options.{link_options, lm75_options, spi_options, uart_options};
 ghost use Rattle.decoder_set.specs.Values.{in_range};
 
 use crate::Kind;

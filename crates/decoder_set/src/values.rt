@@ -3,15 +3,17 @@ ghost use Rattle.std.specs.Prelude.{◌≡◌, ◌<◌, IfSome, is_some, map};
 ghost use Rattle.std.specs.List.{list_all, list_any, zip};
 ghost use Rattle.la_base.specs.declared.samples.TheConstants.{MOST_PINS};
 ghost use Rattle.decoder_set.specs.Kinds.{form_of, opt_row, row_of};
-ghost use Rattle.decoder_set.specs.Values.{channel_at, given_at, has_groups, in_range, maybe_channel_at, number_at, number_of, row_in_range, takes};
+ghost use Rattle.decoder_set.specs.Values.{channel_at, given_at, has_groups, in_range};
+ghost use Rattle.decoder_set.specs.Values.{maybe_channel_at, number_at, number_of, row_in_range};
+ghost use Rattle.decoder_set.specs.Values.{takes};
 
 use crate::kinds::{Kind, KindRow, OptForm, OptRow};
 use crate::setup::OptValues;
 use crate::table::row;
 use la_base::MOST_PINS;
 
-/// The number that an option has: the one that is given, else its usual one. That of a choice is 0, its
-/// first word.
+/// The number that an option has: the one that is given, else its usual one. That of a choice is 0,
+/// its first word.
 pub fn number_of(form: OptForm, value: Option<u64>) -> u64
     ensures { result ≡ number_of (form_of form) value }
 {
@@ -33,8 +35,8 @@ impl OptValues {
         }
     }
 
-    /// The number at a place, by the row there: the one that is given, else the usual one. Where there
-    /// is no such row it is 0.
+    /// The number at a place, by the row there: the one that is given, else the usual one. Where
+    /// there is no such row it is 0.
     pub fn number(&self, rows: &[OptRow], place: usize) -> u64
         ensures { result ≡ number_at (map opt_row rows.now) self.now.given place }
     {
@@ -83,7 +85,8 @@ fn takes(form: OptForm, value: Option<u64>) -> bool
 
 // Whether each option takes the value beside it.
 fn all_take(rows: &[OptRow], values: &[Option<u64>]) -> bool
-    ensures { result ≡ list_all (λ p. takes MOST_PINS (form_of p.0.form) p.1) (zip rows.now values.now) }
+    ensures { result ≡ list_all
+        (λ p. takes MOST_PINS (form_of p.0.form) p.1) (zip rows.now values.now) }
 {
     rows.iter()
         .zip(values.iter())
@@ -99,7 +102,9 @@ fn has_one(group: &[usize], values: &OptValues) -> bool
 
 // Whether one of each group is given.
 fn has_groups(groups: &[&[usize]], values: &OptValues) -> bool
-    ensures { result ≡ list_all (λ group. list_any (λ place. is_some (given_at values.now.given place)) group.now) groups.now }
+    ensures { result ≡ list_all
+        (λ group. list_any (λ place. is_some (given_at values.now.given place)) group.now)
+        groups.now }
 {
     groups.iter().all(|group| has_one(group, values))
 }

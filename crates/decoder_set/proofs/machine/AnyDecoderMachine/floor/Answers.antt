@@ -10,8 +10,8 @@ use Rattle.dev_flash25.specs.Flash.{flash_outs}
 use Rattle.dev_flash25.specs.Opening as flash
 use Rattle.dev_lm75.specs.Opening as lm75
 use Rattle.dec_onewire.specs.Opening as onewire
-use Rattle.decoder_set.specs.declared.any.AnyMachine.TheVariants as machine
-use Rattle.decoder_set.specs.Opening.{IsAny, IsClock, IsEeprom, IsLm75}
+use Rattle.decoder_set.specs.declared.any_machine.AnyMachine.TheVariants as machine
+use Rattle.decoder_set.specs.Owning.{IsAny, IsClock, IsEeprom, IsLm75}
 use Rattle.decoder_set.specs.Options.{clock_options, eeprom_options, lm75_options}
 use Rattle.decoder_set.proofs.KindLemmas.{clock_gives, clock_outs_are, eeprom_gives, eeprom_outs_are, flash_outs_are, lm75_gives, lm75_outs_are, net_outs_are, probe_outs_are}
 use Rattle.decoder_set.proofs.Following.{floor_followed}

@@ -1,4 +1,4 @@
-use Rattle.std.proofs.Common.{◌≡◌, sym, subst, rules}
+use Rattle.std.proofs.Common.{◌≡◌, sym, subst, rules, refl, ◌∙◌}
 use Rattle.la_base.specs.declared.wires.Wire.TheVariants as wire
 use Rattle.decoder_core.specs.Packets.{counted_packets}
 use Rattle.dec_onewire.specs.Net.{net_outs}
@@ -24,9 +24,11 @@ use Rattle.dec_spi.specs.declared.options.SpiOpts.{SpiOpts}
 use Rattle.dec_uart.specs.Opening as uart
 use Rattle.dec_uart.specs.Frames.{uart_outs}
 use Rattle.dec_uart.specs.declared.held.Line.{Line}
-use Rattle.decoder_set.specs.declared.any.AnyMachine.TheVariants as machine
-use Rattle.decoder_set.specs.Opening.{IsAny, IsClock, IsEeprom, IsI2c, IsLink, IsLm75, IsSpi, IsUart, i2c_alts_of}
+use Rattle.decoder_set.specs.declared.any_machine.AnyMachine.TheVariants as machine
+use Rattle.decoder_set.specs.Opening.{i2c_alts_of}
+use Rattle.decoder_set.specs.Owning.{IsAny, IsClock, IsEeprom, IsI2c, IsLink, IsLm75, IsSpi, IsUart}
 use Rattle.decoder_set.specs.Options.{clock_options, eeprom_options, i2c_options, link_options, lm75_options, spi_options, uart_options}
+use Rattle.decoder_set.proofs.Owned.{link_owned, owned, uart_owned}
 use Rattle.decoder_set.proofs.Handing.{steps_by, stops_by}
 use Rattle.decoder_set.proofs.KindLemmas.{clock_gives, clock_outs_are, eeprom_gives, eeprom_outs_are, flash_outs_are, i2c_outs_are, link_outs_are, lm75_gives, lm75_outs_are, net_outs_are, probe_outs_are, spi_outs_are, uart_outs_are}
 use Rattle.decoder_set.proofs.Following.{steps_followed}
@@ -135,3 +137,80 @@ returns-in-Flash25-clause-step c =
     let e = c.step-in-Flash25 in
     steps_followed s machine.Flash25 flash.StandsFor wire.Spi IsAny (λ follower input has. has) c.args.self.now.machine f (search rules) (λ input. flash_outs (counted_packets wire.Spi input)) (λ is own. flash_outs_are s is) e.new.self c.args.feed e.result e.new.into
     (λ input is own follows. (is, record { own = own; follows = follows })) e.ensures.step
+
+-- the machine is of its kind, and has its options, as before
+pub invariant_of-self-in-Spi : goal.invariant_of-self-in-Spi
+invariant_of-self-in-Spi c = record {
+  own = owned c.args.self.now (machine.Spi c.in-Spi.driver)
+      (machine.Spi c.step-in-Spi.new.self) (search rules) refl
+      (λ own. c.step-in-Spi.ensures.setup ∙ own);
+  opened = c.args.self.now.opened;
+}
+
+pub invariant_of-self-in-Uart : goal.invariant_of-self-in-Uart
+invariant_of-self-in-Uart c = record {
+  own = owned c.args.self.now (machine.Uart c.in-Uart.driver)
+      (machine.Uart c.step-in-Uart.new.self) (search rules) refl
+      (λ own. uart_owned (uart_options c.args.self.now.setup.values.given)
+      c.args.self.now.setup.rate c.in-Uart.driver.machine c.step-in-Uart.new.self.machine
+      c.step-in-Uart.ensures.setup own);
+  opened = c.args.self.now.opened;
+}
+
+pub invariant_of-self-in-OwLink : goal.invariant_of-self-in-OwLink
+invariant_of-self-in-OwLink c = record {
+  own = owned c.args.self.now (machine.OwLink c.in-OwLink.driver)
+      (machine.OwLink c.step-in-OwLink.new.self) (search rules) refl
+      (λ own. link_owned (link_options c.args.self.now.setup.values.given)
+      c.args.self.now.setup.rate c.in-OwLink.driver.machine c.step-in-OwLink.new.self.machine
+      c.step-in-OwLink.ensures.setup own);
+  opened = c.args.self.now.opened;
+}
+
+pub invariant_of-self-in-OwNet : goal.invariant_of-self-in-OwNet
+invariant_of-self-in-OwNet c = record {
+  own = owned c.args.self.now (machine.OwNet c.in-OwNet.follower)
+      (machine.OwNet c.step-in-OwNet.new.self) (search rules) refl
+      (λ own. tt);
+  opened = c.args.self.now.opened;
+}
+
+pub invariant_of-self-in-Eeprom24 : goal.invariant_of-self-in-Eeprom24
+invariant_of-self-in-Eeprom24 c = record {
+  own = owned c.args.self.now (machine.Eeprom24 c.in-Eeprom24.follower)
+      (machine.Eeprom24 c.step-in-Eeprom24.new.self) (search rules) refl
+      (λ own. c.step-in-Eeprom24.ensures.setup ∙ own);
+  opened = c.args.self.now.opened;
+}
+
+pub invariant_of-self-in-Ds1307 : goal.invariant_of-self-in-Ds1307
+invariant_of-self-in-Ds1307 c = record {
+  own = owned c.args.self.now (machine.Ds1307 c.in-Ds1307.follower)
+      (machine.Ds1307 c.step-in-Ds1307.new.self) (search rules) refl
+      (λ own. c.step-in-Ds1307.ensures.setup ∙ own);
+  opened = c.args.self.now.opened;
+}
+
+pub invariant_of-self-in-Lm75 : goal.invariant_of-self-in-Lm75
+invariant_of-self-in-Lm75 c = record {
+  own = owned c.args.self.now (machine.Lm75 c.in-Lm75.follower)
+      (machine.Lm75 c.step-in-Lm75.new.self) (search rules) refl
+      (λ own. c.step-in-Lm75.ensures.setup ∙ own);
+  opened = c.args.self.now.opened;
+}
+
+pub invariant_of-self-in-Ds18b20 : goal.invariant_of-self-in-Ds18b20
+invariant_of-self-in-Ds18b20 c = record {
+  own = owned c.args.self.now (machine.Ds18b20 c.in-Ds18b20.follower)
+      (machine.Ds18b20 c.step-in-Ds18b20.new.self) (search rules) refl
+      (λ own. tt);
+  opened = c.args.self.now.opened;
+}
+
+pub invariant_of-self-in-Flash25 : goal.invariant_of-self-in-Flash25
+invariant_of-self-in-Flash25 c = record {
+  own = owned c.args.self.now (machine.Flash25 c.in-Flash25.follower)
+      (machine.Flash25 c.step-in-Flash25.new.self) (search rules) refl
+      (λ own. tt);
+  opened = c.args.self.now.opened;
+}
