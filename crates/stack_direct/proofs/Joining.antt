@@ -1,20 +1,24 @@
 -- One change of a tree behind another.
-use Rattle.std.proofs.Common.{◌≡◌, ◌≢◌, ◌<◌, ◌≤◌, ℕ, suc, Bool, true, false, inl, inr, ◌⊎◌, ◌+◌, List, [], ◌∷◌, ◌++◌, slice_get, Option, Some, None, refl, sym, ◌∙◌, ap, subst, arith, append_assoc, if◌then◌else◌}
+use Rattle.std.proofs.Common.{◌≡◌, ◌≢◌, ◌<◌, ◌≤◌, length, ℕ, suc, Bool, true, false, inl, inr, ◌⊎◌, ◌+◌, List, [], ◌∷◌, ◌++◌, slice_get, Option, Some, None, refl, sym, ◌∙◌, ap, subst, arith, append_assoc, if◌then◌else◌}
 use Rattle.std.specs.Prelude.{nat_eq, nat_lt}
 use Rattle.std.proofs.lemmas.Bool.{cases_eq, cases_lt}
 use Rattle.std.proofs.lemmas.Bool.Decides.{nat_tests}
 use Rattle.std.proofs.lemmas.List.{append-nil}
+use Rattle.std.proofs.lemmas.Option.{slice_get_within}
 use Rattle.la_base.specs.declared.wires.Feed.{Feed}
 use Rattle.la_base.specs.declared.wires.Mark.{Mark}
 use Rattle.la_base.specs.declared.wires.Mark.TheVariants.{Floor as FloorMark}
 use Rattle.la_base.specs.declared.wires.Out.{Out}
 use Rattle.decoder_core.specs.Inputs.{Item}
-use Rattle.decoder_core.specs.Promises.{IsFloor}
+use Rattle.decoder_core.specs.Promises.{IsFloor, KeepsFront}
 use Rattle.decoder_core.specs.Trees.{packets_of}
 use Rattle.decoder_core.specs.Marks.{marks_of, shown, FloorsHold}
 use Rattle.la_base.specs.declared.samples.Run.{Run}
-use Rattle.stack_direct.specs.Machines.{MovesAt, StepsAt, StepsRunsAt}
-use Rattle.stack_direct.specs.Passing.{Reaches, Passes, Change, joined, only, up_to, Took, same_place, first_on, from_parent, comes, Down, Into, IsForest, Hands, Feeds, Gives}
+use Rattle.stack_direct.specs.Machines.{Definitions, MovesAt, StepsAt, StepsRunsAt}
+use Rattle.stack_direct.specs.Floors.{Handed, alone}
+use Rattle.stack_direct.specs.Passing.{Passes, Change, joined, only, up_to, Took, same_place, first_on, from_parent, comes, comes_in, Down, Into, IsForest, Hands, Feeds, Consumes, Gives, SomeMark}
+use Rattle.stack_direct.specs.Reaching.{Reaches}
+use Rattle.stack_direct.proofs.Flooring.{alone-append, handed_cut, handed_nothing, handed_then, handed_weaker, handed_whole, reaches_alone, some_behind}
 use Rattle.stack_direct.proofs.Lists.{packets-append, marks-append, shown-append, no_end-append, shown_front, floors-append, marks_from, reaches_all, reaches_weaker, reaches-append, reaches_trans, reaches_packets, reaches_marks}
 
 -- one instance
@@ -67,6 +71,16 @@ only_here i xs = let same : nat_eq i i ≡ true = grind (arith, nat_tests) in ap
 only_elsewhere : {X : Type 0} (i : ℕ) (xs : List X) (j : ℕ) → j ≢ i → only i xs j ≡ []
 only_elsewhere i xs j other = let different : nat_eq j i ≡ false = grind (arith, nat_tests) in ap (λ (b : Bool). if b then xs else []) different
 
+-- one list in the place of another
+abbrev at_place : {X : Type 0} → ℕ → List X → (ℕ → List X) → ℕ → List X
+at_place i xs f j = if nat_eq j i then xs else f j
+
+at_here : {X : Type 0} (i : ℕ) (xs : List X) (f : ℕ → List X) → at_place i xs f i ≡ xs
+at_here i xs f = let same : nat_eq i i ≡ true = grind (arith, nat_tests) in ap (λ (b : Bool). if b then xs else f i) same
+
+at_other : {X : Type 0} (i : ℕ) (xs : List X) (f : ℕ → List X) (j : ℕ) → j ≢ i → at_place i xs f j ≡ f j
+at_other i xs f j other = let different : nat_eq j i ≡ false = grind (arith, nat_tests) in ap (λ (b : Bool). if b then xs else f j) different
+
 same_places : (one other : Option ℕ) → same_place one other ≡ true → one ≡ other
 same_places None None is = refl
 same_places None (Some j) is = absurd cc
@@ -85,16 +99,31 @@ comes-append above xs ys a b parent = by (same_place parent above)
     by true = refl
     by false = from_parent-append a b parent
 
-nothing_more : {X : Type 0} {xs ys : List X} → xs ≡ [] → ys ≡ [] → xs ++ ys ≡ []
+alone_from-append : (a b : ℕ → List Out) (parent : Option ℕ) → alone (from_parent (λ j. a j ++ b j) parent) ≡ alone (from_parent a parent) ++ alone (from_parent b parent)
+alone_from-append a b parent = ap alone (from_parent-append a b parent) ∙ alone-append (from_parent a parent) (from_parent b parent)
+
+comes_in-append : (above : Option ℕ) (xs ys : List (List Item)) (a b : ℕ → List Out) (parent : Option ℕ) → comes_in above (xs ++ ys) (λ j. a j ++ b j) parent ≡ comes_in above xs a parent ++ comes_in above ys b parent
+comes_in-append above xs ys a b parent = by (same_place parent above)
+  where
+    by : (t : Bool) → (if t then xs ++ ys else alone (from_parent (λ j. a j ++ b j) parent)) ≡ (if t then xs else alone (from_parent a parent)) ++ (if t then ys else alone (from_parent b parent))
+    by true = refl
+    by false = alone_from-append a b parent
+
+pub nothing_more : {X : Type 0} {xs ys : List X} → xs ≡ [] → ys ≡ [] → xs ++ ys ≡ []
 nothing_more x y = λ i. x i ++ y i
 
-down_then : {done : Bool} {above : Option ℕ} {xs ys : ℕ → List Item} {parents : List (Option ℕ)} {c d : Change} → Down true above xs parents c → Down done above ys parents d → Down done above (λ j. xs j ++ ys j) parents (joined c d)
-down_then {done} {above} {xs} {ys} {parents} {c} {d} p q = record {
+pub down_then : {done : Bool} {above : Option ℕ} {xs ys : ℕ → List Item} {fs gs : ℕ → List (List Item)} {parents : List (Option ℕ)} {c d : Change} → Down true above xs fs parents c → Down done above ys gs parents d
+    → Down done above (λ j. xs j ++ ys j) (λ j. fs j ++ gs j) parents (joined c d)
+down_then {done} {above} {xs} {ys} {fs} {gs} {parents} {c} {d} p q = record {
   quiet = λ j low. (nothing_more (p.quiet j low).0 (q.quiet j low).0, nothing_more (p.quiet j low).1 (q.quiet j low).1);
   links = λ j parent at.
       subst (λ (l : List Item). Reaches done (c.grown j ++ d.grown j) l) (sym (comes-append above (xs j) (ys j) c.added d.added parent))
       (subst (λ (l : List Item). Reaches done (c.grown j ++ d.grown j) (l ++ comes above (ys j) d.added parent)) (p.links j parent at)
       (reaches-append done (c.grown j) (d.grown j) (comes above (ys j) d.added parent) (q.links j parent at)));
+  fed = λ j parent at.
+      subst (λ (l : List (List Item)). Reaches done (c.feeds j ++ d.feeds j) l) (sym (comes_in-append above (fs j) (gs j) c.added d.added parent))
+      (subst (λ (l : List (List Item)). Reaches done (c.feeds j ++ d.feeds j) (l ++ comes_in above (gs j) d.added parent)) (p.fed j parent at)
+      (reaches-append done (c.feeds j) (d.feeds j) (comes_in above (gs j) d.added parent) (q.fed j parent at)));
 }
 
 into_then : {done : Bool} {i : ℕ} {xs ys : List Item} {parents : List (Option ℕ)} {c d : Change} → Into true i xs parents c → Into done i ys parents d → Into done i (xs ++ ys) parents (joined c d)
@@ -105,6 +134,10 @@ into_then {done} {i} {xs} {ys} {parents} {c} {d} p q = record {
       subst (λ (l : List Item). Reaches done (c.grown j ++ d.grown j) l) (sym (from_parent-append c.added d.added parent))
       (subst (λ (l : List Item). Reaches done (c.grown j ++ d.grown j) (l ++ from_parent d.added parent)) (p.links j parent at other)
       (reaches-append done (c.grown j) (d.grown j) (from_parent d.added parent) (q.links j parent at other)));
+  fed = λ j parent at other.
+      subst (λ (l : List (List Item)). Reaches done (c.feeds j ++ d.feeds j) l) (sym (alone_from-append c.added d.added parent))
+      (subst (λ (l : List (List Item)). Reaches done (c.feeds j ++ d.feeds j) (l ++ alone (from_parent d.added parent))) (p.fed j parent at other)
+      (reaches-append done (c.feeds j) (d.feeds j) (alone (from_parent d.added parent)) (q.fed j parent at other)));
 }
 
 -- fewer items, where it was stopped
@@ -115,113 +148,149 @@ reaches_comes done above xs ys a parent more = by (same_place parent above) refl
     by true is = more is
     by false is = reaches_all done (from_parent a parent)
 
-down_reach : {done : Bool} {above : Option ℕ} {xs : ℕ → List Item} {parents : List (Option ℕ)} {c : Change} (ys : ℕ → List Item)
-    → ((j : ℕ) (parent : Option ℕ) → slice_get parents j ≡ Some parent → same_place parent above ≡ true → Reaches done (xs j) (ys j))
-    → Down done above xs parents c → Down done above ys parents c
-down_reach {done} {above} {xs} {parents} {c} ys more p = record {
+reaches_comes_in : (done : Bool) (above : Option ℕ) (xs ys : List (List Item)) (a : ℕ → List Out) (parent : Option ℕ) → (same_place parent above ≡ true → Reaches done xs ys) → Reaches done (comes_in above xs a parent) (comes_in above ys a parent)
+reaches_comes_in done above xs ys a parent more = by (same_place parent above) refl
+  where
+    by : (t : Bool) → same_place parent above ≡ t → Reaches done (if t then xs else alone (from_parent a parent)) (if t then ys else alone (from_parent a parent))
+    by true is = more is
+    by false is = reaches_all done (alone (from_parent a parent))
+
+-- of each instance that stands on `above` a front
+abbrev pub Fronts : {X : Type 0} → Bool → Option ℕ → List (Option ℕ) → (ℕ → List X) → (ℕ → List X) → Type 0
+Fronts done above parents xs ys = (j : ℕ) (parent : Option ℕ) → slice_get parents j ≡ Some parent → same_place parent above ≡ true → Reaches done (xs j) (ys j)
+
+pub down_reach : {done : Bool} {above : Option ℕ} {xs : ℕ → List Item} {fs : ℕ → List (List Item)} {parents : List (Option ℕ)} {c : Change} (ys : ℕ → List Item) (gs : ℕ → List (List Item))
+    → Fronts done above parents xs ys → Fronts done above parents fs gs → Down done above xs fs parents c → Down done above ys gs parents c
+down_reach {done} {above} {xs} {fs} {parents} {c} ys gs more further p = record {
   quiet = p.quiet;
+  fed = λ j parent at. reaches_trans done (c.feeds j) (comes_in above (fs j) c.added parent) (comes_in above (gs j) c.added parent) (p.fed j parent at) (reaches_comes_in done above (fs j) (gs j) c.added parent (further j parent at));
   links = λ j parent at. reaches_trans done (c.grown j) (comes above (xs j) c.added parent) (comes above (ys j) c.added parent) (p.links j parent at) (reaches_comes done above (xs j) (ys j) c.added parent (more j parent at));
 }
 
-down_weaker : {above : Option ℕ} {xs : ℕ → List Item} {parents : List (Option ℕ)} {c : Change} (done : Bool) → Down true above xs parents c → Down done above xs parents c
-down_weaker {above} {xs} {parents} {c} done p = record { quiet = p.quiet; links = λ j parent at. reaches_weaker done (c.grown j) (comes above (xs j) c.added parent) (p.links j parent at) }
+down_weaker : {above : Option ℕ} {xs : ℕ → List Item} {fs : ℕ → List (List Item)} {parents : List (Option ℕ)} {c : Change} (done : Bool) → Down true above xs fs parents c → Down done above xs fs parents c
+down_weaker {above} {xs} {fs} {parents} {c} done p = record {
+  quiet = p.quiet;
+  links = λ j parent at. reaches_weaker done (c.grown j) (comes above (xs j) c.added parent) (p.links j parent at);
+  fed = λ j parent at. reaches_weaker done (c.feeds j) (comes_in above (fs j) c.added parent) (p.fed j parent at);
+}
 
 into_weaker : {i : ℕ} {xs : List Item} {parents : List (Option ℕ)} {c : Change} (done : Bool) → Into true i xs parents c → Into done i xs parents c
 into_weaker {i} {xs} {parents} {c} done p = record {
   quiet = p.quiet;
   here = reaches_weaker done (c.grown i) xs p.here;
   links = λ j parent at other. reaches_weaker done (c.grown j) (from_parent c.added parent) (p.links j parent at other);
+  fed = λ j parent at other. reaches_weaker done (c.feeds j) (alone (from_parent c.added parent)) (p.fed j parent at other);
 }
 
 pub took_then : (old mid new : (ℕ → List Mark) → Type 0) (c d : ℕ → List Mark) → Took old mid c → Took mid new d → Took old new (λ j. c j ++ d j)
 took_then old mid new c d p q = λ before after had is.
     q (λ j. before j ++ c j) after (p before (λ j. before j ++ c j) had (λ j. refl)) (λ j. is j ∙ sym (append_assoc (before j) (c j) (d j)))
 
-module _ {done : Bool} {whole : ℕ → List Item → List Out} {before mid after : ℕ → List Item → Type 0} {parents : List (Option ℕ)} {t0 t1 t2 : (ℕ → List Mark) → Type 0} where
-  pub hands_then : {above : Option ℕ} {xs ys : ℕ → List Item} → Hands true whole before mid parents t0 t1 above xs → Hands done whole mid after parents t1 t2 above ys → Hands done whole before after parents t0 t2 above (λ j. xs j ++ ys j)
+-- what was taken behind other marks has some where it was stopped
+pub some_then : {done : Bool} (c d : Change) → SomeMark done d → SomeMark done (joined c d)
+some_then c d some stopped = let s = some stopped in (s.0, some_behind (c.marks s.0) (d.marks s.0) s.1)
+
+module _ {done : Bool} {by : Definitions} {before mid after : ℕ → List Item → Type 0} {parents : List (Option ℕ)} {t0 t1 t2 : (ℕ → List Mark) → Type 0} where
+  abbrev pub hands_then : {above : Option ℕ} {xs ys : ℕ → List Item} {fs gs : ℕ → List (List Item)} → Hands true by before mid parents t0 t1 above xs fs → Hands done by mid after parents t1 t2 above ys gs
+      → Hands done by before after parents t0 t2 above (λ j. xs j ++ ys j) (λ j. fs j ++ gs j)
   hands_then p q = record {
     change = joined p.change q.change;
     each = λ j. passes_then (p.each j) (q.each j);
+    handed = λ j. handed_then (by.whole j) (by.near j) (p.each j) (p.handed j) (q.handed j);
     down = down_then p.down q.down;
     unmarked = λ j low. nothing_more (p.unmarked j low) (q.unmarked j low);
+    some = some_then p.change q.change q.some;
     took = took_then t0 t1 t2 p.change.marks q.change.marks p.took q.took;
   }
 
-  pub feeds_then : {i : ℕ} {xs ys : List Item} → Feeds true whole before mid parents t0 t1 i xs → Feeds done whole mid after parents t1 t2 i ys → Feeds done whole before after parents t0 t2 i (xs ++ ys)
-  feeds_then p q = record {
+  pub consumes_then : {i : ℕ} {xs ys : List Item} → Consumes true by before mid parents t0 t1 i xs → Consumes done by mid after parents t1 t2 i ys → Consumes done by before after parents t0 t2 i (xs ++ ys)
+  consumes_then {i} p q = record {
     change = joined p.change q.change;
     each = λ j. passes_then (p.each j) (q.each j);
+    handed = λ j other. handed_then (by.whole j) (by.near j) (p.each j) (p.handed j other) (q.handed j other);
+    own =
+        subst (λ (l : List Mark). Reaches done (p.change.marks i ++ q.change.marks i) l) (sym (marks-append (p.change.added i) (q.change.added i)))
+        (subst (λ (l : List Mark). Reaches done (p.change.marks i ++ q.change.marks i) (l ++ marks_of (q.change.added i))) p.own (reaches-append done (p.change.marks i) (q.change.marks i) (marks_of (q.change.added i)) q.own));
     into = into_then p.into q.into;
     unmarked = λ j low. nothing_more (p.unmarked j low) (q.unmarked j low);
+    some = some_then p.change q.change q.some;
     took = took_then t0 t1 t2 p.change.marks q.change.marks p.took q.took;
   }
 
-  pub gives_then : {i : ℕ} {xs ys : List Out} → Gives true whole before mid parents t0 t1 i xs → Gives done whole mid after parents t1 t2 i ys → Gives done whole before after parents t0 t2 i (xs ++ ys)
+  pub gives_then : {i : ℕ} {xs ys : List Out} → Gives true by before mid parents t0 t1 i xs → Gives done by mid after parents t1 t2 i ys → Gives done by before after parents t0 t2 i (xs ++ ys)
   gives_then {i} {xs} {ys} p q = record {
     change = joined p.change q.change;
     others = λ j other. passes_then (p.others j other) (q.others j other);
-    down = down_reach (λ _. packets_of (xs ++ ys)) (λ j parent at same. reaches_weaker done (packets_of xs ++ packets_of ys) (packets_of (xs ++ ys)) (sym (packets-append xs ys))) (down_then p.down q.down);
+    handed = λ j other. handed_then (by.whole j) (by.near j) (p.others j other) (p.handed j other) (q.handed j other);
+    down = down_reach (λ _. packets_of (xs ++ ys)) (λ _. alone (packets_of (xs ++ ys)))
+        (λ j parent at same. reaches_weaker done (packets_of xs ++ packets_of ys) (packets_of (xs ++ ys)) (sym (packets-append xs ys)))
+        (λ j parent at same. reaches_weaker done (alone (packets_of xs) ++ alone (packets_of ys)) (alone (packets_of (xs ++ ys))) (sym (ap alone (packets-append xs ys) ∙ alone-append (packets_of xs) (packets_of ys)))) (down_then p.down q.down);
     own =
         subst (λ (l : List Mark). Reaches done (p.change.marks i ++ q.change.marks i) l) (sym (marks-append xs ys))
         (subst (λ (l : List Mark). Reaches done (p.change.marks i ++ q.change.marks i) (l ++ marks_of ys)) p.own (reaches-append done (p.change.marks i) (q.change.marks i) (marks_of ys) q.own));
     stays = λ is input b. q.stays is input (p.stays refl input b);
     unmarked = λ j low. nothing_more (p.unmarked j low) (q.unmarked j low);
+    some = some_then p.change q.change q.some;
     took = took_then t0 t1 t2 p.change.marks q.change.marks p.took q.took;
   }
 
-module _ {whole : ℕ → List Item → List Out} {before after : ℕ → List Item → Type 0} {parents : List (Option ℕ)} {old new : (ℕ → List Mark) → Type 0} where
-  pub hands_weaker : {above : Option ℕ} {xs : ℕ → List Item} (done : Bool) → Hands true whole before after parents old new above xs → Hands done whole before after parents old new above xs
-  hands_weaker done p = record { change = p.change; each = λ j. passes_weaker done (p.each j); down = down_weaker done p.down; unmarked = p.unmarked; took = p.took }
-
-  pub feeds_weaker : {i : ℕ} {xs : List Item} (done : Bool) → Feeds true whole before after parents old new i xs → Feeds done whole before after parents old new i xs
-  feeds_weaker done p = record { change = p.change; each = λ j. passes_weaker done (p.each j); into = into_weaker done p.into; unmarked = p.unmarked; took = p.took }
-
-  pub gives_weaker : {i : ℕ} {xs : List Out} (done : Bool) → Gives true whole before after parents old new i xs → Gives done whole before after parents old new i xs
-  gives_weaker {i} {xs} done p = record {
+module _ {by : Definitions} {before after : ℕ → List Item → Type 0} {parents : List (Option ℕ)} {old new : (ℕ → List Mark) → Type 0} where
+  -- where a mark was taken it may have stopped at it
+  pub gives_weaker : {i : ℕ} {xs : List Out} (done : Bool) (p : Gives true by before after parents old new i xs) → (j : ℕ) × (p.change.marks j ≢ []) → Gives done by before after parents old new i xs
+  gives_weaker {i} {xs} done p some = record {
     change = p.change;
     others = λ j other. passes_weaker done (p.others j other);
+    handed = λ j other. handed_weaker (by.whole j) (by.near j) done (p.handed j other);
     down = down_weaker done p.down;
     own = reaches_weaker done (p.change.marks i) (marks_of xs) p.own;
     stays = λ is. p.stays refl;
     unmarked = p.unmarked;
+    some = λ stopped. some;
     took = p.took;
   }
 
-module _ {done : Bool} {whole : ℕ → List Item → List Out} {before after : ℕ → List Item → Type 0} {parents : List (Option ℕ)} {old new : (ℕ → List Mark) → Type 0} where
-  pub hands_reach : {above : Option ℕ} {xs : ℕ → List Item} (ys : ℕ → List Item) → ((j : ℕ) (parent : Option ℕ) → slice_get parents j ≡ Some parent → same_place parent above ≡ true → Reaches done (xs j) (ys j))
-      → Hands done whole before after parents old new above xs → Hands done whole before after parents old new above ys
-  hands_reach ys more p = record { change = p.change; each = p.each; down = down_reach ys more p.down; unmarked = p.unmarked; took = p.took }
+module _ {done : Bool} {by : Definitions} {before after : ℕ → List Item → Type 0} {parents : List (Option ℕ)} {old new : (ℕ → List Mark) → Type 0} where
+  abbrev pub hands_reach : {above : Option ℕ} {xs : ℕ → List Item} {fs : ℕ → List (List Item)} (ys : ℕ → List Item) (gs : ℕ → List (List Item)) → Fronts done above parents xs ys → Fronts done above parents fs gs
+      → Hands done by before after parents old new above xs fs → Hands done by before after parents old new above ys gs
+  hands_reach ys gs more further p = record { change = p.change; each = p.each; handed = p.handed; down = down_reach ys gs more further p.down; unmarked = p.unmarked; some = p.some; took = p.took }
 
-  pub feeds_reach : {i : ℕ} {xs : List Item} (ys : List Item) → Reaches done xs ys → Feeds done whole before after parents old new i xs → Feeds done whole before after parents old new i ys
-  feeds_reach {i} {xs} ys more p = record {
+  pub consumes_reach : {i : ℕ} {xs : List Item} (ys : List Item) → Reaches done xs ys → Consumes done by before after parents old new i xs → Consumes done by before after parents old new i ys
+  consumes_reach {i} {xs} ys more p = record {
     change = p.change;
     each = p.each;
-    into = record { quiet = p.into.quiet; here = reaches_trans done (p.change.grown i) xs ys p.into.here more; links = p.into.links };
+    handed = p.handed;
+    own = p.own;
+    into = record { quiet = p.into.quiet; here = reaches_trans done (p.change.grown i) xs ys p.into.here more; links = p.into.links; fed = p.into.fed };
     unmarked = p.unmarked;
+    some = p.some;
     took = p.took;
   }
 
-  pub gives_reach : {i : ℕ} {xs : List Out} (ys : List Out) → Reaches done xs ys → Gives done whole before after parents old new i xs → Gives done whole before after parents old new i ys
+  pub gives_reach : {i : ℕ} {xs : List Out} (ys : List Out) → Reaches done xs ys → Gives done by before after parents old new i xs → Gives done by before after parents old new i ys
   gives_reach {i} {xs} ys more p = record {
     change = p.change;
     others = p.others;
-    down = down_reach (λ _. packets_of ys) (λ j parent at same. reaches_packets done xs ys more) p.down;
+    handed = p.handed;
+    down = down_reach (λ _. packets_of ys) (λ _. alone (packets_of ys)) (λ j parent at same. reaches_packets done xs ys more) (λ j parent at same. reaches_alone done (packets_of xs) (packets_of ys) (reaches_packets done xs ys more)) p.down;
     own = reaches_trans done (p.change.marks i) (marks_of xs) (marks_of ys) p.own (reaches_marks done xs ys more);
     stays = p.stays;
     unmarked = p.unmarked;
+    some = p.some;
     took = p.took;
   }
 
   -- what one instance that stands on `above` was given
   pub feeds_are_hands : {i : ℕ} {items : List Item} (above parent : Option ℕ) → IsForest parents → slice_get parents i ≡ Some parent → same_place parent above ≡ true
-      → Feeds done whole before after parents old new i items → Hands done whole before after parents old new above (only i items)
+      → Feeds done by before after parents old new i items → Hands done by before after parents old new above (only i items) (only i (items ∷ []))
   feeds_are_hands {i} {items} above parent forest at on p =
       let here : slice_get parents i ≡ Some above = at ∙ ap (λ (o : Option ℕ). Some o) (same_places parent above on) in
       record {
         change = p.change;
         each = p.each;
-        down = record { quiet = λ j low. p.into.quiet j (behind above here j low); links = λ j from is. links above here j from is };
+        handed = p.handed;
+        down = record { quiet = λ j low. p.into.quiet j (behind above here j low); links = λ j from is. links above here j from is; fed = λ j from is. fed above here j from is };
         unmarked = λ j low. p.unmarked j (behind above here j low);
+        some = p.some;
         took = p.took;
       }
     where
@@ -233,41 +302,52 @@ module _ {done : Bool} {whole : ℕ → List Item → List Out} {before after : 
       none_from None here = refl
       none_from (Some k) here = ap packets_of (p.into.quiet k (forest i k here)).1
 
-      links : (above : Option ℕ) → slice_get parents i ≡ Some above → (j : ℕ) (from : Option ℕ) → slice_get parents j ≡ Some from → Reaches done (p.change.grown j) (comes above (only i items j) p.change.added from)
-      links above here j from is = by (same_place from above) refl
+      some_eq : (a b : Option ℕ) → Some a ≡ Some b → a ≡ b
+      some_eq a b e = cc
+
+      not_both : (b : Bool) → b ≡ true → b ≡ false → ⊥
+      not_both b yes_is no_is = absurd cc
+
+      reflects : (a b : Option ℕ) → a ≡ b → same_place a b ≡ true
+      reflects None None e = refl
+      reflects None (Some b) e = absurd cc
+      reflects (Some a) None e = absurd cc
+      reflects (Some a) (Some b) e = let same : a ≡ b = cc in grind (arith, nat_tests)
+
+      -- only instance i stands on `above`, of those that were given anything
+      by_place : {X : Type 0} (given : ℕ → List X) (own : List X) (above : Option ℕ) → slice_get parents i ≡ Some above → Reaches done (given i) own
+          → (j : ℕ) (from : Option ℕ) → slice_get parents j ≡ Some from → (others : List X) → (from ≡ above → others ≡ []) → (j ≢ i → Reaches done (given j) others)
+          → Reaches done (given j) (if same_place from above then only i own j else others)
+      by_place {X} given own above here mine j from is others none theirs = way (same_place from above) refl
         where
-          some_eq : (a b : Option ℕ) → Some a ≡ Some b → a ≡ b
-          some_eq a b e = cc
+          at_i : j ≡ i → Reaches done (given j) (only i own j)
+          at_i same = subst (λ (k : ℕ). Reaches done (given k) (only i own k)) (sym same) (subst (λ (l : List X). Reaches done (given i) l) (sym (only_here i own)) mine)
 
-          at_i : j ≡ i → Reaches done (p.change.grown j) (only i items j)
-          at_i same = subst (λ (k : ℕ). Reaches done (p.change.grown k) (only i items k)) (sym same) (subst (λ (l : List Item). Reaches done (p.change.grown i) l) (sym (only_here i items)) p.into.here)
-
-          not_both : (b : Bool) → b ≡ true → b ≡ false → ⊥
-          not_both b yes_is no_is = absurd cc
-
-          reflects : (a b : Option ℕ) → a ≡ b → same_place a b ≡ true
-          reflects None None e = refl
-          reflects None (Some b) e = absurd cc
-          reflects (Some a) None e = absurd cc
-          reflects (Some a) (Some b) e = let same : a ≡ b = cc in grind (arith, nat_tests)
-
-          by : (t : Bool) → same_place from above ≡ t → Reaches done (p.change.grown j) (if t then only i items j else from_parent p.change.added from)
-          by true e = elim (cases_eq j i) [
+          way : (t : Bool) → same_place from above ≡ t → Reaches done (given j) (if t then only i own j else others)
+          way true e = elim (cases_eq j i) [
             | inl same ↦ at_i same
-            | inr other ↦
-                let none : from_parent p.change.added from ≡ [] = ap (from_parent p.change.added) (same_places from above e) ∙ none_from above here in
-                subst (λ (l : List Item). Reaches done (p.change.grown j) l) (none ∙ sym (only_elsewhere i items j other)) (p.into.links j from is other)
+            | inr other ↦ subst (λ (l : List X). Reaches done (given j) l) (none (same_places from above e) ∙ sym (only_elsewhere i own j other)) (theirs other)
           ]
-          by false e = elim (cases_eq j i) [
+          way false e = elim (cases_eq j i) [
             | inl same ↦
                 let from_is : from ≡ above = some_eq from above (sym is ∙ ap (slice_get parents) same ∙ here) in
                 absurd (not_both (same_place from above) (reflects from above from_is) e)
-            | inr other ↦ p.into.links j from is other
+            | inr other ↦ theirs other
           ]
+
+      links : (above : Option ℕ) → slice_get parents i ≡ Some above → (j : ℕ) (from : Option ℕ) → slice_get parents j ≡ Some from → Reaches done (p.change.grown j) (comes above (only i items j) p.change.added from)
+      links above here j from is =
+          by_place p.change.grown items above here p.into.here j from is (from_parent p.change.added from)
+          (λ same. ap (from_parent p.change.added) same ∙ none_from above here) (p.into.links j from is)
+
+      fed : (above : Option ℕ) → slice_get parents i ≡ Some above → (j : ℕ) (from : Option ℕ) → slice_get parents j ≡ Some from → Reaches done (p.change.feeds j) (comes_in above (only i (items ∷ []) j) p.change.added from)
+      fed above here j from is =
+          by_place p.change.feeds (items ∷ []) above here p.one j from is (alone (from_parent p.change.added from))
+          (λ same. ap alone (ap (from_parent p.change.added) same ∙ none_from above here)) (p.into.fed j from is)
 
 -- marks alone
 abbrev marks_alone : (ℕ → List Mark) → Change
-marks_alone marks = record { grown = λ j. []; added = λ j. []; marks = marks }
+marks_alone marks = record { grown = λ j. []; feeds = λ j. []; added = λ j. []; marks = marks }
 
 from_nothing : (parent : Option ℕ) → [] ≡ from_parent (λ j. []) parent
 from_nothing None = refl
@@ -280,96 +360,217 @@ comes_nothing above parent = by (same_place parent above)
     by true = refl
     by false = from_nothing parent
 
-down_nothing : (above : Option ℕ) (parents : List (Option ℕ)) (marks : ℕ → List Mark) → Down true above (λ j. []) parents (marks_alone marks)
-down_nothing above parents marks = record { quiet = λ j low. (refl, refl); links = λ j parent at. comes_nothing above parent }
+fed_nothing : (above parent : Option ℕ) → [] ≡ comes_in above [] (λ j. []) parent
+fed_nothing above parent = by (same_place parent above)
+  where
+    by : (t : Bool) → [] ≡ (if t then [] else alone (from_parent (λ j. []) parent))
+    by true = refl
+    by false = ap alone (from_nothing parent)
+
+down_nothing : (above : Option ℕ) (parents : List (Option ℕ)) (marks : ℕ → List Mark) → Down true above (λ j. []) (λ j. []) parents (marks_alone marks)
+down_nothing above parents marks = record { quiet = λ j low. (refl, refl); links = λ j parent at. comes_nothing above parent; fed = λ j parent at. fed_nothing above parent }
 
 into_nothing : (i : ℕ) (parents : List (Option ℕ)) (marks : ℕ → List Mark) → Into true i [] parents (marks_alone marks)
-into_nothing i parents marks = record { quiet = λ j low. (refl, refl); here = refl; links = λ j parent at other. from_nothing parent }
+into_nothing i parents marks = record { quiet = λ j low. (refl, refl); here = refl; links = λ j parent at other. from_nothing parent; fed = λ j parent at other. ap alone (from_nothing parent) }
 
 pub took_nothing : (old : (ℕ → List Mark) → Type 0) → Took old old (λ j. [])
 took_nothing old = λ before after had is. let back : (j : ℕ) → before j ≡ after j = λ j. sym (is j ∙ append-nil (before j)) in subst old (λ i j. back j i) had
 
-module _ (whole : ℕ → List Item → List Out) (now : ℕ → List Item → Type 0) (parents : List (Option ℕ)) (old : (ℕ → List Mark) → Type 0) where
-  pub hands_nothing : (above : Option ℕ) → Hands true whole now now parents old old above (λ j. [])
+module _ (by : Definitions) (now : ℕ → List Item → Type 0) (parents : List (Option ℕ)) (old : (ℕ → List Mark) → Type 0) where
+  nothing_at : (j : ℕ) → Passes true (by.whole j) (now j) (now j) [] [] []
+  nothing_at j = passes_nothing (by.whole j) (now j) (now j) (λ input b. b)
+
+  pub hands_nothing : (above : Option ℕ) → Hands true by now now parents old old above (λ j. []) (λ j. [])
   hands_nothing above = record {
     change = marks_alone (λ j. []);
-    each = λ j. passes_nothing (whole j) (now j) (now j) (λ input b. b);
+    each = nothing_at;
+    handed = λ j. handed_nothing (by.whole j) (by.near j);
     down = down_nothing above parents (λ j. []);
     unmarked = λ j low. refl;
+    some = λ stopped. absurd cc;
     took = took_nothing old;
   }
 
-  pub feeds_nothing : (i : ℕ) → Feeds true whole now now parents old old i []
-  feeds_nothing i = record {
+  pub consumes_nothing : (i : ℕ) → Consumes true by now now parents old old i []
+  consumes_nothing i = record {
     change = marks_alone (λ j. []);
-    each = λ j. passes_nothing (whole j) (now j) (now j) (λ input b. b);
+    each = nothing_at;
+    handed = λ j other. handed_nothing (by.whole j) (by.near j);
+    own = refl;
     into = into_nothing i parents (λ j. []);
     unmarked = λ j low. refl;
+    some = λ stopped. absurd cc;
     took = took_nothing old;
   }
 
-  pub gives_nothing : (i : ℕ) → Gives true whole now now parents old old i []
+  pub gives_nothing : (i : ℕ) → Gives true by now now parents old old i []
   gives_nothing i = record {
     change = marks_alone (λ j. []);
-    others = λ j other. passes_nothing (whole j) (now j) (now j) (λ input b. b);
+    others = λ j other. nothing_at j;
+    handed = λ j other. handed_nothing (by.whole j) (by.near j);
     down = down_nothing (Some i) parents (λ j. []);
     own = refl;
     stays = λ is input b. b;
     unmarked = λ j low. refl;
+    some = λ stopped. absurd cc;
     took = took_nothing old;
   }
 
-  -- a mark of instance i
-  module _ (new : (ℕ → List Mark) → Type 0) (i : ℕ) (mark : Mark) (took : Took old new (only i (mark ∷ []))) where
-    -- a note or a piece, which it has put out
-    pub gives_mark : (out : Out) → mark ∷ [] ≡ marks_of (out ∷ []) → packets_of (out ∷ []) ≡ [] → Gives true whole now now parents old new i (out ∷ [])
-    gives_mark out is no_packet = record {
-      change = marks_alone (only i (mark ∷ []));
-      others = λ j other. subst (λ (l : List Mark). Passes true (whole j) (now j) (now j) [] [] l) (sym (only_elsewhere i (mark ∷ []) j other)) (passes_nothing (whole j) (now j) (now j) (λ input b. b));
-      down = down_reach (λ _. packets_of (out ∷ [])) (λ j parent at same. sym no_packet) (down_nothing (Some i) parents (only i (mark ∷ [])));
-      own = only_here i (mark ∷ []) ∙ is;
-      stays = λ is input b. b;
-      unmarked = λ j low. let other : j ≢ i = omega (arith, low) in only_elsewhere i (mark ∷ []) j other;
-      took = took;
-    }
-
-  -- a floor of instance i
-  pub feeds_floor : (new : (ℕ → List Mark) → Type 0) (i floor : ℕ) → Took old new (only i (FloorMark floor ∷ [])) → ((input : List Item) → now i input → IsFloor (whole i) input floor) → Feeds true whole now now parents old new i []
-  feeds_floor new i floor took holds = record {
-    change = marks_alone (only i (FloorMark floor ∷ []));
-    each = λ j. elim (cases_eq j i) [
-      | inl same ↦ subst (λ (k : ℕ). Passes true (whole k) (now k) (now k) [] [] (only i (FloorMark floor ∷ []) k)) (sym same) (subst (λ (l : List Mark). Passes true (whole i) (now i) (now i) [] [] l) (sym (only_here i (FloorMark floor ∷ []))) here)
-      | inr other ↦ subst (λ (l : List Mark). Passes true (whole j) (now j) (now j) [] [] l) (sym (only_elsewhere i (FloorMark floor ∷ []) j other)) (passes_nothing (whole j) (now j) (now j) (λ input b. b))
-    ];
-    into = into_nothing i parents (only i (FloorMark floor ∷ []));
-    unmarked = λ j low. let other : j ≢ i = omega (arith, low) in only_elsewhere i (FloorMark floor ∷ []) j other;
-    took = took;
-  }
+  -- a mark of instance i, a note or a piece, which it has put out
+  pub gives_mark : (done : Bool) (new : (ℕ → List Mark) → Type 0) (i : ℕ) (mark : Mark) → Took old new (only i (mark ∷ [])) → (out : Out) → mark ∷ [] ≡ marks_of (out ∷ []) → packets_of (out ∷ []) ≡ []
+      → Gives done by now now parents old new i (out ∷ [])
+  gives_mark done new i mark took out is no_packet = gives_weaker done gave (i, some)
     where
-      none : Passes true (whole i) (now i) (now i) [] [] []
-      none = passes_nothing (whole i) (now i) (now i) (λ input b. b)
+      gave : Gives true by now now parents old new i (out ∷ [])
+      gave = record {
+        change = marks_alone (only i (mark ∷ []));
+        others = λ j other. subst (λ (l : List Mark). Passes true (by.whole j) (now j) (now j) [] [] l) (sym (only_elsewhere i (mark ∷ []) j other)) (nothing_at j);
+        handed = λ j other. subst (λ (l : List Mark). Handed true (by.whole j) (by.near j) (now j) [] [] l) (sym (only_elsewhere i (mark ∷ []) j other)) (handed_nothing (by.whole j) (by.near j));
+        down = down_reach (λ _. packets_of (out ∷ [])) (λ _. alone (packets_of (out ∷ []))) (λ j parent at same. sym no_packet) (λ j parent at same. sym (ap alone no_packet)) (down_nothing (Some i) parents (only i (mark ∷ [])));
+        own = only_here i (mark ∷ []) ∙ is;
+        stays = λ is input b. b;
+        unmarked = λ j low. let other : j ≢ i = omega (arith, low) in only_elsewhere i (mark ∷ []) j other;
+        some = λ stopped. absurd cc;
+        took = took;
+      }
 
-      here : Passes true (whole i) (now i) (now i) [] [] (FloorMark floor ∷ [])
+      one : (x : Mark) → x ∷ [] ≢ []
+      one x e = cc
+
+      some : only i (mark ∷ []) i ≢ []
+      some = subst (λ (l : List Mark). l ≢ []) (sym (only_here i (mark ∷ []))) (one mark)
+
+-- what was consumed, and a floor behind it
+module _ {by : Definitions} {before now : ℕ → List Item → Type 0} {parents : List (Option ℕ)} {t0 t1 : (ℕ → List Mark) → Type 0} {i : ℕ} {items : List Item} (done : Bool) (t2 : (ℕ → List Mark) → Type 0) (floor : ℕ)
+    (p : Consumes true by before now parents t0 t1 i items) (took : Took t1 t2 (only i (FloorMark floor ∷ []))) (holds : (input : List Item) → now i input → IsFloor (by.whole i) input floor)
+    (low : (input : List Item) → now i input → by.near i input ≤ floor) where
+  abbrev marked : ℕ → List Mark
+  marked = only i (FloorMark floor ∷ [])
+
+  floor_passes : (j : ℕ) → Passes true (by.whole j) (now j) (now j) [] [] (marked j)
+  floor_passes j = elim (cases_eq j i) [
+    | inl same ↦ subst (λ (k : ℕ). Passes true (by.whole k) (now k) (now k) [] [] (marked k)) (sym same) (subst (λ (l : List Mark). Passes true (by.whole i) (now i) (now i) [] [] l) (sym (only_here i (FloorMark floor ∷ []))) here)
+    | inr other ↦ subst (λ (l : List Mark). Passes true (by.whole j) (now j) (now j) [] [] l) (sym (only_elsewhere i (FloorMark floor ∷ []) j other)) (passes_nothing (by.whole j) (now j) (now j) (λ input b. b))
+  ]
+    where
+      none : Passes true (by.whole i) (now i) (now i) [] [] []
+      none = passes_nothing (by.whole i) (now i) (now i) (λ input b. b)
+
+      here : Passes true (by.whole i) (now i) (now i) [] [] (FloorMark floor ∷ [])
       here = record {
         consumes = none.consumes;
         gives = none.gives;
         shows = refl;
         no_end = tt;
-        floors = λ input more rest b is. (marks_from floor rest (holds input b more rest (ap (λ (l : List Item). whole i (l ++ more)) (sym (append-nil input)) ∙ is)), tt);
+        floors = λ input more rest b is. (marks_from floor rest (holds input b more rest (ap (λ (l : List Item). by.whole i (l ++ more)) (sym (append-nil input)) ∙ is)), tt);
       }
 
+  abbrev floored_change : Change
+  floored_change = record {
+    grown = λ j. p.change.grown j ++ [];
+    feeds = at_place i (items ∷ []) (λ j. p.change.feeds j ++ []);
+    added = λ j. p.change.added j ++ [];
+    marks = λ j. p.change.marks j ++ marked j;
+  }
+
+  floor_handed : (j : ℕ) → Handed true (by.whole j) (by.near j) (before j) (p.change.grown j ++ []) (floored_change.feeds j) (p.change.marks j ++ marked j)
+  floor_handed j = elim (cases_eq j i) [
+    | inl same ↦
+        subst (λ (k : ℕ). Handed true (by.whole k) (by.near k) (before k) (p.change.grown k ++ []) (floored_change.feeds k) (p.change.marks k ++ marked k)) (sym same)
+        (subst (λ (l : List (List Item)). Handed true (by.whole i) (by.near i) (before i) (p.change.grown i ++ []) l (p.change.marks i ++ marked i)) (sym (at_here i (items ∷ []) (λ j. p.change.feeds j ++ [])))
+        (subst (λ (l : List Item). Handed true (by.whole i) (by.near i) (before i) l (items ∷ []) (p.change.marks i ++ marked i)) (sym (append-nil (p.change.grown i) ∙ p.into.here)) own))
+    | inr other ↦
+        subst (λ (l : List (List Item)). Handed true (by.whole j) (by.near j) (before j) (p.change.grown j ++ []) l (p.change.marks j ++ marked j)) (sym (at_other i (items ∷ []) (λ j. p.change.feeds j ++ []) j other))
+        (subst (λ (l : List Mark). Handed true (by.whole j) (by.near j) (before j) (p.change.grown j ++ []) (p.change.feeds j ++ []) (p.change.marks j ++ l)) (sym (only_elsewhere i (FloorMark floor ∷ []) j other))
+        (handed_then (by.whole j) (by.near j) (p.each j) (p.handed j other) (handed_nothing (by.whole j) (by.near j))))
+  ]
+    where
+      own : Handed true (by.whole i) (by.near i) (before i) items (items ∷ []) (p.change.marks i ++ marked i)
+      own =
+          handed_whole (by.whole i) (by.near i) items (p.change.added i) floor (p.change.marks i ++ marked i)
+          (λ input b. subst (λ (l : List Item). by.whole i (input ++ l) ≡ by.whole i input ++ p.change.added i) p.into.here ((p.each i).gives input b))
+          (λ input b. subst (λ (l : List Item). by.near i (input ++ l) ≤ floor) p.into.here (low (input ++ p.change.grown i) ((p.each i).consumes refl input b)))
+          ((λ k. p.own k ++ only_here i (FloorMark floor ∷ []) k))
+
+  pub floored : Feeds done by before now parents t0 t2 i items
+  floored = record {
+    change = floored_change;
+    each = λ j. passes_weaker done (passes_then (p.each j) (floor_passes j));
+    handed = λ j. handed_weaker (by.whole j) (by.near j) done (floor_handed j);
+    into = record {
+      quiet = λ j less. let q = p.into.quiet j less in (append-nil (p.change.grown j) ∙ q.0, append-nil (p.change.added j) ∙ q.1);
+      here = reaches_weaker done (p.change.grown i ++ []) items (append-nil (p.change.grown i) ∙ p.into.here);
+      links = λ j parent at other. reaches_weaker done (p.change.grown j ++ []) (from_parent (λ k. p.change.added k ++ []) parent) (append-nil (p.change.grown j) ∙ p.into.links j parent at other ∙ same_from parent);
+      fed = λ j parent at other.
+          reaches_weaker done (floored_change.feeds j) (alone (from_parent (λ k. p.change.added k ++ []) parent))
+          (at_other i (items ∷ []) (λ j. p.change.feeds j ++ []) j other ∙ append-nil (p.change.feeds j) ∙ p.into.fed j parent at other ∙ ap alone (same_from parent));
+    };
+    one = reaches_weaker done (floored_change.feeds i) (items ∷ []) (at_here i (items ∷ []) (λ j. p.change.feeds j ++ []));
+    unmarked = λ j less. let other : j ≢ i = omega (arith, less) in nothing_more (p.unmarked j less) (only_elsewhere i (FloorMark floor ∷ []) j other);
+    some = λ stopped. (i, some_behind (p.change.marks i) (marked i) some);
+    took = took_then t0 t1 t2 p.change.marks marked p.took took;
+  }
+    where
+      same_from : (parent : Option ℕ) → from_parent p.change.added parent ≡ from_parent (λ k. p.change.added k ++ []) parent
+      same_from None = refl
+      same_from (Some k) = ap packets_of (sym (append-nil (p.change.added k)))
+
+      one : (x : Mark) → x ∷ [] ≢ []
+      one x e = cc
+
+      some : marked i ≢ []
+      some = subst (λ (l : List Mark). l ≢ []) (sym (only_here i (FloorMark floor ∷ []))) (one (FloorMark floor))
+
+-- where it was stopped before the floor
+module _ {by : Definitions} {before after : ℕ → List Item → Type 0} {parents : List (Option ℕ)} {old new : (ℕ → List Mark) → Type 0} {i : ℕ} {items : List Item} (keeps : KeepsFront (by.whole i))
+    (p : Consumes false by before after parents old new i items) where
+  abbrev cut_change : Change
+  cut_change = record { grown = p.change.grown; feeds = at_place i (items ∷ []) p.change.feeds; added = p.change.added; marks = p.change.marks }
+
+  cut_handed : (j : ℕ) → Handed false (by.whole j) (by.near j) (before j) (p.change.grown j) (cut_change.feeds j) (p.change.marks j)
+  cut_handed j = elim (cases_eq j i) [
+    | inl same ↦
+        subst (λ (k : ℕ). Handed false (by.whole k) (by.near k) (before k) (p.change.grown k) (cut_change.feeds k) (p.change.marks k)) (sym same)
+        (subst (λ (l : List (List Item)). Handed false (by.whole i) (by.near i) (before i) (p.change.grown i) l (p.change.marks i)) (sym (at_here i (items ∷ []) p.change.feeds)) own)
+    | inr other ↦
+        subst (λ (l : List (List Item)). Handed false (by.whole j) (by.near j) (before j) (p.change.grown j) l (p.change.marks j)) (sym (at_other i (items ∷ []) p.change.feeds j other)) (p.handed j other)
+  ]
+    where
+      own : Handed false (by.whole i) (by.near i) (before i) (p.change.grown i) (items ∷ []) (p.change.marks i)
+      own = handed_cut (by.whole i) (by.near i) (p.change.grown i) items (p.change.added i) (p.change.marks i) keeps p.into.here ((p.each i).gives) p.own
+
+  pub cut_off : Feeds false by before after parents old new i items
+  cut_off = record {
+    change = cut_change;
+    each = p.each;
+    handed = cut_handed;
+    into = record {
+      quiet = p.into.quiet;
+      here = p.into.here;
+      links = p.into.links;
+      fed = λ j parent at other. subst (λ (l : List (List Item)). Reaches false l (alone (from_parent p.change.added parent))) (sym (at_other i (items ∷ []) p.change.feeds j other)) (p.into.fed j parent at other);
+    };
+    one = reaches_weaker false (cut_change.feeds i) (items ∷ []) (at_here i (items ∷ []) p.change.feeds);
+    unmarked = p.unmarked;
+    some = p.some;
+    took = p.took;
+  }
+
 -- a packet of instance i that was handed on
-module _ {done : Bool} {whole : ℕ → List Item → List Out} {before after : ℕ → List Item → Type 0} {parents : List (Option ℕ)} {old new : (ℕ → List Mark) → Type 0} where
-  pub gives_packet : (i : ℕ) (out : Out) {items : ℕ → List Item} → ((j : ℕ) → items j ≡ packets_of (out ∷ [])) → marks_of (out ∷ []) ≡ [] → Hands done whole before after parents old new (Some i) items → Gives done whole before after parents old new i (out ∷ [])
-  gives_packet i out {items} is no_mark p =
+module _ {done : Bool} {by : Definitions} {before after : ℕ → List Item → Type 0} {parents : List (Option ℕ)} {old new : (ℕ → List Mark) → Type 0} where
+  pub gives_packet : (i : ℕ) (out : Out) {items : ℕ → List Item} {feeds : ℕ → List (List Item)} → ((j : ℕ) → items j ≡ packets_of (out ∷ [])) → ((j : ℕ) → feeds j ≡ alone (packets_of (out ∷ []))) → marks_of (out ∷ []) ≡ []
+      → Hands done by before after parents old new (Some i) items feeds → Gives done by before after parents old new i (out ∷ [])
+  gives_packet i out {items} {feeds} is fed_is no_mark p =
       let low : i < suc i = omega arith in
       record {
         change = p.change;
         others = λ j other. p.each j;
-        down = down_reach (λ _. packets_of (out ∷ [])) (λ j parent at same. reaches_weaker done (items j) (packets_of (out ∷ [])) (is j)) p.down;
+        handed = λ j other. p.handed j;
+        down = down_reach (λ _. packets_of (out ∷ [])) (λ _. alone (packets_of (out ∷ []))) (λ j parent at same. reaches_weaker done (items j) (packets_of (out ∷ [])) (is j)) (λ j parent at same. reaches_weaker done (feeds j) (alone (packets_of (out ∷ []))) (fed_is j)) p.down;
         own = reaches_weaker done (p.change.marks i) (marks_of (out ∷ [])) (p.unmarked i low ∙ sym no_mark);
         stays = λ is input b. subst (λ (l : List Item). after i l) (append-nil input) (subst (λ (l : List Item). after i (input ++ l)) (p.down.quiet i low).0 ((p.each i).consumes is input b));
         unmarked = λ j less. p.unmarked j (omega (arith, less));
+        some = p.some;
         took = p.took;
       }
 
@@ -381,24 +582,15 @@ pub runs_move : {i : ℕ} {whole : ℕ → List Item → List Out} {before after
 runs_move s = record { consumes = s.here.consumes; gives = s.here.gives; others = s.others }
 
 -- what instance i consumed, and then its outputs
-module _ {done : Bool} {whole : ℕ → List Item → List Out} {before mid after : ℕ → List Item → Type 0} {parents : List (Option ℕ)} {old new : (ℕ → List Mark) → Type 0} {i : ℕ} {front : List Item} {outs : List Out}
-    (forest : IsForest parents) (s : MovesAt i whole before mid front outs) (p : Gives done whole mid after parents old new i outs) where
+module _ {done : Bool} {by : Definitions} {before mid after : ℕ → List Item → Type 0} {parents : List (Option ℕ)} {old new : (ℕ → List Mark) → Type 0} {i : ℕ} {front : List Item} {outs : List Out}
+    (forest : IsForest parents) (s : MovesAt i by.whole before mid front outs) (p : Gives done by mid after parents old new i outs) where
   abbrev c : Change
   c = p.change
 
-  abbrev at_i : {X : Type 0} → List X → (ℕ → List X) → ℕ → List X
-  at_i xs f j = if nat_eq j i then xs else f j
-
-  at_here : {X : Type 0} (xs : List X) (f : ℕ → List X) → at_i xs f i ≡ xs
-  at_here xs f = let same : nat_eq i i ≡ true = grind (arith, nat_tests) in ap (λ (b : Bool). if b then xs else f i) same
-
-  at_other : {X : Type 0} (xs : List X) (f : ℕ → List X) (j : ℕ) → j ≢ i → at_i xs f j ≡ f j
-  at_other xs f j other = let different : nat_eq j i ≡ false = grind (arith, nat_tests) in ap (λ (b : Bool). if b then xs else f j) different
-
   abbrev stepped_change : Change
-  stepped_change = record { grown = at_i front c.grown; added = at_i outs c.added; marks = c.marks }
+  stepped_change = record { grown = at_place i front c.grown; feeds = c.feeds; added = at_place i outs c.added; marks = c.marks }
 
-  here : Passes done (whole i) (before i) (after i) front outs (c.marks i)
+  here : Passes done (by.whole i) (before i) (after i) front outs (c.marks i)
   here =
       let own = shown_front done (c.marks i) outs p.own in
       record {
@@ -409,7 +601,7 @@ module _ {done : Bool} {whole : ℕ → List Item → List Out} {before mid afte
         floors = λ input more rest b is. own.2 (marks_of (outs ++ rest));
       }
 
-  other : (j : ℕ) → j ≢ i → Passes done (whole j) (before j) (after j) (c.grown j) (c.added j) (c.marks j)
+  other : (j : ℕ) → j ≢ i → Passes done (by.whole j) (before j) (after j) (c.grown j) (c.added j) (c.marks j)
   other j different =
       let q = p.others j different in
       record {
@@ -420,41 +612,56 @@ module _ {done : Bool} {whole : ℕ → List Item → List Out} {before mid afte
         floors = λ input more rest b is. q.floors input more rest (s.others j different input b) is;
       }
 
-  each : (j : ℕ) → Passes done (whole j) (before j) (after j) (at_i front c.grown j) (at_i outs c.added j) (c.marks j)
+  each : (j : ℕ) → Passes done (by.whole j) (before j) (after j) (at_place i front c.grown j) (at_place i outs c.added j) (c.marks j)
   each j = elim (cases_eq j i) [
     | inl same ↦
-        subst (λ (k : ℕ). Passes done (whole k) (before k) (after k) (at_i front c.grown k) (at_i outs c.added k) (c.marks k)) (sym same)
-        (subst (λ (l : List Item). Passes done (whole i) (before i) (after i) l (at_i outs c.added i) (c.marks i)) (sym (at_here front c.grown))
-        (subst (λ (l : List Out). Passes done (whole i) (before i) (after i) front l (c.marks i)) (sym (at_here outs c.added)) here))
+        subst (λ (k : ℕ). Passes done (by.whole k) (before k) (after k) (at_place i front c.grown k) (at_place i outs c.added k) (c.marks k)) (sym same)
+        (subst (λ (l : List Item). Passes done (by.whole i) (before i) (after i) l (at_place i outs c.added i) (c.marks i)) (sym (at_here i front c.grown))
+        (subst (λ (l : List Out). Passes done (by.whole i) (before i) (after i) front l (c.marks i)) (sym (at_here i outs c.added)) here))
     | inr different ↦
-        subst (λ (l : List Item). Passes done (whole j) (before j) (after j) l (at_i outs c.added j) (c.marks j)) (sym (at_other front c.grown j different))
-        (subst (λ (l : List Out). Passes done (whole j) (before j) (after j) (c.grown j) l (c.marks j)) (sym (at_other outs c.added j different)) (other j different))
+        subst (λ (l : List Item). Passes done (by.whole j) (before j) (after j) l (at_place i outs c.added j) (c.marks j)) (sym (at_other i front c.grown j different))
+        (subst (λ (l : List Out). Passes done (by.whole j) (before j) (after j) (c.grown j) l (c.marks j)) (sym (at_other i outs c.added j different)) (other j different))
   ]
 
   -- what comes to the others: from instance i its outputs
-  come : (parent : Option ℕ) → comes (Some i) (packets_of outs) c.added parent ≡ from_parent (at_i outs c.added) parent
+  come : (parent : Option ℕ) → comes (Some i) (packets_of outs) c.added parent ≡ from_parent (at_place i outs c.added) parent
   come None = refl
-  come (Some k) = by (nat_eq k i)
+  come (Some k) = by_test (nat_eq k i)
     where
-      by : (t : Bool) → (if t then packets_of outs else packets_of (c.added k)) ≡ packets_of (if t then outs else c.added k)
-      by true = refl
-      by false = refl
+      by_test : (t : Bool) → (if t then packets_of outs else packets_of (c.added k)) ≡ packets_of (if t then outs else c.added k)
+      by_test true = refl
+      by_test false = refl
 
-  pub stepped : Feeds done whole before after parents old new i front
+  come_in : (parent : Option ℕ) → comes_in (Some i) (alone (packets_of outs)) c.added parent ≡ alone (from_parent (at_place i outs c.added) parent)
+  come_in None = refl
+  come_in (Some k) = by_test (nat_eq k i)
+    where
+      by_test : (t : Bool) → (if t then alone (packets_of outs) else alone (packets_of (c.added k))) ≡ alone (packets_of (if t then outs else c.added k))
+      by_test true = refl
+      by_test false = refl
+
+  pub stepped : Consumes done by before after parents old new i front
   stepped = record {
     change = stepped_change;
     each = each;
+    handed = λ j different.
+        let h = p.handed j different in
+        subst (λ (l : List Item). Handed done (by.whole j) (by.near j) (before j) l (c.feeds j) (c.marks j)) (sym (at_other i front c.grown j different))
+        (record { cut = h.cut; front = λ input b. h.front input (s.others j different input b) });
+    own = subst (λ (l : List Out). Reaches done (c.marks i) (marks_of l)) (sym (at_here i outs c.added)) p.own;
     into = record {
       quiet = λ j low.
           let different : j ≢ i = omega (arith, low) in
           let q = p.down.quiet j (omega (arith, low)) in
-          (at_other front c.grown j different ∙ q.0, at_other outs c.added j different ∙ q.1);
-      here = reaches_weaker done (at_i front c.grown i) front (at_here front c.grown);
+          (at_other i front c.grown j different ∙ q.0, at_other i outs c.added j different ∙ q.1);
+      here = reaches_weaker done (at_place i front c.grown i) front (at_here i front c.grown);
       links = λ j parent at different.
-          subst (λ (l : List Item). Reaches done l (from_parent (at_i outs c.added) parent)) (sym (at_other front c.grown j different))
+          subst (λ (l : List Item). Reaches done l (from_parent (at_place i outs c.added) parent)) (sym (at_other i front c.grown j different))
           (subst (λ (l : List Item). Reaches done (c.grown j) l) (come parent) (p.down.links j parent at));
+      fed = λ j parent at different. subst (λ (l : List (List Item)). Reaches done (c.feeds j) l) (come_in parent) (p.down.fed j parent at);
     };
     unmarked = p.unmarked;
+    some = p.some;
     took = p.took;
   }
 
@@ -496,16 +703,34 @@ pub up_to_all : {X : Type 0} (place : ℕ) (xs : List X) (j : ℕ) → j < place
 up_to_all place xs j less = let all : nat_lt j place ≡ true = grind (arith, nat_tests) in ap (λ (b : Bool). if b then xs else []) all
 
 -- one more instance, and the way on from there
-module _ {done : Bool} {whole : ℕ → List Item → List Out} {before mid after : ℕ → List Item → Type 0} {parents : List (Option ℕ)} {t0 t1 t2 : (ℕ → List Mark) → Type 0} where
-  pub hands_next : {above : Option ℕ} (place : ℕ) (xs : List Item) → Hands true whole before mid parents t0 t1 above (up_to place xs) → Hands done whole mid after parents t1 t2 above (only place xs)
-      → Hands done whole before after parents t0 t2 above (up_to (place + 1) xs)
-  hands_next {above} place xs p q = hands_reach (up_to (place + 1) xs) (λ j parent at on. reaches_weaker done (up_to place xs j ++ only place xs j) (up_to (place + 1) xs j) (up_to_next place xs j)) (hands_then p q)
+module _ {done : Bool} {by : Definitions} {before mid after : ℕ → List Item → Type 0} {parents : List (Option ℕ)} {t0 t1 t2 : (ℕ → List Mark) → Type 0} where
+  pub hands_next : {above : Option ℕ} (place : ℕ) (xs : List Item) (fs : List (List Item)) → Hands true by before mid parents t0 t1 above (up_to place xs) (up_to place fs)
+      → Hands done by mid after parents t1 t2 above (only place xs) (only place fs) → Hands done by before after parents t0 t2 above (up_to (place + 1) xs) (up_to (place + 1) fs)
+  hands_next {above} place xs fs p q =
+      hands_reach (up_to (place + 1) xs) (up_to (place + 1) fs)
+      (λ j parent at on. reaches_weaker done (up_to place xs j ++ only place xs j) (up_to (place + 1) xs j) (up_to_next place xs j))
+      (λ j parent at on. reaches_weaker done (up_to place fs j ++ only place fs j) (up_to (place + 1) fs j) (up_to_next place fs j)) (hands_then p q)
+
+-- no instance yet
+pub hands_none : (by : Definitions) (now : ℕ → List Item → Type 0) (parents : List (Option ℕ)) (old : (ℕ → List Mark) → Type 0) (above : Option ℕ) (xs : List Item) (fs : List (List Item)) → Hands true by now now parents old old above (up_to 0 xs) (up_to 0 fs)
+hands_none by now parents old above xs fs = hands_reach (up_to 0 xs) (up_to 0 fs) (λ j parent at on. sym (up_to_none xs j)) (λ j parent at on. sym (up_to_none fs j)) (hands_nothing by now parents old above)
+
+-- those before a place, where it was stopped; and all
+module _ {by : Definitions} {before after : ℕ → List Item → Type 0} {parents : List (Option ℕ)} {old new : (ℕ → List Mark) → Type 0} {above : Option ℕ} (place : ℕ) (xs : List Item) (fs : List (List Item)) where
+  pub hands_front : Hands false by before after parents old new above (up_to place xs) (up_to place fs) → Hands false by before after parents old new above (λ _. xs) (λ _. fs)
+  hands_front p = hands_reach (λ _. xs) (λ _. fs) (λ j parent at on. up_to_front place xs j) (λ j parent at on. up_to_front place fs j) p
+
+  pub hands_all : length parents ≤ place → Hands true by before after parents old new above (up_to place xs) (up_to place fs) → Hands true by before after parents old new above (λ _. xs) (λ _. fs)
+  hands_all most p =
+      hands_reach (λ _. xs) (λ _. fs)
+      (λ j parent at on. let within = slice_get_within parents j parent at in up_to_all place xs j (omega (arith, within, most)))
+      (λ j parent at on. let within = slice_get_within parents j parent at in up_to_all place fs j (omega (arith, within, most))) p
 
 -- an instance that doesn't stand on `above` gets nothing
-pub hands_not : {whole : ℕ → List Item → List Out} {now : ℕ → List Item → Type 0} {parents : List (Option ℕ)} {old : (ℕ → List Mark) → Type 0} (above parent : Option ℕ) (i : ℕ) (xs : List Item) → slice_get parents i ≡ Some parent → same_place parent above ≡ false
-    → Hands true whole now now parents old old above (only i xs)
-hands_not {whole} {now} {parents} {old} above parent i xs at off =
-    hands_reach (only i xs) (λ j from is on. sym (only_elsewhere i xs j (other j from is on))) (hands_nothing whole now parents old above)
+pub hands_not : {by : Definitions} {now : ℕ → List Item → Type 0} {parents : List (Option ℕ)} {old : (ℕ → List Mark) → Type 0} (above parent : Option ℕ) (i : ℕ) (xs : List Item) (fs : List (List Item)) → slice_get parents i ≡ Some parent → same_place parent above ≡ false
+    → Hands true by now now parents old old above (only i xs) (only i fs)
+hands_not {by} {now} {parents} {old} above parent i xs fs at off =
+    hands_reach (only i xs) (only i fs) (λ j from is on. sym (only_elsewhere i xs j (other j from is on))) (λ j from is on. sym (only_elsewhere i fs j (other j from is on))) (hands_nothing by now parents old above)
   where
     apart : (b : Bool) → b ≡ true → b ≡ false → ⊥
     apart b yes_is no_is = absurd cc

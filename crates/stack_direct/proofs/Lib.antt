@@ -1,5 +1,7 @@
 pub mod Places
 pub mod Lists
+mod Flooring
+mod Going
 pub mod Joining
 pub mod Running
 pub mod Telling

@@ -8,10 +8,14 @@ use Rattle.la_base.proofs.RunLemmas.{runs_from, samples_further, samples_more}
 use Rattle.la_base.specs.declared.samples.Run.{Run}
 use Rattle.la_base.specs.declared.wires.Mark.{Mark}
 use Rattle.la_base.specs.declared.wires.Out.{Out}
+use Rattle.la_io.specs.Feeds.{together}
+use Rattle.la_io.proofs.Together.{together-append}
 use Rattle.decoder_core.specs.Inputs.{Item, Sample}
 use Rattle.la_base.specs.declared.wires.Mark.TheVariants.{End as EndMark}
-use Rattle.stack_direct.specs.Passing.{Hands, Reaches, Took, only, up_to}
-use Rattle.stack_direct.specs.Runs.{FedRuns, TookEnds}
+use Rattle.stack_direct.specs.Passing.{Hands, Took, only, up_to}
+use Rattle.stack_direct.specs.Reaching.{Reaches}
+use Rattle.stack_direct.specs.Machines.{Definitions}
+use Rattle.stack_direct.specs.Runs.{FedRuns, TookEnds, run_items, samples_in}
 use Rattle.stack_direct.proofs.Lists.{reaches_weaker}
 use Rattle.stack_direct.proofs.Joining.{hands_nothing, hands_then, hands_reach, took_then, took_nothing, up_to_next, up_to_none}
 
@@ -37,31 +41,66 @@ items_further runs i k = sym (ap (map Sample) (samples_further runs i k) ∙ ite
 pub one_more : (runs : List Run) (run : Run) → map Sample (samples_of runs) ++ map Sample (samples run) ≡ map Sample (samples_of (runs ++ run ∷ []))
 one_more runs run = ap (λ (l : List ℕ). map Sample (samples_of runs) ++ map Sample l) (sym (append-nil (samples run))) ∙ more_items runs (run ∷ [])
 
--- no run yet
-pub fed_nothing : (whole : ℕ → List Item → List Out) (now : ℕ → List Item → Type 0) (parents : List (Option ℕ)) (gave : List Run → Type 0) (took : (ℕ → List Mark) → Type 0) → FedRuns true whole now now parents gave gave took took
-fed_nothing whole now parents gave took = record {
-  runs = [];
+-- lists of runs behind lists of runs
+pub samples_in-append : (lists more : List (List Run)) → samples_in (lists ++ more) ≡ samples_in lists ++ samples_in more
+samples_in-append lists more = ap samples_of (together-append lists more) ∙ samples_of-append (together lists) (together more)
+
+pub lists_items : (lists more : List (List Run)) → map Sample (samples_in lists) ++ map Sample (samples_in more) ≡ map Sample (samples_in (lists ++ more))
+lists_items lists more = sym (ap (map Sample) (samples_in-append lists more) ∙ items-append (samples_in lists) (samples_in more))
+
+lists_feeds : (lists more : List (List Run)) → map run_items lists ++ map run_items more ≡ map run_items (lists ++ more)
+lists_feeds [] more = refl
+lists_feeds (l ∷ lists) more = ap (λ (x : List (List Item)). run_items l ∷ x) (lists_feeds lists more)
+
+-- no list yet
+pub fed_nothing : (by : Definitions) (now : ℕ → List Item → Type 0) (parents : List (Option ℕ)) (gave : List (List Run) → Type 0) (took : (ℕ → List Mark) → Type 0) → FedRuns true by now now parents gave gave took took
+fed_nothing by now parents gave took = record {
+  lists = [];
   gave = λ earlier had. subst gave (sym (append-nil earlier)) had;
-  hands = hands_nothing whole now parents took None;
+  hands = hands_nothing by now parents took None;
+  broken = λ stopped. absurd cc;
 }
 
--- further runs
-pub fed_runs : {done : Bool} {whole : ℕ → List Item → List Out} {before mid after : ℕ → List Item → Type 0} {parents : List (Option ℕ)} {g0 g1 : List Run → Type 0} {t0 t1 t2 : (ℕ → List Mark) → Type 0} (g2 : List Run → Type 0) (more : List Run)
-    → FedRuns true whole before mid parents g0 g1 t0 t1 → ((earlier : List Run) → g1 earlier → g2 (earlier ++ more)) → Hands done whole mid after parents t1 t2 None (λ _. map Sample (samples_of more))
-    → FedRuns done whole before after parents g0 g2 t0 t2
-fed_runs {done} g2 more f gave hands = record {
-  runs = f.runs ++ more;
-  gave = λ earlier had. subst g2 (append_assoc earlier f.runs more) (gave (earlier ++ f.runs) (f.gave earlier had));
-  hands = hands_reach (λ _. map Sample (samples_of (f.runs ++ more))) (λ j parent at on. reaches_weaker done (map Sample (samples_of f.runs) ++ map Sample (samples_of more)) (map Sample (samples_of (f.runs ++ more))) (more_items f.runs more)) (hands_then f.hands hands);
-}
+-- one list more
+module _ {done : Bool} {by : Definitions} {before mid after : ℕ → List Item → Type 0} {parents : List (Option ℕ)} {g0 g1 : List (List Run) → Type 0} {t0 t1 t2 : (ℕ → List Mark) → Type 0} (g2 : List (List Run) → Type 0) (runs : List Run)
+    (f : FedRuns true by before mid parents g0 g1 t0 t1) (gave : (earlier : List (List Run)) → g1 earlier → g2 (earlier ++ runs ∷ []))
+    (hands : Hands done by mid after parents t1 t2 None (λ _. run_items runs) (λ _. run_items runs ∷ [])) where
+  more_is : map Sample (samples_in f.lists) ++ run_items runs ≡ map Sample (samples_in (f.lists ++ runs ∷ []))
+  more_is = ap (λ (l : List Run). map Sample (samples_in f.lists) ++ map Sample (samples_of l)) (sym (append-nil runs)) ∙ lists_items f.lists (runs ∷ [])
 
--- the feed has given its last run
-pub fed_none : {whole : ℕ → List Item → List Out} {before after : ℕ → List Item → Type 0} {parents : List (Option ℕ)} {g0 g1 : List Run → Type 0} {t0 t1 : (ℕ → List Mark) → Type 0} (g2 : List Run → Type 0) (more : List Run)
-    → FedRuns true whole before after parents g0 g1 t0 t1 → ((earlier : List Run) → g1 earlier → g2 (earlier ++ more)) → more ≡ [] → FedRuns true whole before after parents g0 g2 t0 t1
-fed_none g2 more f gave none = record {
-  runs = f.runs;
-  gave = λ earlier had. subst g2 (ap (λ (l : List Run). (earlier ++ f.runs) ++ l) none ∙ append-nil (earlier ++ f.runs)) (gave (earlier ++ f.runs) (f.gave earlier had));
+  abbrev all : Hands done by before after parents t0 t2 None (λ _. map Sample (samples_in (f.lists ++ runs ∷ []))) (λ _. map run_items (f.lists ++ runs ∷ []))
+  all =
+      hands_reach (λ _. map Sample (samples_in (f.lists ++ runs ∷ []))) (λ _. map run_items (f.lists ++ runs ∷ []))
+      (λ j parent at on. reaches_weaker done (map Sample (samples_in f.lists) ++ run_items runs) (map Sample (samples_in (f.lists ++ runs ∷ []))) more_is)
+      (λ j parent at on. reaches_weaker done (map run_items f.lists ++ run_items runs ∷ []) (map run_items (f.lists ++ runs ∷ [])) (lists_feeds f.lists (runs ∷ []))) (hands_then f.hands hands)
+
+  pub fed_runs : FedRuns done by before after parents g0 g2 t0 t2
+  fed_runs = record {
+    lists = f.lists ++ runs ∷ [];
+    gave = λ earlier had. subst g2 (append_assoc earlier f.lists (runs ∷ [])) (gave (earlier ++ f.lists) (f.gave earlier had));
+    hands = all;
+    broken = λ stopped. record {
+      done = f.lists;
+      last = runs;
+      split = refl;
+      front = f.hands.change;
+      gives = λ j input b. (f.hands.each j).gives input b;
+      handed = λ j. f.hands.handed j;
+      down = f.hands.down;
+      back = hands.change.marks;
+      made = λ j. refl;
+      some = hands.some stopped;
+    };
+  }
+
+-- the feed has given its last list
+pub fed_none : {by : Definitions} {before after : ℕ → List Item → Type 0} {parents : List (Option ℕ)} {g0 g1 : List (List Run) → Type 0} {t0 t1 : (ℕ → List Mark) → Type 0} (g2 : List (List Run) → Type 0)
+    → FedRuns true by before after parents g0 g1 t0 t1 → ((earlier : List (List Run)) → g1 earlier → g2 (earlier ++ [])) → FedRuns true by before after parents g0 g2 t0 t1
+fed_none g2 f gave = record {
+  lists = f.lists;
+  gave = λ earlier had. subst g2 (append-nil (earlier ++ f.lists)) (gave (earlier ++ f.lists) (f.gave earlier had));
   hands = f.hands;
+  broken = f.broken;
 }
 
 -- the same marks

@@ -1,7 +1,9 @@
 -- What was taken of each instance, by the definition of its tree.
-use Rattle.std.proofs.Common.{◌≡◌, ◌<◌, ◌+◌, ℕ, zero, suc, Bool, true, false, List, [], ◌∷◌, ◌++◌, map, length, length-append, slice_get, get_or, Option, Some, None, refl, sym, ◌∙◌, ap, subst, arith, append_assoc}
+use Rattle.std.proofs.Common.{◌≡◌, ◌<◌, ◌+◌, ℕ, zero, suc, Bool, true, false, List, [], ◌∷◌, ◌++◌, map, drop, length, length-append, slice_get, get_or, Option, Some, None, refl, sym, ◌∙◌, ap, subst, arith, append_assoc}
 use Rattle.std.proofs.lemmas.List.{append-nil, append_cancel_left}
+use Rattle.std.proofs.Math.Seq.{drop-append_seam}
 use Rattle.std.proofs.lemmas.Option.{slice_get-get_or, slice_get_within}
+use Rattle.la_base.specs.declared.samples.Run.{Run}
 use Rattle.la_base.specs.declared.wires.Mark.{Mark}
 use Rattle.la_base.specs.declared.wires.Out.{Out}
 use Rattle.decoder_core.specs.Inputs.{Item, Sample}
@@ -9,9 +11,12 @@ use Rattle.decoder_core.specs.Promises.{KeepsFront}
 use Rattle.decoder_core.specs.Marks.{FloorsHold, marks_of, shown}
 use Rattle.decoder_core.specs.Trees.{Node, given, input_of, outputs_behind, packets_in, packets_of}
 use Rattle.stack_direct.specs.Machines.{whole_of, outputs_at}
-use Rattle.stack_direct.specs.Passing.{Reaches, Change, Hands, IsForest}
-use Rattle.stack_direct.specs.Runs.{nodes_of, input_at, input_by}
-use Rattle.stack_direct.proofs.Lists.{packets-append, marks-append}
+use Rattle.stack_direct.specs.Floors.{alone}
+use Rattle.stack_direct.specs.Passing.{Change, Down, IsForest, Passes}
+use Rattle.stack_direct.specs.Reaching.{Reaches}
+use Rattle.stack_direct.specs.Runs.{nodes_of, input_at, input_by, feeds_of, run_items}
+use Rattle.stack_direct.proofs.Flooring.{reaches_alone}
+use Rattle.stack_direct.proofs.Lists.{packets-append, marks-append, reaches_trans}
 
 -- the outputs of a tree, instance by instance
 get_front : {X : Type 0} (xs ys : List X) (k : ℕ) → k < length xs → slice_get (xs ++ ys) k ≡ slice_get xs k
@@ -169,38 +174,47 @@ prefix_rest whole keeps input more =
     (k.0, k.1, λ none. sym (append_cancel_left (whole input) [] k.0 (append-nil (whole input) ∙ sym (ap whole (ap (λ (l : List Item). input ++ l) none ∙ append-nil input)) ∙ k.1)))
 
 -- a tree whose inputs were those of some samples, and then of more
-module _ {done : Bool} {whole : ℕ → List Item → List Out} {before after : ℕ → List Item → Type 0} {parents : List (Option ℕ)} {t0 t1 : (ℕ → List Mark) → Type 0} {items : List Item}
-    (h : Hands done whole before after parents t0 t1 None (λ _. items)) (forest : IsForest parents) (keeps : (j : ℕ) → j < length parents → KeepsFront (whole j))
+module _ {done : Bool} (whole : ℕ → List Item → List Out) {before : ℕ → List Item → Type 0} {parents : List (Option ℕ)} {items : List Item} (lists : List (List Run)) (c : Change)
+    (down : Down done None (λ _. items) (λ _. map run_items lists) parents c)
+    (gave : (j : ℕ) (input : List Item) → before j input → whole j (input ++ c.grown j) ≡ whole j input ++ c.added j)
+    (forest : IsForest parents) (keeps : (j : ℕ) → j < length parents → KeepsFront (whole j))
     (was now : ℕ → List Item)
     (root : (j : ℕ) → slice_get parents j ≡ Some None → now j ≡ was j ++ items)
     (child_was : (j p : ℕ) → slice_get parents j ≡ Some (Some p) → p < j → was j ≡ packets_of (whole p (was p)))
     (child_now : (j p : ℕ) → slice_get parents j ≡ Some (Some p) → p < j → now j ≡ packets_of (whole p (now p)))
     (stood : (j : ℕ) → j < length parents → before j (was j)) where
-  abbrev c : Change
-  c = h.change
-
   -- its input has grown by what it was given, and by what was left where it was stopped
   abbrev Grows : ℕ → Type 0
   Grows j = (rest : List Item) × (now j ≡ (was j ++ c.grown j) ++ rest) × (done ≡ true → rest ≡ [])
 
   grow_root : (j : ℕ) → slice_get parents j ≡ Some None → Grows j
   grow_root j at =
-      let r = reach_rest done (c.grown j) items (h.down.links j None at) in
+      let r = reach_rest done (c.grown j) items (down.links j None at) in
       (r.0, root j at ∙ ap (λ (l : List Item). was j ++ l) (sym r.1) ∙ sym (append_assoc (was j) (c.grown j) r.0), r.2)
+
+  -- what a child gains of what its parent gains
+  child_gains : (j p : ℕ) → slice_get parents j ≡ Some (Some p) → p < j → p < length parents → Grows p
+      → (extra : List Item) × (now j ≡ was j ++ (packets_of (c.added p) ++ extra)) × (done ≡ true → extra ≡ [])
+  child_gains j p at low within g =
+      let more = prefix_rest (whole p) (keeps p within) (was p ++ c.grown p) g.0 in
+      let had = gave p (was p) (stood p within) in
+      let outs : whole p (now p) ≡ whole p (was p) ++ (c.added p ++ more.0) =
+      ap (whole p) g.1 ∙ more.1 ∙ ap (λ (l : List Out). l ++ more.0) had ∙ append_assoc (whole p (was p)) (c.added p) more.0 in
+      let gains : packets_of (whole p (was p) ++ (c.added p ++ more.0)) ≡ packets_of (whole p (was p)) ++ (packets_of (c.added p) ++ packets_of more.0) =
+      packets-append (whole p (was p)) (c.added p ++ more.0) ∙ ap (λ (l : List Item). packets_of (whole p (was p)) ++ l) (packets-append (c.added p) more.0) in (
+        packets_of more.0,
+        child_now j p at low ∙ ap packets_of outs ∙ gains ∙ ap (λ (l : List Item). l ++ (packets_of (c.added p) ++ packets_of more.0)) (sym (child_was j p at low)),
+        λ d. ap packets_of (more.2 (g.2 d)),
+      )
 
   grow_child : (j p : ℕ) → slice_get parents j ≡ Some (Some p) → p < j → p < length parents → Grows p → Grows j
   grow_child j p at low within g =
-      let r = reach_rest done (c.grown j) (packets_of (c.added p)) (h.down.links j (Some p) at) in
-      let more = prefix_rest (whole p) (keeps p within) (was p ++ c.grown p) g.0 in
-      let had = (h.each p).gives (was p) (stood p within) in
-      let from = sym (child_was j p at low) in
-      let rest = sym r.1 in
-      let outs : whole p (now p) ≡ (whole p (was p) ++ c.added p) ++ more.0 = ap (whole p) g.1 ∙ more.1 ∙ ap (λ (l : List Out). l ++ more.0) had in (
-        r.0 ++ packets_of more.0,
-        child_now j p at low ∙ ap packets_of outs ∙ packets-append (whole p (was p) ++ c.added p) more.0 ∙ ap (λ (l : List Item). l ++ packets_of more.0) (packets-append (whole p (was p)) (c.added p))
-            ∙ (λ i. (from i ++ rest i) ++ packets_of more.0)
-            ∙ ap (λ (l : List Item). l ++ packets_of more.0) (sym (append_assoc (was j) (c.grown j) r.0)) ∙ append_assoc (was j ++ c.grown j) r.0 (packets_of more.0),
-        λ d. (λ i. r.2 d i ++ packets_of (more.2 (g.2 d) i)),
+      let r = reach_rest done (c.grown j) (packets_of (c.added p)) (down.links j (Some p) at) in
+      let gains = child_gains j p at low within g in
+      let all : packets_of (c.added p) ++ gains.0 ≡ c.grown j ++ (r.0 ++ gains.0) = ap (λ (l : List Item). l ++ gains.0) (sym r.1) ∙ append_assoc (c.grown j) r.0 gains.0 in (
+        r.0 ++ gains.0,
+        gains.1 ∙ ap (λ (l : List Item). was j ++ l) all ∙ sym (append_assoc (was j) (c.grown j) (r.0 ++ gains.0)),
+        λ d. (λ i. r.2 d i ++ gains.2 d i),
       )
 
   grow_below : (n j : ℕ) → j < n → j < length parents → Grows j
@@ -214,12 +228,33 @@ module _ {done : Bool} {whole : ℕ → List Item → List Out} {before after : 
   pub grows : (j : ℕ) → j < length parents → Grows j
   grows j within = grow_below (suc j) j (omega arith) within
 
+  -- its feeds
+  fed_child : (j p : ℕ) → slice_get parents j ≡ Some (Some p) → p < j → p < length parents → Reaches done (c.feeds j) (alone (drop (length (was j)) (now j)))
+  fed_child j p at low within =
+      let gains = child_gains j p at low within (grows p within) in
+      let left : drop (length (was j)) (now j) ≡ packets_of (c.added p) ++ gains.0 = ap (drop (length (was j))) gains.1 ∙ drop-append_seam (was j) (packets_of (c.added p) ++ gains.0) in
+      reaches_trans done (c.feeds j) (alone (packets_of (c.added p))) (alone (drop (length (was j)) (now j))) (down.fed j (Some p) at)
+      (subst (λ (l : List Item). Reaches done (alone (packets_of (c.added p))) (alone l)) (sym left) (reaches_alone done (packets_of (c.added p)) (packets_of (c.added p) ++ gains.0) (further done gains.0 gains.2)))
+    where
+      further : (way : Bool) (extra : List Item) → (way ≡ true → extra ≡ []) → Reaches way (packets_of (c.added p)) (packets_of (c.added p) ++ extra)
+      further true extra none = sym (append-nil (packets_of (c.added p))) ∙ ap (λ (l : List Item). packets_of (c.added p) ++ l) (sym (none refl))
+      further false extra none = (extra, refl)
+
+  pub fed : (j : ℕ) → j < length parents → Reaches done (c.feeds j) (feeds_of lists (slice_get parents j) (was j) (now j))
+  fed j within = by (get_or parents j None) (slice_get-get_or parents j None within)
+    where
+      by : (parent : Option ℕ) → slice_get parents j ≡ Some parent → Reaches done (c.feeds j) (feeds_of lists (slice_get parents j) (was j) (now j))
+      by None at = subst (λ (o : Option (Option ℕ)). Reaches done (c.feeds j) (feeds_of lists o (was j) (now j))) (sym at) (down.fed j None at)
+      by (Some p) at =
+          let less = forest j p at in
+          subst (λ (o : Option (Option ℕ)). Reaches done (c.feeds j) (feeds_of lists o (was j) (now j))) (sym at) (fed_child j p at less (omega (arith, less, within)))
+
   -- and its outputs by these
-  pub tells : (j : ℕ) → j < length parents → (new : List Out) × (whole j (now j) ≡ whole j (was j) ++ new) × Reaches done (shown (c.marks j)) (marks_of new)
+  pub tells : {after : ℕ → List Item → Type 0} → ((j : ℕ) → Passes done (whole j) (before j) (after j) (c.grown j) (c.added j) (c.marks j)) → (j : ℕ) → j < length parents → (new : List Out) × (whole j (now j) ≡ whole j (was j) ++ new) × Reaches done (shown (c.marks j)) (marks_of new)
       × ((more : List Item) (rest : List Out) → whole j (now j ++ more) ≡ whole j (was j) ++ (new ++ rest) → FloorsHold (c.marks j) (marks_of (new ++ rest)))
-  tells j within =
+  tells each j within =
       let g = grows j within in
-      let p = h.each j in
+      let p = each j in
       let more = prefix_rest (whole j) (keeps j within) (was j ++ c.grown j) g.0 in (
         c.added j ++ more.0,
         ap (whole j) g.1 ∙ more.1 ∙ ap (λ (l : List Out). l ++ more.0) (p.gives (was j) (stood j within)) ∙ append_assoc (whole j (was j)) (c.added j) more.0,

@@ -1,3 +1,6 @@
+pub mod Reaching
+pub mod Floors
 pub mod Passing
 pub mod Machines
+pub mod Taking
 pub mod Runs

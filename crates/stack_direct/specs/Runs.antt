@@ -1,36 +1,64 @@
--- What a run of a tree of decoders gives: for each instance the notes and pieces of its definition on its whole input.
-use Rattle.std.specs.Prelude.{ℕ, ◌≡◌, ◌<◌, nat_lt, Bool, true, if◌then◌else◌, List, [], ◌∷◌, ◌++◌, map, length, slice_get, Option, Some, None}
+-- What a run of a tree of decoders gives: for each instance the notes and pieces of its definition
+-- on its whole input.
+use Rattle.std.specs.Prelude.{ℕ, ◌≡◌, ◌<◌, ◌≢◌, drop, nat_lt, Bool, true, false, if◌then◌else◌}
+use Rattle.std.specs.Prelude.{List, [], ◌∷◌, ◌++◌, map, length, slice_get, Option, Some, None}
 use Rattle.la_base.specs.Runs.{samples_of}
 use Rattle.la_base.specs.declared.samples.Run.{Run}
 use Rattle.la_base.specs.declared.wires.Mark.{Mark}
 use Rattle.la_base.specs.declared.wires.Mark.TheVariants.{End as EndMark}
 use Rattle.la_base.specs.declared.wires.Out.{Out}
+use Rattle.la_io.specs.Feeds.{together}
 use Rattle.decoder_core.specs.Inputs.{Item, Sample}
 use Rattle.decoder_core.specs.Trees.{Node, given, input_of}
 use Rattle.decoder_core.specs.Marks.{marks_of, shown, FloorsHold}
 use Rattle.decoder_core.specs.declared.end.RunEnd.{RunEnd}
-use Rattle.decoder_core.specs.declared.end.RunEnd.TheVariants.{Ended}
-use Rattle.stack_direct.specs.Passing.{Reaches, NoEnd, Took, Hands}
-use Rattle.stack_direct.specs.Machines.{whole_of}
+use Rattle.decoder_core.specs.declared.end.RunEnd.TheVariants.{Ended, Stopped}
+use Rattle.stack_direct.specs.Floors.{Floored, FrontOfFloored, Handed, alone}
+use Rattle.stack_direct.specs.Machines.{Definitions, near_of, whole_of}
+use Rattle.stack_direct.specs.Passing.{Change, Down, Hands, NoEnd, Took}
+use Rattle.stack_direct.specs.Reaching.{Reaches}
 
 -- the decoders of a tree, by their setups and the places that they stand on
 abbrev pub nodes_of : {S : Type 0} → List S → List (Option ℕ) → List (Node S)
 nodes_of [] parents = []
 nodes_of (setup ∷ setups) [] = []
-nodes_of (setup ∷ setups) (parent ∷ parents) = record { setup = setup; parent = parent } ∷ nodes_of setups parents
+nodes_of (setup ∷ setups) (parent ∷ parents) =
+    record { setup = setup; parent = parent } ∷ nodes_of setups parents
 
 abbrev pub input_by : {S : Type 0} → List ℕ → List (List Out) → Option (Node S) → List Item
 input_by samples all None = []
 input_by samples all (Some node) = input_of samples all node.parent
 
 -- what the instance at a place reads, on samples
-abbrev pub input_at : {S : Type 0} → (S → List Item → List Out) → List (Node S) → List ℕ → ℕ → List Item
-input_at outputs nodes samples j = input_by samples (given outputs samples nodes) (slice_get nodes j)
+abbrev pub input_at : {S : Type 0} → (S → List Item → List Out) → List (Node S) → List ℕ → ℕ
+    → List Item
+input_at outputs nodes samples j =
+    input_by samples (given outputs samples nodes) (slice_get nodes j)
 
--- the marks that were taken of an instance, whose outputs by its definition are `whole`, and whose input grew from `was` to `now`: the notes and
--- pieces that this adds, in their order, each once, or a front of them; End last and nowhere else, and only behind all of them; and behind each
--- floor all that starts before it has been taken
-pub record Told (result : RunEnd) (at_end : Bool) (whole : List Item → List Out) (was now : List Item) (marks : List Mark) : Type 0 where
+-- the samples of lists of runs
+abbrev pub samples_in : List (List Run) → List ℕ
+samples_in lists = samples_of (together lists)
+
+-- runs as a feed
+abbrev pub run_items : List Run → List Item
+run_items runs = map Sample (samples_of runs)
+
+-- the feeds of an instance, by the place on which it stands: of a root each list of runs; of any
+-- other each packet that its input gained
+abbrev pub feeds_of : List (List Run) → Option (Option ℕ) → List Item → List Item
+    → List (List Item)
+feeds_of lists None was now = []
+feeds_of lists (Some None) was now = map run_items lists
+feeds_of lists (Some (Some parent)) was now = alone (drop (length was) now)
+
+-- the marks that were taken of an instance, whose outputs by its definition are `whole`, and whose
+-- input grew from `was` to `now` by these feeds: the notes and pieces that this adds, in their
+-- order, each once, or a front of them; End last and nowhere else, and only behind all of them;
+-- behind each floor all that starts before it has been taken; and behind each feed that was handed
+-- whole a floor
+pub record Told (result : RunEnd) (at_end : Bool) (whole : List Item → List Out)
+    (near : List Item → ℕ) (was now : List Item) (feeds : List (List Item)) (marks : List Mark)
+    : Type 0 where
   pub body : List Mark
   pub closed : Bool
   pub new : List Out
@@ -38,31 +66,111 @@ pub record Told (result : RunEnd) (at_end : Bool) (whole : List Item → List Ou
   pub no_end : NoEnd body
   pub adds : whole now ≡ whole was ++ new
   pub shows : Reaches closed (shown body) (marks_of new)
-  pub floors : (more : List Item) (rest : List Out) → whole (now ++ more) ≡ whole was ++ (new ++ rest) → FloorsHold body (marks_of (new ++ rest))
+  pub floors : (more : List Item) (rest : List Out)
+      → whole (now ++ more) ≡ whole was ++ (new ++ rest) → FloorsHold body (marks_of (new ++ rest))
+  pub floored : FrontOfFloored closed whole near was feeds body
   pub whole_at_end : closed ≡ true → at_end ≡ true
   pub closes : result ≡ Ended → closed ≡ true
 
--- runs were given, and handed to those that stand on nothing
-pub record FedRuns (done : Bool) (whole : ℕ → List Item → List Out) (before after : ℕ → List Item → Type 0) (parents : List (Option ℕ)) (gave_old gave_new : List Run → Type 0) (took_old took_new : (ℕ → List Mark) → Type 0) : Type 0 where
-  pub runs : List Run
-  pub gave : (earlier : List Run) → gave_old earlier → gave_new (earlier ++ runs)
-  pub hands : Hands done whole before after parents took_old took_new None (λ _. map Sample (samples_of runs))
+-- where the handing on of lists of runs was stopped: in the last one, of which some mark was taken
+pub record Broken (by : Definitions) (before : ℕ → List Item → Type 0) (parents : List (Option ℕ))
+    (lists : List (List Run)) (marks : ℕ → List Mark) : Type 0 where
+  pub done : List (List Run)
+  pub last : List Run
+  pub split : lists ≡ done ++ last ∷ []
+  pub front : Change
+  pub gives : (j : ℕ) (input : List Item) → before j input
+      → by.whole j (input ++ front.grown j) ≡ by.whole j input ++ front.added j
+  pub handed : (j : ℕ)
+      → Handed true (by.whole j) (by.near j) (before j) (front.grown j) (front.feeds j)
+      (front.marks j)
+  pub down : Down true None (λ _. map Sample (samples_in done)) (λ _. map run_items done) parents
+      front
+  pub back : ℕ → List Mark
+  pub made : (j : ℕ) → marks j ≡ front.marks j ++ back j
+  pub some : (j : ℕ) × (back j ≢ [])
+
+-- lists of runs were given, and handed to those that stand on nothing
+pub record FedRuns (done : Bool) (by : Definitions) (before after : ℕ → List Item → Type 0)
+    (parents : List (Option ℕ)) (gave_old gave_new : List (List Run) → Type 0)
+    (took_old took_new : (ℕ → List Mark) → Type 0) : Type 0 where
+  pub lists : List (List Run)
+  pub gave : (earlier : List (List Run)) → gave_old earlier → gave_new (earlier ++ lists)
+  pub hands : Hands done by before after parents took_old took_new None
+      (λ _. map Sample (samples_in lists)) (λ _. map run_items lists)
+  pub broken : done ≡ false → Broken by before parents lists hands.change.marks
 
 -- End was taken of the instances before place k
 abbrev pub TookEnds : ((ℕ → List Mark) → Type 0) → ((ℕ → List Mark) → Type 0) → ℕ → Type 0
 TookEnds old new k = Took old new (λ j. if nat_lt j k then EndMark ∷ [] else [])
 
-module _ {S : Type 0} (outputs : S → List Item → List Out) (setups : List S) (parents : List (Option ℕ)) where
+-- a run came to its end
+abbrev pub is_ended : RunEnd → Bool
+is_ended Ended = true
+is_ended Stopped = false
+
+-- what was given and not handed on whole: nothing, where the feed was at its end; else one list
+abbrev pub LeftBy : Bool → List (List Run) → Type 0
+LeftBy true left = left ≡ []
+LeftBy false left = (last : List Run) × (left ≡ last ∷ [])
+
+module _ {S : Type 0} (outputs : S → List Item → List Out) (setups : List S)
+    (parents : List (Option ℕ)) where
+  abbrev pub input_on : List ℕ → ℕ → List Item
+  input_on samples j = input_at outputs (nodes_of setups parents) samples j
+
   -- each instance stands for its input on these samples
   abbrev pub StandOn : (ℕ → List Item → Type 0) → List ℕ → Type 0
-  StandOn stand samples = (j : ℕ) → j < length parents → stand j (input_at outputs (nodes_of setups parents) samples j)
+  StandOn stand samples = (j : ℕ) → j < length parents → stand j (input_on samples j)
 
-  -- a run of the tree: the runs that the feed gave, the marks that were taken, and what they are, behind any samples that the instances stood for
-  pub record RunsOn (before after : ℕ → List Item → Type 0) (gave_old gave_new : List Run → Type 0) (took_old took_new : (ℕ → List Mark) → Type 0) (at_end : Bool) (result : RunEnd) : Type 0 where
-    pub runs : List Run
+  -- the feeds of an instance where lists of runs come behind samples
+  abbrev pub feeds_on : List ℕ → List (List Run) → ℕ → List (List Item)
+  feeds_on samples lists j =
+      feeds_of lists (slice_get parents j) (input_on samples j)
+      (input_on (samples ++ samples_in lists) j)
+
+module _ {S : Type 0} (outputs : S → List Item → List Out) (near : S → List Item → ℕ)
+    (setups : List S) (parents : List (Option ℕ)) where
+  abbrev input : List ℕ → ℕ → List Item
+  input samples j = input_on outputs setups parents samples j
+
+  abbrev feeds : List ℕ → List (List Run) → ℕ → List (List Item)
+  feeds samples lists j = feeds_on outputs setups parents samples lists j
+
+  -- where a run was stopped: these lists were handed on whole, and behind their marks some mark was
+  -- taken. The feed wasn't read on: of one that isn't at its end only the list is left in which it
+  -- was stopped
+  pub record StoppedIn (samples : List ℕ) (lists : List (List Run)) (at_end : Bool)
+      (marks : ℕ → List Mark) : Type 0 where
+    pub done : List (List Run)
+    pub left : List (List Run)
+    pub split : lists ≡ done ++ left
+    pub last : LeftBy at_end left
+    pub front : ℕ → List Mark
+    pub back : ℕ → List Mark
+    pub made : (j : ℕ) → marks j ≡ front j ++ back j
+    pub handed : (j : ℕ) → j < length parents
+        → Floored (whole_of outputs setups j) (near_of near setups j) (input samples j)
+        (feeds samples done j) (front j)
+    pub some : (j : ℕ) × (back j ≢ [])
+
+  -- a run of the tree: the lists of runs that the feed gave, the marks that were taken, and what
+  -- they are, behind any samples that the instances stood for
+  pub record RunsOn (before after : ℕ → List Item → Type 0)
+      (gave_old gave_new : List (List Run) → Type 0)
+      (took_old took_new : (ℕ → List Mark) → Type 0) (at_end : Bool) (result : RunEnd)
+      : Type 0 where
+    pub lists : List (List Run)
     pub marks : ℕ → List Mark
-    pub gave : (earlier : List Run) → gave_old earlier → gave_new (earlier ++ runs)
+    pub gave : (earlier : List (List Run)) → gave_old earlier → gave_new (earlier ++ lists)
     pub took : Took took_old took_new marks
-    pub told : (samples : List ℕ) → StandOn before samples → (j : ℕ) → j < length parents
-        → Told result at_end (whole_of outputs setups j) (input_at outputs (nodes_of setups parents) samples j) (input_at outputs (nodes_of setups parents) (samples ++ samples_of runs) j) (marks j)
-    pub stand : result ≡ Ended → (samples : List ℕ) → StandOn before samples → StandOn after (samples ++ samples_of runs)
+    pub told : (samples : List ℕ) → StandOn outputs setups parents before samples → (j : ℕ)
+        → j < length parents
+        → Told result at_end (whole_of outputs setups j) (near_of near setups j)
+        (input samples j) (input (samples ++ samples_in lists) j)
+        (feeds samples lists j) (marks j)
+    pub stopped : result ≡ Stopped → (samples : List ℕ)
+        → StandOn outputs setups parents before samples
+        → StoppedIn samples lists at_end marks
+    pub stand : result ≡ Ended → (samples : List ℕ) → StandOn outputs setups parents before samples
+        → StandOn outputs setups parents after (samples ++ samples_in lists)

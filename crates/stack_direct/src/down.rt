@@ -1,19 +1,20 @@
 // Handing a packet down a tree.
-ghost use Rattle.std.specs.Prelude.{◌≡◌, ◌≢◌, ◌<◌, ◌≤◌, ◌∷◌, [], ℕ, List, Some, length, map, slice_get};
+ghost use Rattle.std.specs.Prelude.{◌≡◌, ◌≢◌, ◌<◌, ◌≤◌, ◌∷◌, [], ℕ, List, Some, length, map};
+ghost use Rattle.std.specs.Prelude.{slice_get};
 ghost use Rattle.std.specs.Result.{is_ok};
 ghost use Rattle.decoder_core.specs.Inputs.{Item, Pack};
-ghost use Rattle.la_io.specs.Causes.{HasCause};
-ghost use Rattle.stack_direct.specs.Passing.{IsForest, Hands, Feeds, Gives, first_on, only};
-ghost use Rattle.stack_direct.specs.Machines.{Stand, whole_of};
+ghost use Rattle.stack_direct.specs.Passing.{Hands, Feeds, Gives, first_on, only};
+ghost use Rattle.stack_direct.specs.Taking.{GoesOn, IsTree};
+ghost use Rattle.stack_direct.specs.Machines.{Stand, defined};
 
 use crate::parts::{floor_at, mark, same_place, step_packet_at};
 use decoder_core::{Machine, Outs};
 use la_base::{Mark, Out, Packet};
 use la_io::{MarkTake, Stopped};
 
-/// Hands a packet to each machine that stands on `above`, and what these put out to those that stand
-/// on them. `rooms` is room for the outputs of steps, one for each depth as far as it reaches: to make room
-/// anew for each packet fills it with default values.
+/// Hands a packet to each machine that stands on `above`, and what these put out to those that
+/// stand on them. `rooms` is room for the outputs of steps, one for each depth as far as it
+/// reaches: to make room anew for each packet fills it with default values.
 #[cycle(tree)]
 #[inline(always)]
 pub fn hand<M: Machine, G: MarkTake>(
@@ -24,15 +25,13 @@ pub fn hand<M: Machine, G: MarkTake>(
     rooms: &mut [Outs],
     take: &mut G,
 ) -> Result<(), Stopped>
-    requires forest { IsForest parents.now }
-    requires few { length parents.now ≤ 24 }
-    requires each { length machines.old ≡ length parents.now }
-    requires takes { G.instances take.old ≡ length parents.now }
+    requires tree { IsTree parents.now (length machines.old) (G.instances take.old) }
     ensures setups { map M.setup machines.new ≡ map M.setup machines.old }
-    ensures hands { Hands (is_ok result) (whole_of M.outputs (map M.setup machines.old)) (Stand M.consumed machines.old) (Stand M.consumed machines.new) parents.now (G.took take.old) (G.took take.new) above (λ _. Pack packet.now ∷ []) }
-    ensures instances { G.instances take.new ≡ G.instances take.old }
-    ensures origin { G.origin take.new ≡ G.origin take.old }
-    ensures cause { HasCause (G.stops take.old) (G.stops take.new) result }
+    ensures hands { Hands (is_ok result) (defined M.outputs M.near (map M.setup machines.old))
+        (Stand M.consumed machines.old) (Stand M.consumed machines.new) parents.now
+        (G.took take.old) (G.took take.new) above (λ _. Pack packet.now ∷ [])
+        (λ _. (Pack packet.now ∷ []) ∷ []) }
+    ensures takes { GoesOn G.instances G.origin G.stops G.going take.old take.new result }
 {
     for (place, parent) in parents.iter().enumerate() {
         match hand_to(
@@ -65,17 +64,15 @@ pub fn hand_to<M: Machine, G: MarkTake>(
     rooms: &mut [Outs],
     take: &mut G,
 ) -> Result<(), Stopped>
-    requires forest { IsForest parents.now }
-    requires few { length parents.now ≤ 24 }
+    requires tree { IsTree parents.now (length machines.old) (G.instances take.old) }
     requires parent { slice_get parents.now instance ≡ Some parent }
     requires within { instance < length parents.now }
-    requires each { length machines.old ≡ length parents.now }
-    requires takes { G.instances take.old ≡ length parents.now }
     ensures setups { map M.setup machines.new ≡ map M.setup machines.old }
-    ensures hands { Hands (is_ok result) (whole_of M.outputs (map M.setup machines.old)) (Stand M.consumed machines.old) (Stand M.consumed machines.new) parents.now (G.took take.old) (G.took take.new) above (only instance (Pack packet.now ∷ [])) }
-    ensures instances { G.instances take.new ≡ G.instances take.old }
-    ensures origin { G.origin take.new ≡ G.origin take.old }
-    ensures cause { HasCause (G.stops take.old) (G.stops take.new) result }
+    ensures hands { Hands (is_ok result) (defined M.outputs M.near (map M.setup machines.old))
+        (Stand M.consumed machines.old) (Stand M.consumed machines.new) parents.now
+        (G.took take.old) (G.took take.new) above (only instance (Pack packet.now ∷ []))
+        (only instance ((Pack packet.now ∷ []) ∷ [])) }
+    ensures takes { GoesOn G.instances G.origin G.stops G.going take.old take.new result }
 {
     if same_place(parent, above) {
         pass(machines, parents, instance, packet, rooms, take)
@@ -96,16 +93,13 @@ pub fn pass<M: Machine, G: MarkTake>(
     rooms: &mut [Outs],
     take: &mut G,
 ) -> Result<(), Stopped>
-    requires forest { IsForest parents.now }
-    requires few { length parents.now ≤ 24 }
+    requires tree { IsTree parents.now (length machines.old) (G.instances take.old) }
     requires within { instance < length parents.now }
-    requires each { length machines.old ≡ length parents.now }
-    requires takes { G.instances take.old ≡ length parents.now }
     ensures setups { map M.setup machines.new ≡ map M.setup machines.old }
-    ensures feeds { Feeds (is_ok result) (whole_of M.outputs (map M.setup machines.old)) (Stand M.consumed machines.old) (Stand M.consumed machines.new) parents.now (G.took take.old) (G.took take.new) instance (Pack packet.now ∷ []) }
-    ensures instances { G.instances take.new ≡ G.instances take.old }
-    ensures origin { G.origin take.new ≡ G.origin take.old }
-    ensures cause { HasCause (G.stops take.old) (G.stops take.new) result }
+    ensures feeds { Feeds (is_ok result) (defined M.outputs M.near (map M.setup machines.old))
+        (Stand M.consumed machines.old) (Stand M.consumed machines.new) parents.now
+        (G.took take.old) (G.took take.new) instance (Pack packet.now ∷ []) }
+    ensures takes { GoesOn G.instances G.origin G.stops G.going take.old take.new result }
 {
     match rooms.split_first_mut() {
         Some((outs, deeper)) => {
@@ -126,16 +120,13 @@ pub fn pass_anew<M: Machine, G: MarkTake>(
     packet: &Packet,
     take: &mut G,
 ) -> Result<(), Stopped>
-    requires forest { IsForest parents.now }
-    requires few { length parents.now ≤ 24 }
+    requires tree { IsTree parents.now (length machines.old) (G.instances take.old) }
     requires within { instance < length parents.now }
-    requires each { length machines.old ≡ length parents.now }
-    requires takes { G.instances take.old ≡ length parents.now }
     ensures setups { map M.setup machines.new ≡ map M.setup machines.old }
-    ensures feeds { Feeds (is_ok result) (whole_of M.outputs (map M.setup machines.old)) (Stand M.consumed machines.old) (Stand M.consumed machines.new) parents.now (G.took take.old) (G.took take.new) instance (Pack packet.now ∷ []) }
-    ensures instances { G.instances take.new ≡ G.instances take.old }
-    ensures origin { G.origin take.new ≡ G.origin take.old }
-    ensures cause { HasCause (G.stops take.old) (G.stops take.new) result }
+    ensures feeds { Feeds (is_ok result) (defined M.outputs M.near (map M.setup machines.old))
+        (Stand M.consumed machines.old) (Stand M.consumed machines.new) parents.now
+        (G.took take.old) (G.took take.new) instance (Pack packet.now ∷ []) }
+    ensures takes { GoesOn G.instances G.origin G.stops G.going take.old take.new result }
 {
     let mut rooms = [Outs::new(), Outs::new(), Outs::new()];
     pass(machines, parents, instance, packet, &mut rooms, take)
@@ -153,17 +144,14 @@ pub fn pass_in<M: Machine, G: MarkTake>(
     rooms: &mut [Outs],
     take: &mut G,
 ) -> Result<(), Stopped>
-    requires forest { IsForest parents.now }
-    requires few { length parents.now ≤ 24 }
+    requires tree { IsTree parents.now (length machines.old) (G.instances take.old) }
     requires within { instance < length parents.now }
-    requires each { length machines.old ≡ length parents.now }
-    requires takes { G.instances take.old ≡ length parents.now }
     requires empty { outs.old ≡ [] }
     ensures setups { map M.setup machines.new ≡ map M.setup machines.old }
-    ensures feeds { Feeds (is_ok result) (whole_of M.outputs (map M.setup machines.old)) (Stand M.consumed machines.old) (Stand M.consumed machines.new) parents.now (G.took take.old) (G.took take.new) instance (Pack packet.now ∷ []) }
-    ensures instances { G.instances take.new ≡ G.instances take.old }
-    ensures origin { G.origin take.new ≡ G.origin take.old }
-    ensures cause { HasCause (G.stops take.old) (G.stops take.new) result }
+    ensures feeds { Feeds (is_ok result) (defined M.outputs M.near (map M.setup machines.old))
+        (Stand M.consumed machines.old) (Stand M.consumed machines.new) parents.now
+        (G.took take.old) (G.took take.new) instance (Pack packet.now ∷ []) }
+    ensures takes { GoesOn G.instances G.origin G.stops G.going take.old take.new result }
 {
     step_packet_at(machines, instance, *packet, outs);
     match give(machines, parents, instance, outs.list(), rooms, take) {
@@ -185,16 +173,13 @@ pub fn give<M: Machine, G: MarkTake>(
     rooms: &mut [Outs],
     take: &mut G,
 ) -> Result<(), Stopped>
-    requires forest { IsForest parents.now }
-    requires few { length parents.now ≤ 24 }
+    requires tree { IsTree parents.now (length machines.old) (G.instances take.old) }
     requires within { instance < length parents.now }
-    requires each { length machines.old ≡ length parents.now }
-    requires takes { G.instances take.old ≡ length parents.now }
     ensures setups { map M.setup machines.new ≡ map M.setup machines.old }
-    ensures gives { Gives (is_ok result) (whole_of M.outputs (map M.setup machines.old)) (Stand M.consumed machines.old) (Stand M.consumed machines.new) parents.now (G.took take.old) (G.took take.new) instance outs.now }
-    ensures instances { G.instances take.new ≡ G.instances take.old }
-    ensures origin { G.origin take.new ≡ G.origin take.old }
-    ensures cause { HasCause (G.stops take.old) (G.stops take.new) result }
+    ensures gives { Gives (is_ok result) (defined M.outputs M.near (map M.setup machines.old))
+        (Stand M.consumed machines.old) (Stand M.consumed machines.new) parents.now
+        (G.took take.old) (G.took take.new) instance outs.now }
+    ensures takes { GoesOn G.instances G.origin G.stops G.going take.old take.new result }
 {
     for out in outs {
         match give_one(machines, parents, instance, out, rooms, take) {
@@ -216,16 +201,13 @@ pub fn give_one<M: Machine, G: MarkTake>(
     rooms: &mut [Outs],
     take: &mut G,
 ) -> Result<(), Stopped>
-    requires forest { IsForest parents.now }
-    requires few { length parents.now ≤ 24 }
+    requires tree { IsTree parents.now (length machines.old) (G.instances take.old) }
     requires within { instance < length parents.now }
-    requires each { length machines.old ≡ length parents.now }
-    requires takes { G.instances take.old ≡ length parents.now }
     ensures setups { map M.setup machines.new ≡ map M.setup machines.old }
-    ensures gives { Gives (is_ok result) (whole_of M.outputs (map M.setup machines.old)) (Stand M.consumed machines.old) (Stand M.consumed machines.new) parents.now (G.took take.old) (G.took take.new) instance (out.now ∷ []) }
-    ensures instances { G.instances take.new ≡ G.instances take.old }
-    ensures origin { G.origin take.new ≡ G.origin take.old }
-    ensures cause { HasCause (G.stops take.old) (G.stops take.new) result }
+    ensures gives { Gives (is_ok result) (defined M.outputs M.near (map M.setup machines.old))
+        (Stand M.consumed machines.old) (Stand M.consumed machines.new) parents.now
+        (G.took take.old) (G.took take.new) instance (out.now ∷ []) }
+    ensures takes { GoesOn G.instances G.origin G.stops G.going take.old take.new result }
 {
     match out {
         Out::Note(note) => mark(take, instance, Mark::Note(*note)),

@@ -3,9 +3,9 @@ ghost use Rattle.std.specs.Prelude.{◌≡◌, ◌<◌, ◌≤◌, ◌∷◌, []
 ghost use Rattle.la_base.specs.Runs.{samples_of};
 ghost use Rattle.decoder_core.specs.Inputs.{Item, left_feed};
 ghost use Rattle.decoder_core.specs.Promises.{IsFloor};
-ghost use Rattle.la_io.specs.Causes.{HasCause};
 ghost use Rattle.stack_direct.specs.Passing.{Took, only, same_place};
-ghost use Rattle.stack_direct.specs.Machines.{Stand, StepsAt, StepsRunsAt, whole_of};
+ghost use Rattle.stack_direct.specs.Taking.{GoesOn};
+ghost use Rattle.stack_direct.specs.Machines.{Stand, StepsAt, StepsRunsAt, near_of, whole_of};
 
 use decoder_core::{Machine, Outs, Taken};
 use la_base::{Feed, Mark, Packet, Run};
@@ -25,7 +25,8 @@ pub fn step_runs_at<M: Machine>(
     ensures len { length machines.new ≡ length machines.old }
     ensures within { result.count ≤ length runs.now }
     ensures some { 0 < length runs.now → 0 < result.count }
-    ensures steps { StepsRunsAt instance (whole_of M.outputs (map M.setup machines.old)) (Stand M.consumed machines.old) (Stand M.consumed machines.new)
+    ensures steps { StepsRunsAt instance (whole_of M.outputs (map M.setup machines.old))
+        (Stand M.consumed machines.old) (Stand M.consumed machines.new)
         (samples_of (take result.count runs.now)) result.rest outs.new }
 {
     machines[instance as usize].step_runs(runs, outs)
@@ -43,7 +44,9 @@ pub fn step_run_at<M: Machine>(
     requires empty { outs.old ≡ [] }
     ensures setups { map M.setup machines.new ≡ map M.setup machines.old }
     ensures len { length machines.new ≡ length machines.old }
-    ensures step { StepsAt instance (whole_of M.outputs (map M.setup machines.old)) (Stand M.consumed machines.old) (Stand M.consumed machines.new) (Feed.Run run) (left_feed result) outs.new }
+    ensures step { StepsAt instance (whole_of M.outputs (map M.setup machines.old))
+        (Stand M.consumed machines.old) (Stand M.consumed machines.new) (Feed.Run run)
+        (left_feed result) outs.new }
 {
     machines[instance as usize].step_run(run, outs)
 }
@@ -60,7 +63,9 @@ pub fn step_packet_at<M: Machine>(
     requires empty { outs.old ≡ [] }
     ensures setups { map M.setup machines.new ≡ map M.setup machines.old }
     ensures len { length machines.new ≡ length machines.old }
-    ensures step { StepsAt instance (whole_of M.outputs (map M.setup machines.old)) (Stand M.consumed machines.old) (Stand M.consumed machines.new) (Feed.Packet packet) result outs.new }
+    ensures step { StepsAt instance (whole_of M.outputs (map M.setup machines.old))
+        (Stand M.consumed machines.old) (Stand M.consumed machines.new)
+        (Feed.Packet packet) result outs.new }
 {
     machines[instance as usize].step(Feed::Packet(packet), outs)
 }
@@ -68,7 +73,10 @@ pub fn step_packet_at<M: Machine>(
 /// The floor of one machine.
 pub fn floor_at<M: Machine>(machines: &[M], instance: u32) -> u64
     requires within { instance < length machines.now }
-    ensures { (input : List Item) → Stand M.consumed machines.now instance input → IsFloor (whole_of M.outputs (map M.setup machines.now) instance) input result }
+    ensures floor { (input : List Item) → Stand M.consumed machines.now instance input
+        → IsFloor (whole_of M.outputs (map M.setup machines.now) instance) input result }
+    ensures near { (input : List Item) → Stand M.consumed machines.now instance input
+        → near_of M.near (map M.setup machines.now) instance input ≤ result }
 {
     machines[instance as usize].floor()
 }
@@ -78,9 +86,7 @@ pub fn floor_at<M: Machine>(machines: &[M], instance: u32) -> u64
 pub fn mark<G: MarkTake>(take: &mut G, instance: u32, mark: Mark) -> Result<(), Stopped>
     requires { instance < G.instances take.old }
     ensures took { Took (G.took take.old) (G.took take.new) (only instance (mark ∷ [])) }
-    ensures instances { G.instances take.new ≡ G.instances take.old }
-    ensures origin { G.origin take.new ≡ G.origin take.old }
-    ensures cause { HasCause (G.stops take.old) (G.stops take.new) result }
+    ensures takes { GoesOn G.instances G.origin G.stops G.going take.old take.new result }
 {
     take.take(instance, mark)
 }

@@ -1,12 +1,13 @@
 // Handing runs to those machines of a tree that read samples.
-ghost use Rattle.std.specs.Prelude.{◌≡◌, ◌<◌, ◌≤◌, [], ℕ, List, IfOk, None, OnOk, Some, length, map, slice_get};
+ghost use Rattle.std.specs.Prelude.{◌≡◌, ◌<◌, ◌≤◌, ◌∷◌, [], ℕ, List, IfOk, None, OnOk, Some};
+ghost use Rattle.std.specs.Prelude.{length, map, slice_get};
 ghost use Rattle.std.specs.Result.{is_ok};
 ghost use Rattle.la_base.specs.Samples.{samples};
-ghost use Rattle.la_io.specs.Causes.{HasCause};
-ghost use Rattle.la_base.specs.Runs.{samples_of};
 ghost use Rattle.decoder_core.specs.Inputs.{Item, Sample};
-ghost use Rattle.stack_direct.specs.Passing.{IsForest, Hands, Feeds, Gives, only};
-ghost use Rattle.stack_direct.specs.Machines.{Stand, taken_of, whole_of};
+ghost use Rattle.stack_direct.specs.Passing.{Consumes, Hands, Feeds, Gives, only};
+ghost use Rattle.stack_direct.specs.Runs.{run_items};
+ghost use Rattle.stack_direct.specs.Taking.{GoesOn, IsTree};
+ghost use Rattle.stack_direct.specs.Machines.{Stand, defined, taken_of};
 
 use crate::down::give;
 use crate::parts::{floor_at, mark, step_run_at, step_runs_at};
@@ -14,8 +15,8 @@ use decoder_core::{Machine, Outs};
 use la_base::{Mark, Run};
 use la_io::{MarkTake, Stopped};
 
-// Gives the outputs of one machine, and lets them go. Most steps put out nothing, so that is looked at
-// first.
+// Gives the outputs of one machine, and lets them go. Most steps put out nothing, so that is looked
+// at first.
 #[inline(always)]
 fn give_all<M: Machine, G: MarkTake>(
     machines: &mut [M],
@@ -25,17 +26,14 @@ fn give_all<M: Machine, G: MarkTake>(
     rooms: &mut [Outs],
     take: &mut G,
 ) -> Result<(), Stopped>
-    requires forest { IsForest parents.now }
-    requires few { length parents.now ≤ 24 }
+    requires tree { IsTree parents.now (length machines.old) (G.instances take.old) }
     requires within { instance < length parents.now }
-    requires each { length machines.old ≡ length parents.now }
-    requires takes { G.instances take.old ≡ length parents.now }
     ensures setups { map M.setup machines.new ≡ map M.setup machines.old }
-    ensures gives { Gives (is_ok result) (whole_of M.outputs (map M.setup machines.old)) (Stand M.consumed machines.old) (Stand M.consumed machines.new) parents.now (G.took take.old) (G.took take.new) instance outs.old }
+    ensures gives { Gives (is_ok result) (defined M.outputs M.near (map M.setup machines.old))
+        (Stand M.consumed machines.old) (Stand M.consumed machines.new) parents.now
+        (G.took take.old) (G.took take.new) instance outs.old }
     ensures empty { OnOk result (outs.new ≡ []) }
-    ensures instances { G.instances take.new ≡ G.instances take.old }
-    ensures origin { G.origin take.new ≡ G.origin take.old }
-    ensures cause { HasCause (G.stops take.old) (G.stops take.new) result }
+    ensures takes { GoesOn G.instances G.origin G.stops G.going take.old take.new result }
 {
     if outs.list().is_empty() {
         return Ok(());
@@ -49,7 +47,8 @@ fn give_all<M: Machine, G: MarkTake>(
     }
 }
 
-// Hands what is left of a run to one machine, stop by stop, and what it puts out to those that stand on it.
+// Hands what is left of a run to one machine, stop by stop, and what it puts out to those that
+// stand on it.
 #[inline(never)]
 fn pass_rest<M: Machine, G: MarkTake>(
     machines: &mut [M],
@@ -60,18 +59,15 @@ fn pass_rest<M: Machine, G: MarkTake>(
     rooms: &mut [Outs],
     take: &mut G,
 ) -> Result<(), Stopped>
-    requires forest { IsForest parents.now }
-    requires few { length parents.now ≤ 24 }
+    requires tree { IsTree parents.now (length machines.old) (G.instances take.old) }
     requires within { instance < length parents.now }
-    requires each { length machines.old ≡ length parents.now }
-    requires takes { G.instances take.old ≡ length parents.now }
     requires empty { outs.old ≡ [] }
     ensures setups { map M.setup machines.new ≡ map M.setup machines.old }
-    ensures feeds { Feeds (is_ok result) (whole_of M.outputs (map M.setup machines.old)) (Stand M.consumed machines.old) (Stand M.consumed machines.new) parents.now (G.took take.old) (G.took take.new) instance (map Sample (samples run)) }
+    ensures consumes { Consumes (is_ok result) (defined M.outputs M.near (map M.setup machines.old))
+        (Stand M.consumed machines.old) (Stand M.consumed machines.new) parents.now
+        (G.took take.old) (G.took take.new) instance (map Sample (samples run)) }
     ensures empty { OnOk result (outs.new ≡ []) }
-    ensures instances { G.instances take.new ≡ G.instances take.old }
-    ensures origin { G.origin take.new ≡ G.origin take.old }
-    ensures cause { HasCause (G.stops take.old) (G.stops take.new) result }
+    ensures takes { GoesOn G.instances G.origin G.stops G.going take.old take.new result }
 {
     let mut rest = Some(run);
     while let Some(run) = rest {
@@ -84,7 +80,8 @@ fn pass_rest<M: Machine, G: MarkTake>(
     Ok(())
 }
 
-// Hands some of the runs to one machine, and what it puts out to those that stand on it; the answer is how many.
+// Hands some of the runs to one machine, and what it puts out to those that stand on it; the answer
+// is how many.
 #[inline(always)]
 fn pass_some<M: Machine, G: MarkTake>(
     machines: &mut [M],
@@ -95,20 +92,17 @@ fn pass_some<M: Machine, G: MarkTake>(
     rooms: &mut [Outs],
     take: &mut G,
 ) -> Result<usize, Stopped>
-    requires forest { IsForest parents.now }
-    requires few { length parents.now ≤ 24 }
+    requires tree { IsTree parents.now (length machines.old) (G.instances take.old) }
     requires within { instance < length parents.now }
-    requires each { length machines.old ≡ length parents.now }
-    requires takes { G.instances take.old ≡ length parents.now }
     requires empty { outs.old ≡ [] }
     requires some { 0 < length runs.now }
     ensures setups { map M.setup machines.new ≡ map M.setup machines.old }
     ensures count { IfOk result (λ count. (0 < count) × (count ≤ length runs.now)) }
-    ensures feeds { Feeds (is_ok result) (whole_of M.outputs (map M.setup machines.old)) (Stand M.consumed machines.old) (Stand M.consumed machines.new) parents.now (G.took take.old) (G.took take.new) instance (map Sample (samples_of (taken_of result runs.now))) }
+    ensures consumes { Consumes (is_ok result) (defined M.outputs M.near (map M.setup machines.old))
+        (Stand M.consumed machines.old) (Stand M.consumed machines.new) parents.now
+        (G.took take.old) (G.took take.new) instance (run_items (taken_of result runs.now)) }
     ensures empty { IfOk result (λ count. outs.new ≡ []) }
-    ensures instances { G.instances take.new ≡ G.instances take.old }
-    ensures origin { G.origin take.new ≡ G.origin take.old }
-    ensures cause { HasCause (G.stops take.old) (G.stops take.new) result }
+    ensures takes { GoesOn G.instances G.origin G.stops G.going take.old take.new result }
 {
     let taken = step_runs_at(machines, instance, runs, outs);
     match give_all(machines, parents, instance, outs, rooms, take) {
@@ -135,18 +129,15 @@ fn pass_all<M: Machine, G: MarkTake>(
     rooms: &mut [Outs],
     take: &mut G,
 ) -> Result<(), Stopped>
-    requires forest { IsForest parents.now }
-    requires few { length parents.now ≤ 24 }
+    requires tree { IsTree parents.now (length machines.old) (G.instances take.old) }
     requires within { instance < length parents.now }
-    requires each { length machines.old ≡ length parents.now }
-    requires takes { G.instances take.old ≡ length parents.now }
     requires empty { outs.old ≡ [] }
     ensures setups { map M.setup machines.new ≡ map M.setup machines.old }
-    ensures feeds { Feeds (is_ok result) (whole_of M.outputs (map M.setup machines.old)) (Stand M.consumed machines.old) (Stand M.consumed machines.new) parents.now (G.took take.old) (G.took take.new) instance (map Sample (samples_of runs.now)) }
+    ensures consumes { Consumes (is_ok result) (defined M.outputs M.near (map M.setup machines.old))
+        (Stand M.consumed machines.old) (Stand M.consumed machines.new) parents.now
+        (G.took take.old) (G.took take.new) instance (run_items runs.now) }
     ensures empty { OnOk result (outs.new ≡ []) }
-    ensures instances { G.instances take.new ≡ G.instances take.old }
-    ensures origin { G.origin take.new ≡ G.origin take.old }
-    ensures cause { HasCause (G.stops take.old) (G.stops take.new) result }
+    ensures takes { GoesOn G.instances G.origin G.stops G.going take.old take.new result }
 {
     let mut at = 0;
     while at < runs.len() {
@@ -168,18 +159,15 @@ fn pass_runs<M: Machine, G: MarkTake>(
     rooms: &mut [Outs],
     take: &mut G,
 ) -> Result<(), Stopped>
-    requires forest { IsForest parents.now }
-    requires few { length parents.now ≤ 24 }
+    requires tree { IsTree parents.now (length machines.old) (G.instances take.old) }
     requires within { instance < length parents.now }
-    requires each { length machines.old ≡ length parents.now }
-    requires takes { G.instances take.old ≡ length parents.now }
     requires empty { outs.old ≡ [] }
     ensures setups { map M.setup machines.new ≡ map M.setup machines.old }
-    ensures feeds { Feeds (is_ok result) (whole_of M.outputs (map M.setup machines.old)) (Stand M.consumed machines.old) (Stand M.consumed machines.new) parents.now (G.took take.old) (G.took take.new) instance (map Sample (samples_of runs.now)) }
+    ensures feeds { Feeds (is_ok result) (defined M.outputs M.near (map M.setup machines.old))
+        (Stand M.consumed machines.old) (Stand M.consumed machines.new) parents.now
+        (G.took take.old) (G.took take.new) instance (run_items runs.now) }
     ensures empty { OnOk result (outs.new ≡ []) }
-    ensures instances { G.instances take.new ≡ G.instances take.old }
-    ensures origin { G.origin take.new ≡ G.origin take.old }
-    ensures cause { HasCause (G.stops take.old) (G.stops take.new) result }
+    ensures takes { GoesOn G.instances G.origin G.stops G.going take.old take.new result }
 {
     match pass_all(machines, parents, instance, runs, outs, rooms, take) {
         Ok(()) => {
@@ -201,19 +189,17 @@ fn runs_to<M: Machine, G: MarkTake>(
     rooms: &mut [Outs],
     take: &mut G,
 ) -> Result<(), Stopped>
-    requires forest { IsForest parents.now }
-    requires few { length parents.now ≤ 24 }
+    requires tree { IsTree parents.now (length machines.old) (G.instances take.old) }
     requires parent { slice_get parents.now instance ≡ Some parent }
     requires within { instance < length parents.now }
-    requires each { length machines.old ≡ length parents.now }
-    requires takes { G.instances take.old ≡ length parents.now }
     requires empty { outs.old ≡ [] }
     ensures setups { map M.setup machines.new ≡ map M.setup machines.old }
-    ensures hands { Hands (is_ok result) (whole_of M.outputs (map M.setup machines.old)) (Stand M.consumed machines.old) (Stand M.consumed machines.new) parents.now (G.took take.old) (G.took take.new) None (only instance (map Sample (samples_of runs.now))) }
+    ensures hands { Hands (is_ok result) (defined M.outputs M.near (map M.setup machines.old))
+        (Stand M.consumed machines.old) (Stand M.consumed machines.new) parents.now
+        (G.took take.old) (G.took take.new) None (only instance (run_items runs.now))
+        (only instance (run_items runs.now ∷ [])) }
     ensures empty { OnOk result (outs.new ≡ []) }
-    ensures instances { G.instances take.new ≡ G.instances take.old }
-    ensures origin { G.origin take.new ≡ G.origin take.old }
-    ensures cause { HasCause (G.stops take.old) (G.stops take.new) result }
+    ensures takes { GoesOn G.instances G.origin G.stops G.going take.old take.new result }
 {
     match parent {
         None => pass_runs(machines, parents, instance, runs, outs, rooms, take),
@@ -221,9 +207,9 @@ fn runs_to<M: Machine, G: MarkTake>(
     }
 }
 
-/// Hands runs to each machine that stands on nothing, one machine after another, and what these put out
-/// to those that stand on them. `outs` is room for the outputs of a step, and has none before and behind;
-/// `rooms` is such room for the machines below.
+/// Hands runs to each machine that stands on nothing, one machine after another, and what these put
+/// out to those that stand on them. `outs` is room for the outputs of a step, and has none before
+/// and behind; `rooms` is such room for the machines below.
 pub fn hand_runs<M: Machine, G: MarkTake>(
     machines: &mut [M],
     parents: &[Option<u32>],
@@ -232,17 +218,15 @@ pub fn hand_runs<M: Machine, G: MarkTake>(
     rooms: &mut [Outs],
     take: &mut G,
 ) -> Result<(), Stopped>
-    requires forest { IsForest parents.now }
-    requires few { length parents.now ≤ 24 }
-    requires each { length machines.old ≡ length parents.now }
-    requires takes { G.instances take.old ≡ length parents.now }
+    requires tree { IsTree parents.now (length machines.old) (G.instances take.old) }
     requires empty { outs.old ≡ [] }
     ensures setups { map M.setup machines.new ≡ map M.setup machines.old }
-    ensures hands { Hands (is_ok result) (whole_of M.outputs (map M.setup machines.old)) (Stand M.consumed machines.old) (Stand M.consumed machines.new) parents.now (G.took take.old) (G.took take.new) None (λ _. map Sample (samples_of runs.now)) }
+    ensures hands { Hands (is_ok result) (defined M.outputs M.near (map M.setup machines.old))
+        (Stand M.consumed machines.old) (Stand M.consumed machines.new) parents.now
+        (G.took take.old) (G.took take.new) None (λ _. run_items runs.now)
+        (λ _. run_items runs.now ∷ []) }
     ensures empty { OnOk result (outs.new ≡ []) }
-    ensures instances { G.instances take.new ≡ G.instances take.old }
-    ensures origin { G.origin take.new ≡ G.origin take.old }
-    ensures cause { HasCause (G.stops take.old) (G.stops take.new) result }
+    ensures takes { GoesOn G.instances G.origin G.stops G.going take.old take.new result }
 {
     for (place, parent) in parents.iter().enumerate() {
         match runs_to(

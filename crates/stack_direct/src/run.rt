@@ -1,11 +1,12 @@
 // The run of a tree.
-ghost use Rattle.std.specs.Prelude.{◌≡◌, ◌≤◌, [], ℕ, List, OnOk, length, map, true};
+ghost use Rattle.std.specs.Prelude.{◌≡◌, ◌≤◌, ◌<◌, [], ℕ, List, OnErr, OnOk, false, length, map};
+ghost use Rattle.std.specs.Prelude.{true};
 ghost use Rattle.std.specs.Result.{is_ok};
 ghost use Rattle.decoder_core.specs.declared.end.RunEnd.TheVariants.{Ended, Stopped as RunStopped};
-ghost use Rattle.la_io.specs.Causes.{HasCause, Rose};
-ghost use Rattle.stack_direct.specs.Machines.{Stand, whole_of};
-ghost use Rattle.stack_direct.specs.Passing.{IsForest};
-ghost use Rattle.stack_direct.specs.Runs.{FedRuns, RunsOn, TookEnds};
+ghost use Rattle.la_io.specs.Causes.{Rose};
+ghost use Rattle.stack_direct.specs.Machines.{Stand, defined};
+ghost use Rattle.stack_direct.specs.Runs.{FedRuns, RunsOn, TookEnds, is_ended};
+ghost use Rattle.stack_direct.specs.Taking.{GoesOn, IsTree};
 
 use crate::parts::mark;
 use crate::roots::hand_runs;
@@ -20,17 +21,14 @@ fn feed_all<M: Machine, F: RunFeed, G: MarkTake>(
     feed: &mut F,
     take: &mut G,
 ) -> Result<(), Stopped>
-    requires forest { IsForest parents.now }
-    requires few { length parents.now ≤ 24 }
-    requires each { length machines.old ≡ length parents.now }
-    requires takes { G.instances take.old ≡ length parents.now }
+    requires tree { IsTree parents.now (length machines.old) (G.instances take.old) }
     ensures setups { map M.setup machines.new ≡ map M.setup machines.old }
-    ensures feeds { FedRuns (is_ok result) (whole_of M.outputs (map M.setup machines.old)) (Stand M.consumed machines.old) (Stand M.consumed machines.new) parents.now (F.gave feed.old) (F.gave feed.new) (G.took take.old) (G.took take.new) }
-    ensures at_end { OnOk result (F.at_end feed.new ≡ true) }
+    ensures feeds { FedRuns (is_ok result) (defined M.outputs M.near (map M.setup machines.old))
+        (Stand M.consumed machines.old) (Stand M.consumed machines.new) parents.now
+        (F.gave feed.old) (F.gave feed.new) (G.took take.old) (G.took take.new) }
+    ensures at_end { F.at_end feed.new ≡ is_ok result }
     ensures feed_origin { F.origin feed.new ≡ F.origin feed.old }
-    ensures instances { G.instances take.new ≡ G.instances take.old }
-    ensures origin { G.origin take.new ≡ G.origin take.old }
-    ensures cause { HasCause (G.stops take.old) (G.stops take.new) result }
+    ensures takes { GoesOn G.instances G.origin G.stops G.going take.old take.new result }
 {
     // One for all steps of a depth, since to make it fills it with default values.
     let mut outs = Outs::new();
@@ -49,10 +47,9 @@ fn feed_all<M: Machine, F: RunFeed, G: MarkTake>(
 // Ends the marks of the instances before `count`.
 fn end_all<G: MarkTake>(count: u32, take: &mut G) -> Result<(), Stopped>
     requires { count ≤ G.instances take.old }
-    ensures took { (k : ℕ) × (k ≤ count) × OnOk result (k ≡ count) × TookEnds (G.took take.old) (G.took take.new) k }
-    ensures instances { G.instances take.new ≡ G.instances take.old }
-    ensures origin { G.origin take.new ≡ G.origin take.old }
-    ensures cause { HasCause (G.stops take.old) (G.stops take.new) result }
+    ensures took { (k : ℕ) × (k ≤ count) × OnOk result (k ≡ count) × OnErr result (0 < k)
+        × TookEnds (G.took take.old) (G.took take.new) k }
+    ensures takes { GoesOn G.instances G.origin G.stops G.going take.old take.new result }
 {
     for instance in 0..count {
         match mark(take, instance, Mark::End) {
@@ -63,31 +60,32 @@ fn end_all<G: MarkTake>(count: u32, take: &mut G) -> Result<(), Stopped>
     Ok(())
 }
 
-/// Runs a tree of decoders on one thread. Each run of the feed is handed to the machines that stand on
-/// nothing, and each packet, at once, to those that stand on the machine that put it out; notes and
-/// pieces are taken as marks, a floor behind each packet and behind the runs that the feed gave at once,
-/// and at the end of the feed the end of each instance. It takes no memory.
+/// Runs a tree of decoders on one thread. Each run of the feed is handed to the machines that stand
+/// on nothing, and each packet, at once, to those that stand on the machine that put it out; notes
+/// and pieces are taken as marks, a floor behind each packet and behind the runs that the feed gave
+/// at once, and at the end of the feed the end of each instance. It takes no memory.
 ///
 /// The machines may already stand for samples: what is taken is what follows. A packet that doesn't
-/// count for a machine is passed over by it. `Stopped` is answered where `take` has stopped; no further
-/// mark is taken then.
+/// count for a machine is passed over by it. `Stopped` is answered where `take` stopped, at the
+/// last mark that it was handed: none is taken behind it, and the feed isn't read on.
 pub fn run_direct<M: Machine, F: RunFeed, G: MarkTake>(
     machines: &mut [M],
     parents: &[Option<u32>],
     feed: &mut F,
     take: &mut G,
 ) -> RunEnd
-    requires forest { IsForest parents.now }
-    requires few { length parents.now ≤ 24 }
-    requires each { length machines.old ≡ length parents.now }
-    requires takes { G.instances take.old ≡ length parents.now }
+    requires tree { IsTree parents.now (length machines.old) (G.instances take.old) }
     ensures setups { map M.setup machines.new ≡ map M.setup machines.old }
-    ensures runs { RunsOn M.outputs (map M.setup machines.old) parents.now (Stand M.consumed machines.old) (Stand M.consumed machines.new) (F.gave feed.old) (F.gave feed.new) (G.took take.old) (G.took take.new) (F.at_end feed.new) result }
+    ensures runs { RunsOn M.outputs M.near (map M.setup machines.old) parents.now
+        (Stand M.consumed machines.old) (Stand M.consumed machines.new)
+        (F.gave feed.old) (F.gave feed.new) (G.took take.old) (G.took take.new)
+        (F.at_end feed.new) result }
     ensures at_end { result ≡ Ended → F.at_end feed.new ≡ true }
     ensures feed_origin { F.origin feed.new ≡ F.origin feed.old }
     ensures take_origin { G.origin take.new ≡ G.origin take.old }
     ensures instances { G.instances take.new ≡ G.instances take.old }
     ensures ended { result ≡ Ended → G.stops take.new ≡ G.stops take.old }
+    ensures going { G.going take.old true → G.going take.new (is_ended result) }
     ensures stopped { result ≡ RunStopped → Rose (G.stops take.old) (G.stops take.new) }
 {
     match feed_all(machines, parents, feed, take) {

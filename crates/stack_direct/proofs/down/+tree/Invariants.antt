@@ -1,7 +1,9 @@
-use Rattle.std.proofs.Common.{◌≡◌, ◌+◌, ◌-◌, ◌*◌, ◌∷◌, [], true, length, map, take}
+use Rattle.std.proofs.Common.{◌≡◌, ◌+◌, ◌-◌, ◌*◌, ◌∷◌, [], true, length, map, take, Ok}
 use Rattle.decoder_core.specs.Inputs.{Pack}
 use Rattle.stack_direct.specs.Passing.{Hands, Gives, first_on, up_to}
-use Rattle.stack_direct.specs.Machines.{Stand, whole_of}
+use Rattle.stack_direct.specs.Machines.{Stand, defined}
+use Rattle.la_io.specs.declared.feeds.Stopped.{Stopped}
+use Rattle.stack_direct.proofs.Going.{KeepsOn}
 use Rattle.stack_direct.proofs.down.+tree.Given as goal
 
 abbrev pub decreases-hand : goal.decreases-hand
@@ -32,10 +34,8 @@ invariant-give-loop-out g l =
     let t = g.G.MarkTake in
     record {
       setups : map m.setup l.machines ≡ map m.setup l.fn.machines;
-      gives : Gives true (whole_of m.outputs (map m.setup l.fn.machines)) (Stand m.consumed l.fn.machines) (Stand m.consumed l.machines) l.parents (t.took l.fn.take) (t.took l.take) l.instance (take l.out-index l.outs);
-      instances : t.instances l.take ≡ t.instances l.fn.take;
-      origin : t.origin l.take ≡ t.origin l.fn.take;
-      stops : t.stops l.take ≡ t.stops l.fn.take;
+      gives : Gives true (defined m.outputs m.near (map m.setup l.fn.machines)) (Stand m.consumed l.fn.machines) (Stand m.consumed l.machines) l.parents (t.took l.fn.take) (t.took l.take) l.instance (take l.out-index l.outs);
+      takes : KeepsOn t.instances t.origin t.stops t.going l.fn.take l.take;
     }
 
 abbrev pub invariant-hand-loop-place : goal.invariant-hand-loop-place
@@ -44,8 +44,6 @@ invariant-hand-loop-place g l =
     let t = g.G.MarkTake in
     record {
       setups : map m.setup l.machines ≡ map m.setup l.fn.machines;
-      hands : Hands true (whole_of m.outputs (map m.setup l.fn.machines)) (Stand m.consumed l.fn.machines) (Stand m.consumed l.machines) l.parents (t.took l.fn.take) (t.took l.take) l.above (up_to l.place (Pack l.packet ∷ []));
-      instances : t.instances l.take ≡ t.instances l.fn.take;
-      origin : t.origin l.take ≡ t.origin l.fn.take;
-      stops : t.stops l.take ≡ t.stops l.fn.take;
+      hands : Hands true (defined m.outputs m.near (map m.setup l.fn.machines)) (Stand m.consumed l.fn.machines) (Stand m.consumed l.machines) l.parents (t.took l.fn.take) (t.took l.take) l.above (up_to l.place (Pack l.packet ∷ [])) (up_to l.place ((Pack l.packet ∷ []) ∷ []));
+      takes : KeepsOn t.instances t.origin t.stops t.going l.fn.take l.take;
     }

@@ -4,11 +4,12 @@ use Rattle.la_base.specs.declared.samples.Run.{Run}
 use Rattle.la_base.specs.Runs.{samples_of}
 use Rattle.la_base.proofs.RunLemmas.{runs_from}
 use Rattle.decoder_core.specs.Inputs.{Sample}
-use Rattle.stack_direct.specs.Passing.{Feeds}
-use Rattle.stack_direct.specs.Machines.{Stand, whole_of}
-use Rattle.stack_direct.proofs.Joining.{feeds_nothing, feeds_then, feeds_reach}
+use Rattle.stack_direct.specs.Passing.{Consumes}
+use Rattle.stack_direct.specs.Machines.{Stand, defined}
+use Rattle.stack_direct.proofs.Joining.{consumes_nothing, consumes_then, consumes_reach}
 use Rattle.stack_direct.proofs.Lists.{reaches_weaker}
 use Rattle.stack_direct.proofs.Running.{items_further, more_items}
+use Rattle.stack_direct.proofs.Going.{goes_then, goes_nowhere, goes_ok}
 use Rattle.stack_direct.proofs.roots.pass_all.Goals as goal
 
 pub loop-at-init : goal.loop-at-init
@@ -18,11 +19,9 @@ loop-at-init g c =
     record {
       within = omega arith;
       setups = refl;
-      feeds = feeds_nothing (whole_of m.outputs (map m.setup c.args.machines.now)) (Stand m.consumed c.args.machines.now) c.args.parents.now (k.took c.args.take.now) c.args.instance;
+      feeds = consumes_nothing (defined m.outputs m.near (map m.setup c.args.machines.now)) (Stand m.consumed c.args.machines.now) c.args.parents.now (k.took c.args.take.now) c.args.instance;
       empty = c.requires.empty;
-      instances = refl;
-      origin = refl;
-      stops = refl;
+      takes = goes_nowhere k.instances k.origin k.stops k.going c.args.take.now;
     }
 
 pub loop-at-preserved : goal.loop-at-preserved
@@ -34,19 +33,17 @@ loop-at-preserved g c =
     let runs = c.args.runs.now in
     let at = c.loop-at.at in
     let n = c.in-Ok.count in
-    let some = subst (λ (s : List g.row.M-Setup.Denot). Feeds true (whole_of m.outputs s) (Stand m.consumed c.loop-at.machines) (Stand m.consumed c.pass_some.new.machines) c.args.parents.now (k.took c.loop-at.take) (k.took c.pass_some.new.take) c.args.instance (map Sample (samples_of (take n (runs_from runs at))))) i.setups e.feeds in
+    let some = subst (λ (s : List g.row.M-Setup.Denot). Consumes true (defined m.outputs m.near s) (Stand m.consumed c.loop-at.machines) (Stand m.consumed c.pass_some.new.machines) c.args.parents.now (k.took c.loop-at.take) (k.took c.pass_some.new.take) c.args.instance (map Sample (samples_of (take n (runs_from runs at))))) i.setups e.consumes in
     record {
       within = omega (arith, e.count.1, length-drop at runs);
       setups = e.setups ∙ i.setups;
-      feeds = feeds_reach (map Sample (samples_of (take (at + n) runs))) (items_further runs at n) (feeds_then i.feeds some);
+      feeds = consumes_reach (map Sample (samples_of (take (at + n) runs))) (items_further runs at n) (consumes_then i.feeds some);
       empty = e.empty;
-      instances = e.instances ∙ i.instances;
-      origin = e.origin ∙ i.origin;
-      stops = e.cause.kept ∙ i.stops;
+      takes = goes_ok k.instances k.origin k.stops k.going (goes_then k.instances k.origin k.stops k.going i.takes e.takes);
     }
 
-pub returns-in-Err-clause-feeds : goal.returns-in-Err-clause-feeds
-returns-in-Err-clause-feeds g c =
+pub returns-in-Err-clause-consumes : goal.returns-in-Err-clause-consumes
+returns-in-Err-clause-consumes g c =
     let m = g.M.Machine in
     let k = g.G.MarkTake in
     let i = c.loop-at.invariant in
@@ -54,12 +51,12 @@ returns-in-Err-clause-feeds g c =
     let runs = c.args.runs.now in
     let at = c.loop-at.at in
     let rest = runs_from runs at in
-    let others = subst (λ (s : List g.row.M-Setup.Denot). Feeds false (whole_of m.outputs s) (Stand m.consumed c.loop-at.machines) (Stand m.consumed c.pass_some.new.machines) c.args.parents.now (k.took c.loop-at.take) (k.took c.pass_some.new.take) c.args.instance (map Sample (samples_of rest))) i.setups e.feeds in
+    let others = subst (λ (s : List g.row.M-Setup.Denot). Consumes false (defined m.outputs m.near s) (Stand m.consumed c.loop-at.machines) (Stand m.consumed c.pass_some.new.machines) c.args.parents.now (k.took c.loop-at.take) (k.took c.pass_some.new.take) c.args.instance (map Sample (samples_of rest))) i.setups e.consumes in
     let all = more_items (take at runs) rest ∙ ap (λ (l : List Run). map Sample (samples_of (take at runs ++ l))) (take_all (length runs - at) (drop at runs) (omega (arith, length-drop at runs))) ∙ ap (λ (l : List Run). map Sample (samples_of l)) (take-append-drop at runs) in
-    feeds_reach (map Sample (samples_of runs)) (reaches_weaker false (map Sample (samples_of (take at runs)) ++ map Sample (samples_of rest)) (map Sample (samples_of runs)) all) (feeds_then i.feeds others)
+    consumes_reach (map Sample (samples_of runs)) (reaches_weaker false (map Sample (samples_of (take at runs)) ++ map Sample (samples_of rest)) (map Sample (samples_of runs)) all) (consumes_then i.feeds others)
 
-pub returns-clause-feeds : goal.returns-clause-feeds
-returns-clause-feeds g c =
+pub returns-clause-consumes : goal.returns-clause-consumes
+returns-clause-consumes g c =
     let i = c.loop-at.invariant in
     let runs = c.args.runs.now in
-    feeds_reach (map Sample (samples_of runs)) (ap (λ (l : List Run). map Sample (samples_of l)) (take_all c.loop-at.at runs (omega (arith, c.loop-at-test.false)))) i.feeds
+    consumes_reach (map Sample (samples_of runs)) (ap (λ (l : List Run). map Sample (samples_of l)) (take_all c.loop-at.at runs (omega (arith, c.loop-at-test.false)))) i.feeds

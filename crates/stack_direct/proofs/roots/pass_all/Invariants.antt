@@ -1,8 +1,10 @@
-use Rattle.std.proofs.Common.{◌≡◌, ◌≤◌, ◌-◌, [], true, length, map, take}
+use Rattle.std.proofs.Common.{◌≡◌, ◌≤◌, ◌-◌, [], true, length, map, take, Ok}
 use Rattle.la_base.specs.Runs.{samples_of}
 use Rattle.decoder_core.specs.Inputs.{Sample}
-use Rattle.stack_direct.specs.Passing.{Feeds}
-use Rattle.stack_direct.specs.Machines.{Stand, whole_of}
+use Rattle.stack_direct.specs.Passing.{Consumes}
+use Rattle.stack_direct.specs.Machines.{Stand, defined}
+use Rattle.la_io.specs.declared.feeds.Stopped.{Stopped}
+use Rattle.stack_direct.proofs.Going.{KeepsOn}
 use Rattle.stack_direct.proofs.roots.pass_all.Given as goal
 
 abbrev pub invariant-loop-at : goal.invariant-loop-at
@@ -12,11 +14,9 @@ invariant-loop-at g l =
     record {
       within : l.at ≤ length l.runs;
       setups : map m.setup l.machines ≡ map m.setup l.fn.machines;
-      feeds : Feeds true (whole_of m.outputs (map m.setup l.fn.machines)) (Stand m.consumed l.fn.machines) (Stand m.consumed l.machines) l.parents (t.took l.fn.take) (t.took l.take) l.instance (map Sample (samples_of (take l.at l.runs)));
+      feeds : Consumes true (defined m.outputs m.near (map m.setup l.fn.machines)) (Stand m.consumed l.fn.machines) (Stand m.consumed l.machines) l.parents (t.took l.fn.take) (t.took l.take) l.instance (map Sample (samples_of (take l.at l.runs)));
       empty : l.outs ≡ [];
-      instances : t.instances l.take ≡ t.instances l.fn.take;
-      origin : t.origin l.take ≡ t.origin l.fn.take;
-      stops : t.stops l.take ≡ t.stops l.fn.take;
+      takes : KeepsOn t.instances t.origin t.stops t.going l.fn.take l.take;
     }
 
 abbrev pub decreases-loop-at : goal.decreases-loop-at

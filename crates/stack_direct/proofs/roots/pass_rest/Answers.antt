@@ -5,8 +5,9 @@ use Rattle.la_base.specs.declared.samples.Run.{Run}
 use Rattle.la_base.specs.declared.wires.Feed.TheVariants.{Run as RunFeed}
 use Rattle.decoder_core.specs.Inputs.{Item, Sample, left_feed, left_items}
 use Rattle.stack_direct.specs.Passing.{Gives}
-use Rattle.stack_direct.specs.Machines.{Stand, StepsAt, whole_of}
-use Rattle.stack_direct.proofs.Joining.{feeds_nothing, feeds_then, feeds_reach, step_moves, stepped}
+use Rattle.stack_direct.specs.Machines.{Stand, StepsAt, whole_of, defined}
+use Rattle.stack_direct.proofs.Joining.{consumes_nothing, consumes_then, consumes_reach, step_moves, stepped}
+use Rattle.stack_direct.proofs.Going.{goes_then, goes_nowhere}
 use Rattle.stack_direct.proofs.roots.pass_rest.Goals as goal
 
 pub loop-rest-init : goal.loop-rest-init
@@ -15,11 +16,9 @@ loop-rest-init g c =
     let k = g.G.MarkTake in
     record {
       setups = refl;
-      feeds = ([], refl, feeds_nothing (whole_of m.outputs (map m.setup c.args.machines.now)) (Stand m.consumed c.args.machines.now) c.args.parents.now (k.took c.args.take.now) c.args.instance);
+      feeds = ([], refl, consumes_nothing (defined m.outputs m.near (map m.setup c.args.machines.now)) (Stand m.consumed c.args.machines.now) c.args.parents.now (k.took c.args.take.now) c.args.instance);
       empty = c.requires.empty;
-      instances = refl;
-      origin = refl;
-      stops = refl;
+      takes = goes_nowhere k.instances k.origin k.stops k.going c.args.take.now;
     }
 
 pub loop-rest-preserved : goal.loop-rest-preserved
@@ -28,36 +27,33 @@ loop-rest-preserved g c =
     let k = g.G.MarkTake in
     let i = c.loop-rest.invariant in
     let e = c.in-Ok.ensures in
-    let whole = whole_of m.outputs (map m.setup c.args.machines.now) in
     let mid = c.step_run_at-rest.new.machines in
     let s = subst (λ (l : List g.row.M-Setup.Denot). StepsAt c.args.instance (whole_of m.outputs l) (Stand m.consumed c.loop-rest.machines) (Stand m.consumed mid) (RunFeed c.in-Some.run') (left_feed c.step_run_at-rest.result) c.step_run_at-rest.new.outs) i.setups c.step_run_at-rest.ensures.step in
-    let gave = subst (λ (l : List g.row.M-Setup.Denot). Gives true (whole_of m.outputs l) (Stand m.consumed mid) (Stand m.consumed c.give_all.new.machines) c.args.parents.now (k.took c.loop-rest.take) (k.took c.give_all.new.take) c.args.instance c.step_run_at-rest.new.outs) (c.step_run_at-rest.ensures.setups ∙ i.setups) e.gives in
+    let gave = subst (λ (l : List g.row.M-Setup.Denot). Gives true (defined m.outputs m.near l) (Stand m.consumed mid) (Stand m.consumed c.give_all.new.machines) c.args.parents.now (k.took c.loop-rest.take) (k.took c.give_all.new.take) c.args.instance c.step_run_at-rest.new.outs) (c.step_run_at-rest.ensures.setups ∙ i.setups) e.gives in
     let split : map Sample (samples c.args.run) ≡ (i.feeds.0 ++ s.here.front) ++ left_items (left_feed c.step_run_at-rest.result) =
     i.feeds.1 ∙ ap (λ (r : Option Run). i.feeds.0 ++ left_items (left_feed r)) c.in-Some.is ∙ ap (λ (l : List Item). i.feeds.0 ++ l) s.here.split ∙ sym (append_assoc i.feeds.0 s.here.front (left_items (left_feed c.step_run_at-rest.result))) in
     record {
       setups = e.setups ∙ c.step_run_at-rest.ensures.setups ∙ i.setups;
-      feeds = (i.feeds.0 ++ s.here.front, split, feeds_then i.feeds.2 (stepped c.requires.forest (step_moves s) gave));
+      feeds = (i.feeds.0 ++ s.here.front, split, consumes_then i.feeds.2 (stepped c.requires.tree.forest (step_moves s) gave));
       empty = e.empty;
-      instances = e.instances ∙ i.instances;
-      origin = e.origin ∙ i.origin;
-      stops = e.cause.kept ∙ i.stops;
+      takes = goes_then k.instances k.origin k.stops k.going i.takes e.takes;
     }
 
-pub returns-in-Err-clause-feeds : goal.returns-in-Err-clause-feeds
-returns-in-Err-clause-feeds g c =
+pub returns-in-Err-clause-consumes : goal.returns-in-Err-clause-consumes
+returns-in-Err-clause-consumes g c =
     let m = g.M.Machine in
     let k = g.G.MarkTake in
     let i = c.loop-rest.invariant in
     let e = c.in-Err.ensures in
     let mid = c.step_run_at-rest.new.machines in
     let s = subst (λ (l : List g.row.M-Setup.Denot). StepsAt c.args.instance (whole_of m.outputs l) (Stand m.consumed c.loop-rest.machines) (Stand m.consumed mid) (RunFeed c.in-Some.run') (left_feed c.step_run_at-rest.result) c.step_run_at-rest.new.outs) i.setups c.step_run_at-rest.ensures.step in
-    let gave = subst (λ (l : List g.row.M-Setup.Denot). Gives false (whole_of m.outputs l) (Stand m.consumed mid) (Stand m.consumed c.give_all.new.machines) c.args.parents.now (k.took c.loop-rest.take) (k.took c.give_all.new.take) c.args.instance c.step_run_at-rest.new.outs) (c.step_run_at-rest.ensures.setups ∙ i.setups) e.gives in
+    let gave = subst (λ (l : List g.row.M-Setup.Denot). Gives false (defined m.outputs m.near l) (Stand m.consumed mid) (Stand m.consumed c.give_all.new.machines) c.args.parents.now (k.took c.loop-rest.take) (k.took c.give_all.new.take) c.args.instance c.step_run_at-rest.new.outs) (c.step_run_at-rest.ensures.setups ∙ i.setups) e.gives in
     let split : map Sample (samples c.args.run) ≡ (i.feeds.0 ++ s.here.front) ++ left_items (left_feed c.step_run_at-rest.result) =
     i.feeds.1 ∙ ap (λ (r : Option Run). i.feeds.0 ++ left_items (left_feed r)) c.in-Some.is ∙ ap (λ (l : List Item). i.feeds.0 ++ l) s.here.split ∙ sym (append_assoc i.feeds.0 s.here.front (left_items (left_feed c.step_run_at-rest.result))) in
-    feeds_reach (map Sample (samples c.args.run)) (left_items (left_feed c.step_run_at-rest.result), sym split) (feeds_then i.feeds.2 (stepped c.requires.forest (step_moves s) gave))
+    consumes_reach (map Sample (samples c.args.run)) (left_items (left_feed c.step_run_at-rest.result), sym split) (consumes_then i.feeds.2 (stepped c.requires.tree.forest (step_moves s) gave))
 
-pub returns-clause-feeds : goal.returns-clause-feeds
-returns-clause-feeds g c =
+pub returns-clause-consumes : goal.returns-clause-consumes
+returns-clause-consumes g c =
     let i = c.loop-rest.invariant in
     let all : i.feeds.0 ≡ map Sample (samples c.args.run) = sym (i.feeds.1 ∙ ap (λ (r : Option Run). i.feeds.0 ++ left_items (left_feed r)) c.in_default.is ∙ append-nil i.feeds.0) in
-    feeds_reach (map Sample (samples c.args.run)) all i.feeds.2
+    consumes_reach (map Sample (samples c.args.run)) all i.feeds.2

@@ -1,0 +1,41 @@
+-- Marks taken behind marks.
+use Rattle.std.proofs.Common.{◌≡◌, ◌≤◌, ℕ, Bool, true, List, Option, Result, Ok, Err, length, map, refl, sym, ◌∙◌, ap, subst, arith}
+use Rattle.std.proofs.lemmas.List.{length-map}
+use Rattle.la_io.specs.Causes.{HasCause, Rose}
+use Rattle.stack_direct.specs.Taking.{GoesOn}
+use Rattle.la_io.specs.declared.feeds.Stopped.{Stopped}
+
+-- marks were taken, and it stopped at none
+abbrev pub KeepsOn : {A O : Type 0} → (A → ℕ) → (A → O) → (A → ℕ) → (A → Bool → Type 0) → A → A → Type 0
+KeepsOn instances origin stops going old new = GoesOn {R = Unit {0}} {E = Stopped} instances origin stops going old new (Ok tt)
+
+module _ {A O : Type 0} (instances : A → ℕ) (origin : A → O) (stops : A → ℕ)
+    (going : A → Bool → Type 0) where
+  -- none yet
+  pub goes_nowhere : (now : A) → KeepsOn instances origin stops going now now
+  goes_nowhere now = record {
+    instances = refl;
+    origin = refl;
+    cause = record { later = omega arith; kept = refl; failed = tt };
+    going = λ g. g;
+  }
+
+  -- whatever the answer is, where it is Ok
+  pub goes_ok : {R E : Type 0} {old new : A} {done : R} → GoesOn {E = E} instances origin stops going old new (Ok done) → KeepsOn instances origin stops going old new
+  goes_ok p = record {
+    instances = p.instances;
+    origin = p.origin;
+    cause = record { later = p.cause.later; kept = p.cause.kept; failed = tt };
+    going = p.going;
+  }
+
+  -- marks behind marks at which it didn't stop
+  pub goes_then : {R E T F : Type 0} {old mid new : A} {done : R} {result : Result T F}
+      → GoesOn {E = E} instances origin stops going old mid (Ok done) → GoesOn instances origin stops going mid new result
+      → GoesOn instances origin stops going old new result
+  goes_then {old = old} {mid = mid} {new = new} {result = result} p q = record {
+    instances = q.instances ∙ p.instances;
+    origin = q.origin ∙ p.origin;
+    cause = subst (λ (n : ℕ). HasCause n (stops new) result) p.cause.kept q.cause;
+    going = λ g. q.going (p.going g);
+  }
