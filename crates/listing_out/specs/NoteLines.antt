@@ -8,8 +8,12 @@ use Rattle.decoder_set.specs.Setups.{note_text}
 
 -- the name of an instance within a line: the kind, and the number of the instance within its kind
 abbrev pub name_as : Kind → ℕ → List ℕ
-name_as kind number = codes " " ++ ((kind_row kind).name ++ codes "-" ++ decimal number) ++ codes ": "
+name_as kind number =
+    codes " " ++ ((kind_row kind).name ++ codes "-" ++ decimal number) ++ codes ": "
 
--- the places of a note, the name of its instance (the kind, and the number of the instance within its kind) and its text
+-- the places of a note, the name of its instance (the kind, and the number of the instance within
+-- its kind) and its text
 abbrev pub line_as : Kind → ℕ → Note → List ℕ
-line_as kind number note = decimal note.start ++ codes "-" ++ decimal note.end ++ name_as kind number ++ note_text kind note ++ codes "\n"
+line_as kind number note =
+    decimal note.start ++ codes "-" ++ decimal note.end ++ name_as kind number
+    ++ note_text kind note ++ codes "\n"

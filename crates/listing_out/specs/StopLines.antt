@@ -1,5 +1,6 @@
 -- The listing of `find`: a line for each stop.
-use Rattle.std.specs.Prelude.{ℕ, ◌==◌, Bool, List, [], ◌++◌, map, filter, codes, if◌then◌else◌}
+use Rattle.std.specs.Prelude.{ℕ, ◌≡◌, ◌==◌, ◌+◌, ◌*◌, ◌/◌, ◌≤◌, Bool, codes, if◌then◌else◌}
+use Rattle.std.specs.Prelude.{List, [], ◌++◌, map, filter, length, take, drop}
 use Rattle.std.specs.Fmt.{decimal}
 use Rattle.std.specs.Int.{bit_at}
 use Rattle.std.specs.List.{flat_map, join_with_byte, range_with_len}
@@ -32,3 +33,11 @@ line_of stop = decimal stop.0 ++ behind_sample stop.1
 -- the lines of stops
 abbrev pub lines_of : List Stop → List ℕ
 lines_of stops = flat_map line_of stops
+
+-- a line whose last two digits may be made anew: where they stand, what its sample is without
+-- them, and the alternatives that it tells
+pub record Mends (line : List ℕ) (low hundreds set : ℕ) : Type 0 where
+  pub room : low + 2 ≤ length line
+  pub round : hundreds / 100 * 100 ≡ hundreds
+  pub front : take low line ≡ decimal (hundreds / 100)
+  pub behind : drop (low + 2) line ≡ behind_sample set

@@ -18,7 +18,8 @@ pub fn write_data<K: Sink>(sink: &mut K, bytes: &[u8]) -> Result<(), Failed>
 
 /// Writes the byte of a piece of binary data. After `Failed` it isn't written.
 pub fn write_piece<K: Sink>(sink: &mut K, piece: Piece) -> Result<(), Failed>
-    ensures whole { OnOk result (Appends (K.written sink.old) (K.written sink.new) (piece.byte ∷ [])) }
+    ensures whole { OnOk result
+        (Appends (K.written sink.old) (K.written sink.new) (piece.byte ∷ [])) }
     ensures front { AppendsFront (K.written sink.old) (K.written sink.new) (piece.byte ∷ []) }
     ensures cause { HasCause (K.faults sink.old) (K.faults sink.new) result }
     ensures goes_on { K.goes_on sink.old sink.new }

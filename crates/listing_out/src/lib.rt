@@ -1,9 +1,10 @@
-//! What a listing is made of: a line for a note, a line for a stop, the bytes of binary data, lines that tell how
-//! much decoders gave. Each is written
-//! through any sink, whole, or a front of it where the sink failed.
+//! What a listing is made of: a line for a note, a line for a stop, the bytes of binary data, lines
+//! that tell how much decoders gave. Each is written through any sink, whole, or a front of it
+//! where the sink failed.
 #![tactic(auto)]
 
 mod data;
+mod kept;
 mod name;
 mod notes;
 mod stops;

@@ -8,8 +8,8 @@ use decoder_set::{Kind, kind_name};
 use line_text::{LineBuf, MOST_SHORT, ShortText};
 use std::marker::Model;
 
-// An instance by its kind and its number within this kind. Contracts see these. Its text is kept where it is short, so of
-// one that is named again and again it isn't made anew.
+// An instance by its kind and its number within this kind. Contracts see these. Its text is kept
+// where it is short, so of one that is named again and again it isn't made anew.
 #[derive(Drop)]
 struct InstanceName {
     kind: Kind,
@@ -92,8 +92,8 @@ impl InstanceName {
     }
 }
 
-/// The names of two instances, the one that was named first and the one that was named last of the others: often the
-/// lines of two instances alternate.
+/// The names of two instances, the one that was named first and the one that was named last of the
+/// others: often the lines of two instances alternate.
 #[derive(Drop)]
 pub struct TwoNames {
     begun: bool,

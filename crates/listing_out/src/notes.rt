@@ -12,9 +12,9 @@ use la_io::{Failed, Sink, write_whole};
 use line_text::{Decimal, LineBuf};
 use std::marker::Model;
 
-/// The line of a note, `START-END NAME: TEXT`: its places, the name of its instance and its text. Contracts see
-/// its bytes. One serves for all notes: to make it fills it with zeros, and it keeps the digits of the places
-/// and the names of instances.
+/// The line of a note, `START-END NAME: TEXT`: its places, the name of its instance and its text.
+/// Contracts see its bytes. One serves for all notes: to make it fills it with zeros, and it keeps
+/// the digits of the places and the names of instances.
 #[derive(Drop)]
 pub struct NoteLine {
     line: LineBuf,
@@ -58,8 +58,8 @@ impl NoteLine {
         push_text(line, "\n");
     }
 
-    /// Makes it the line of a note, where its instance has this number among those of its kind, and writes it.
-    /// After `Failed` a front of it is written.
+    /// Makes it the line of a note, where its instance has this number among those of its kind, and
+    /// writes it. After `Failed` a front of it is written.
     pub fn write<K: Sink>(
         &mut self,
         sink: &mut K,
@@ -67,8 +67,10 @@ impl NoteLine {
         number: u32,
         note: Note,
     ) -> Result<(), Failed>
-        ensures whole { OnOk result (Appends (K.written sink.old) (K.written sink.new) (line_as kind number note)) }
-        ensures front { AppendsFront (K.written sink.old) (K.written sink.new) (line_as kind number note) }
+        ensures whole { OnOk result
+            (Appends (K.written sink.old) (K.written sink.new) (line_as kind number note)) }
+        ensures front { AppendsFront (K.written sink.old) (K.written sink.new)
+            (line_as kind number note) }
         ensures cause { HasCause (K.faults sink.old) (K.faults sink.new) result }
         ensures goes_on { K.goes_on sink.old sink.new }
     {
@@ -77,10 +79,13 @@ impl NoteLine {
     }
 }
 
-/// Writes the line of one note. After `Failed` a front of it is written. For many notes a `NoteLine` costs less.
+/// Writes the line of one note. After `Failed` a front of it is written. For many notes a
+/// `NoteLine` costs less.
 pub fn write_note<K: Sink>(sink: &mut K, kind: Kind, number: u32, note: Note) -> Result<(), Failed>
-    ensures whole { OnOk result (Appends (K.written sink.old) (K.written sink.new) (line_as kind number note)) }
-    ensures front { AppendsFront (K.written sink.old) (K.written sink.new) (line_as kind number note) }
+    ensures whole { OnOk result
+        (Appends (K.written sink.old) (K.written sink.new) (line_as kind number note)) }
+    ensures front { AppendsFront (K.written sink.old) (K.written sink.new)
+        (line_as kind number note) }
     ensures cause { HasCause (K.faults sink.old) (K.faults sink.new) result }
     ensures goes_on { K.goes_on sink.old sink.new }
 {

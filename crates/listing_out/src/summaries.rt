@@ -30,16 +30,18 @@ fn push_tally(line: &mut LineBuf, kind: Kind, tally: Tally)
     push_text(line, "\n");
 }
 
-/// Writes three lines: how many samples there were, and what a bus and a serial line gave. After `Failed` a front of
-/// them is written.
+/// Writes three lines: how many samples there were, and what a bus and a serial line gave. After
+/// `Failed` a front of them is written.
 pub fn write_summary<K: Sink>(
     sink: &mut K,
     samples: u64,
     bus: Tally,
     line: Tally,
 ) -> Result<(), Failed>
-    ensures whole { OnOk result (Appends (K.written sink.old) (K.written sink.new) (summary samples bus line)) }
-    ensures front { AppendsFront (K.written sink.old) (K.written sink.new) (summary samples bus line) }
+    ensures whole { OnOk result
+        (Appends (K.written sink.old) (K.written sink.new) (summary samples bus line)) }
+    ensures front { AppendsFront (K.written sink.old) (K.written sink.new)
+        (summary samples bus line) }
     ensures cause { HasCause (K.faults sink.old) (K.faults sink.new) result }
     ensures goes_on { K.goes_on sink.old sink.new }
 {
