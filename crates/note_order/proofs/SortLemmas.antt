@@ -19,7 +19,7 @@ module _ {X : Type 0} (lt : X → X → Bool) (o : IsStrictWeakOrder lt) where
   shorter x xs up k d low high = sym (same_pair x xs k d) ∙ up (suc k) d (omega arith) (omega (arith, high))
 
   -- no element is less than the one before it
-  abbrev Rises : List X → Type 0
+  abbrev pub Rises : List X → Type 0
   Rises [] = Unit {0}
   Rises (x ∷ []) = Unit {0}
   Rises (x ∷ y ∷ xs) = (lt y x ≡ false) × Rises (y ∷ xs)
@@ -29,7 +29,7 @@ module _ {X : Type 0} (lt : X → X → Bool) (o : IsStrictWeakOrder lt) where
   rises (x ∷ []) up = tt
   rises (x ∷ y ∷ xs) up = (up 0 x (omega arith) (omega arith), rises (y ∷ xs) (shorter x (y ∷ xs) up))
 
-  is_sorted : (xs : List X) → Rises xs → IsSortedBy lt xs
+  pub is_sorted : (xs : List X) → Rises xs → IsSortedBy lt xs
   is_sorted [] up k d low high = absurd (omega (arith, high))
   is_sorted (x ∷ []) up k d low high = absurd (omega (arith, high))
   is_sorted (x ∷ y ∷ xs) up zero d low high = up.0

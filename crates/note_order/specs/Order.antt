@@ -37,7 +37,8 @@ entry_of instance note = record { instance = instance; note = note }
 -- the notes of instances, instance by instance, the first of which has this number
 abbrev pub entries_from : ℕ → List (List Note) → List Entry
 entries_from instance [] = []
-entries_from instance (notes ∷ others) = map (entry_of instance) notes ++ entries_from (instance + 1) others
+entries_from instance (notes ∷ others) =
+    map (entry_of instance) notes ++ entries_from (instance + 1) others
 
 -- the notes of all instances in the order of a listing
 abbrev pub listed : List (List Note) → List Entry

@@ -1,5 +1,5 @@
-//! The order of a listing: notes by their starts, then by the instances that gave them, and those of
-//! one instance in the order in which it gave them.
+//! The order of a listing: notes by their starts, then by the instances that gave them, and those
+//! of one instance in the order in which it gave them.
 #![tactic(auto)]
 
 mod entry;

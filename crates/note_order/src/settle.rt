@@ -14,8 +14,8 @@ fn is_after(entry: &Entry, other: &Entry) -> bool
     entry.note.start > other.note.start
 }
 
-// Moves an entry to the front past those that stand behind it in a listing, by so many places at most, and answers by
-// how many. Few entries move, so it isn't inlined.
+// Moves an entry to the front past those that stand behind it in a listing, by so many places at
+// most, and answers by how many. Few entries move, so it isn't inlined.
 #[inline(never)]
 fn sink(entries: &mut Vec<Entry>, place: usize, most: usize) -> usize
     requires { place < length entries.old.items }
@@ -37,10 +37,10 @@ fn sink(entries: &mut Vec<Entry>, place: usize, most: usize) -> usize
     place - at
 }
 
-/// Moves each entry a little to the front, where it stands too late, and answers whether all are in their order then. So
-/// it mostly is where decoders stand on one another: a note that many others make up begins with the first of these, and
-/// is given behind the last one. It gives up where entries move by more than two places on the whole, as where many
-/// decoders read one capture.
+/// Moves each entry a little to the front, where it stands too late, and answers whether all are in
+/// their order then. So it mostly is where decoders stand on one another: a note that many others
+/// make up begins with the first of these, and is given behind the last one. It gives up where
+/// entries move by more than two places on the whole, as where many decoders read one capture.
 pub fn settle(entries: &mut Vec<Entry>) -> bool
     ensures { in_order entries.new.items ≡ in_order entries.old.items }
 {

@@ -23,9 +23,9 @@ fn sort(entries: &mut Vec<Entry>) -> Result<(), NoMemory>
 }
 
 /// Puts entries in the order of a listing. Those of one instance that start alike keep their order.
-/// After `NoMemory` they still make the listing that they made. Mostly it is enough to move some a little to the
-/// front. Else, the notes of one instance mostly rise: grouped by instances they are a few long rows that rise, and to
-/// merge these takes a fraction of a sort.
+/// After `NoMemory` they still make the listing that they made. Mostly it is enough to move some a
+/// little to the front. Else, the notes of one instance mostly rise: grouped by instances they are
+/// a few long rows that rise, and to merge these takes a fraction of a sort.
 pub fn sort_entries(alloc: Global, entries: &mut Vec<Entry>) -> Result<(), NoMemory>
     ensures sorted { OnOk result (entries.new.items ≡ in_order entries.old.items) }
     ensures kept { OnErr result (in_order entries.new.items ≡ in_order entries.old.items) }

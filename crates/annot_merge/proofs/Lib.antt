@@ -1,0 +1,7 @@
+pub mod Orders
+pub mod LimitLemmas
+pub mod MergeLemmas
+pub mod PutLemmas
+pub mod QueueLemmas
+pub mod HoldLemmas
+pub mod GivingLemmas

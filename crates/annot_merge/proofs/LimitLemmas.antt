@@ -1,0 +1,156 @@
+-- The limit of bounds, when one more joins them or one changes.
+use Rattle.std.proofs.Common.{◌≡◌, ◌≢◌, ◌⊎◌, inl, inr, ℕ, zero, suc, ◌+◌, ◌≤◌, ◌<◌, List, [], ◌∷◌, ◌++◌, length, set, Option, Some, None, refl, sym, ◌∙◌, ap, subst, arith}
+use Rattle.std.specs.List.{slice_get}
+use Rattle.std.proofs.lemmas.Bool.{cases_eq, cases_lt}
+use Rattle.std.proofs.lemmas.Option.{none-some, same_Some}
+use Rattle.std.proofs.lemmas.List.{length-set}
+use Rattle.note_order.specs.declared.entry.Entry.{Entry}
+use Rattle.annot_merge.specs.Bounds.{Allows}
+use Rattle.annot_merge.specs.Limits.{IsBelow, IsLimit}
+use Rattle.annot_merge.specs.declared.limit.Limit.{Limit}
+
+-- an element of a list with one more at its end
+get_push_cases : {X : Type 0} (xs : List X) (b : X) (j : ℕ) (y : X) → slice_get (xs ++ b ∷ []) j ≡ Some y → (slice_get xs j ≡ Some y) ⊎ ((j ≡ length xs) × (b ≡ y))
+get_push_cases [] b zero y is = inr (refl, same_Some b y is)
+get_push_cases [] b (suc j) y is = absurd (none-some y is)
+get_push_cases (x ∷ xs) b zero y is = inl is
+get_push_cases (x ∷ xs) b (suc j) y is = elim (get_push_cases xs b j y is) [
+  | inl at ↦ inl at
+  | inr last ↦ inr (omega (arith, last.0), last.1)
+]
+
+get_front : {X : Type 0} (xs : List X) (b : X) (j : ℕ) (y : X) → slice_get xs j ≡ Some y → slice_get (xs ++ b ∷ []) j ≡ Some y
+get_front [] b j y is = absurd (none-some y is)
+get_front (x ∷ xs) b zero y is = is
+get_front (x ∷ xs) b (suc j) y is = get_front xs b j y is
+
+get_last : {X : Type 0} (xs : List X) (b : X) (j : ℕ) → length xs ≡ j → slice_get (xs ++ b ∷ []) j ≡ Some b
+get_last [] b zero is = refl
+get_last [] b (suc j) is = absurd (omega (arith, is))
+get_last (x ∷ xs) b zero is = absurd (omega (arith, is))
+get_last (x ∷ xs) b (suc j) is = get_last xs b j (omega (arith, is))
+
+-- an element behind a write
+pub get_set_other : {X : Type 0} (xs : List X) (i : ℕ) (v : X) (j : ℕ) → j ≢ i → slice_get (set xs i v) j ≡ slice_get xs j
+get_set_other [] i v j differ = refl
+get_set_other (x ∷ xs) zero v zero differ = absurd (differ refl)
+get_set_other (x ∷ xs) zero v (suc j) differ = refl
+get_set_other (x ∷ xs) (suc i) v zero differ = refl
+get_set_other (x ∷ xs) (suc i) v (suc j) differ = get_set_other xs i v j (λ same. differ (omega (arith, same)))
+
+pub get_set_here : {X : Type 0} (xs : List X) (i : ℕ) (v : X) → i < length xs → slice_get (set xs i v) i ≡ Some v
+get_set_here [] i v within = absurd (omega (arith, within))
+get_set_here (x ∷ xs) zero v within = refl
+get_set_here (x ∷ xs) (suc i) v within = get_set_here xs i v (omega (arith, within))
+
+-- what is at a limit or behind it is so for a lower one
+below_lower : (limit lower : Limit) (bound : Option ℕ) (j : ℕ) → lower.start ≤ limit.start → (lower.start ≡ limit.start → lower.instance < limit.instance) → IsBelow limit bound j → IsBelow lower bound j
+below_lower limit lower None j start instance below = tt
+below_lower limit lower (Some floor) j start instance below = (omega (arith, start, below.0), λ at. let b = below.1 in let i = instance in omega (arith, at, start, below.0, b, i))
+
+-- one more bound, which is the least
+pub nearer_lower : (limit lower : Limit) (bound : Option ℕ) → bound ≡ Some lower.start → lower.start ≤ limit.start → (lower.start ≡ limit.start → lower.instance < limit.instance)
+    → (bounds : List (Option ℕ)) → length bounds ≡ lower.instance → IsLimit bounds limit → IsLimit (bounds ++ bound ∷ []) lower
+nearer_lower limit lower bound is start instance bounds len was = record {
+  within = λ j one at. elim (get_push_cases bounds bound j one at) [
+    | inl before ↦ below_lower limit lower one j start instance (was.within j one before)
+    | inr last ↦ subst (λ b. IsBelow lower b j) (sym is ∙ last.1) (omega arith, λ _. omega (arith, last.0, len))
+  ];
+  reached = inl (get_last bounds bound lower.instance len ∙ ap (λ b. Some b) is);
+}
+
+-- one more bound, which isn't before the limit
+pub nearer_same : (limit : Limit) (bound : Option ℕ) (i : ℕ) → IsBelow limit bound i → (bounds : List (Option ℕ)) → length bounds ≡ i → IsLimit bounds limit → IsLimit (bounds ++ bound ∷ []) limit
+nearer_same limit bound i below bounds len was = record {
+  within = λ j one at. elim (get_push_cases bounds bound j one at) [
+    | inl before ↦ was.within j one before
+    | inr last ↦ subst (λ b. IsBelow limit b j) last.1 (subst (λ (k : ℕ). IsBelow limit bound k) (sym len ∙ sym last.0) below)
+  ];
+  reached = elim was.reached [
+    | inl at ↦ inl (get_front bounds bound limit.instance (Some limit.start) at)
+    | inr none ↦ inr none
+  ];
+}
+
+-- a bound that changes, and not before the limit
+pub limit_left : (limit : Limit) (before now : List (Option ℕ)) (i : ℕ) (bound : Option ℕ) → i < length now → now ≡ set before i bound → i ≢ limit.instance → IsBelow limit bound i → IsLimit before limit → IsLimit now limit
+limit_left limit before now i bound within is differ below was = record {
+  within = λ j one at. elim (cases_eq j i) [
+    | inl same ↦ subst (λ b. IsBelow limit b j) (here j one same at) (subst (λ (k : ℕ). IsBelow limit bound k) (sym same) below)
+    | inr other ↦ was.within j one (sym (get_set_other before i bound j other) ∙ (ap (λ l. slice_get l j) (sym is) ∙ at))
+  ];
+  reached = elim was.reached [
+    | inl at ↦ inl ((ap (λ l. slice_get l limit.instance) is ∙ get_set_other before i bound limit.instance (λ same. differ (sym same))) ∙ at)
+    | inr none ↦ inr none
+  ];
+}
+  where
+    long : i < length (set before i bound) → i < length before
+    long w = omega (arith, w, length-set before i bound)
+
+    here : (j : ℕ) (one : Option ℕ) → j ≡ i → slice_get now j ≡ Some one → bound ≡ one
+    here j one same at = same_Some bound one (sym (get_set_here before i bound (long (subst (λ l. i < length l) is within))) ∙ (ap (λ l. slice_get l i) (sym is) ∙ (ap (slice_get now) (sym same) ∙ at)))
+
+-- a bound that changes to one before the limit
+pub limit_lowered : (limit lower : Limit) (bound : Option ℕ) → bound ≡ Some lower.start → lower.start ≤ limit.start → (lower.start ≡ limit.start → lower.instance < limit.instance)
+    → (before now : List (Option ℕ)) → now ≡ set before lower.instance bound → lower.instance < length now → IsLimit before limit → IsLimit now lower
+limit_lowered limit lower bound is start instance before now set_is within was = record {
+  within = λ j one at. elim (cases_eq j lower.instance) [
+    | inl same ↦ subst (λ b. IsBelow lower b j) (sym is ∙ here j one same at) (omega arith, λ _. omega (arith, same))
+    | inr other ↦ below_lower limit lower one j start instance (was.within j one (sym (get_set_other before lower.instance bound j other) ∙ (ap (λ l. slice_get l j) (sym set_is) ∙ at)))
+  ];
+  reached = inl (ap (λ l. slice_get l lower.instance) set_is ∙ (set_here ∙ ap (λ b. Some b) is));
+}
+  where
+    set_here : slice_get (set before lower.instance bound) lower.instance ≡ Some bound
+    set_here = get_set_here before lower.instance bound (long (subst (λ l. lower.instance < length l) set_is within))
+      where
+        long : lower.instance < length (set before lower.instance bound) → lower.instance < length before
+        long w = omega (arith, w, length-set before lower.instance bound)
+
+    here : (j : ℕ) (one : Option ℕ) → j ≡ lower.instance → slice_get now j ≡ Some one → bound ≡ one
+    here j one same at = same_Some bound one (sym set_here ∙ (ap (λ l. slice_get l lower.instance) (sym set_is) ∙ (ap (slice_get now) (sym same) ∙ at)))
+
+-- a note that the limit allows is allowed by each bound
+pub allowed_by : (limit : Limit) (bound : Option ℕ) (j : ℕ) (entry : Entry) → IsBelow limit bound j → Allows (Some limit.start) limit.instance entry → Allows bound j entry
+allowed_by limit None j entry below allowed = tt
+allowed_by limit (Some floor) j entry below allowed =
+    (omega (arith, below.0, allowed.0), λ at. let b = below.1 in let k = allowed.1 in omega (arith, at, below.0, allowed.0, b, k))
+
+-- from an instance on, and before another, each bound is behind this start
+abbrev pub AreBehind : List (Option ℕ) → ℕ → ℕ → ℕ → Type 0
+AreBehind bounds start first at = (j : ℕ) (floor : ℕ) → first ≤ j → j < at → slice_get bounds j ≡ Some (Some floor) → start < floor
+
+pub behind_more : (bounds : List (Option ℕ)) (start first at : ℕ) → AreBehind bounds start first at → ((floor : ℕ) → slice_get bounds at ≡ Some (Some floor) → start < floor) → AreBehind bounds start first (at + 1)
+behind_more bounds start first at behind one j floor low high got = elim (cases_eq j at) [
+  | inl same ↦ one floor (ap (slice_get bounds) (sym same) ∙ got)
+  | inr differ ↦ behind j floor low (omega (arith, high, differ)) got
+]
+
+-- the first bound that is the same
+pub past_is : (limit : Limit) (before now : List (Option ℕ)) (bound : Option ℕ) (at : ℕ) → now ≡ set before limit.instance bound → IsLimit before limit → limit.instance ≤ at
+    → AreBehind now limit.start limit.instance at → slice_get now at ≡ Some (Some limit.start) → IsLimit now (record { start = limit.start; instance = at })
+past_is limit before now bound at is was from behind here = record { within = by; reached = inl here }
+  where
+    by : (j : ℕ) (one : Option ℕ) → slice_get now j ≡ Some one → IsBelow (record { start = limit.start; instance = at }) one j
+    by j None got = tt
+    by j (Some floor) got = elim (cases_lt j at) [
+      | inr past ↦ elim (cases_eq j limit.instance) [
+        | inl same ↦
+            let there : j ≡ at = omega (arith, same, past, from) in
+            let f : floor ≡ limit.start = same_Some floor limit.start (same_Some (Some floor) (Some limit.start) (sym got ∙ (ap (slice_get now) there ∙ here))) in
+            (omega (arith, f), λ e. past)
+        | inr differ ↦
+            let below = was.within j (Some floor) (sym (get_set_other before limit.instance bound j differ) ∙ (ap (λ l. slice_get l j) (sym is) ∙ got)) in
+            (below.0, λ e. past)
+      ]
+      | inl low ↦ elim (cases_lt j limit.instance) [
+        | inl out ↦
+            let below = was.within j (Some floor) (sym (get_set_other before limit.instance bound j (λ same. omega (arith, same, out))) ∙ (ap (λ l. slice_get l j) (sym is) ∙ got)) in
+            let b = below.1 in
+            (below.0, λ e. absurd (omega (arith, e, b, out)))
+        | inr inside ↦
+            let above = behind j floor inside low got in
+            (omega (arith, above), λ e. absurd (omega (arith, e, above)))
+      ]
+    ]

@@ -1,0 +1,6 @@
+pub mod Bounds
+pub mod Marks
+pub mod Merging
+pub mod Limits
+pub mod Queues
+pub mod Held

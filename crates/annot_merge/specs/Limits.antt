@@ -1,0 +1,23 @@
+-- The last place at which a note may be given, of all bounds.
+use Rattle.std.specs.Prelude.{ℕ, ◌≡◌, ◌≤◌, ◌⊎◌, ◌-◌, ◌^◌, List, []}
+use Rattle.std.specs.Prelude.{◌∷◌, ◌++◌, length, slice_get, Option, Some, None}
+use Rattle.annot_merge.specs.declared.limit.Limit.{Limit}
+
+-- a limit is at the bound of an instance or before it
+abbrev pub IsBelow : Limit → Option ℕ → ℕ → Type 0
+IsBelow limit None instance = Unit {0}
+IsBelow limit (Some floor) instance =
+    (limit.start ≤ floor) × (floor ≡ limit.start → limit.instance ≤ instance)
+
+-- it is the least of the bounds; where there is none, it is behind all places
+pub record IsLimit (bounds : List (Option ℕ)) (limit : Limit) : Type 0 where
+  pub within : (instance : ℕ) (bound : Option ℕ) → slice_get bounds instance ≡ Some bound
+      → IsBelow limit bound instance
+  pub reached : (slice_get bounds limit.instance ≡ Some (Some limit.start))
+      ⊎ ((limit.start ≡ 2 ^ 64 - 1) × (limit.instance ≡ 2 ^ 32 - 1))
+
+-- the limit of some bounds and one more
+abbrev pub IsNearer : Limit → ℕ → Option ℕ → Limit → Type 0
+IsNearer limit instance bound result =
+    (bounds : List (Option ℕ)) → length bounds ≡ instance → IsLimit bounds limit
+    → IsLimit (bounds ++ bound ∷ []) result

@@ -1,0 +1,9 @@
+// Up to where notes may be given.
+
+/// The last place at which a note may be given: a start, and the last instance that may start
+/// there.
+#[derive(Clone, Copy, Debug, PartialEq, Eq)]
+pub struct Limit {
+    pub start: u64,
+    pub instance: u32,
+}

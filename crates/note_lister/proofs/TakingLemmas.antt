@@ -1,0 +1,230 @@
+-- What is written of one more mark.
+use Rattle.std.proofs.Common.{◌≡◌, ◌≢◌, inl, inr, ℕ, ◌==◌, ◌≤◌, ◌<◌, Bool, true, false, cond, List, [], ◌∷◌, ◌++◌, length, get_or, Option, Some, None, Ok, Err, refl, sym, ◌∙◌, ap, subst, append_assoc, arith}
+use Rattle.std.specs.Prelude.{IsSome}
+use Rattle.std.specs.Io.KnownBytes.{Appends}
+use Rattle.std.proofs.lemmas.Bool.{cases_eq}
+use Rattle.std.proofs.lemmas.Bool.Decides.{nat_tests}
+use Rattle.std.proofs.lemmas.Grind.{flat_map-append}
+use Rattle.std.proofs.lemmas.List.{append-nil}
+use Rattle.std.proofs.lemmas.List.Elements.{All-nil}
+use Rattle.la_base.specs.declared.wires.Mark.{Mark}
+use Rattle.la_base.specs.declared.wires.Mark.TheVariants.{Note as NoteMark, Piece as PieceMark, Floor as FloorMark, End as EndMark}
+use Rattle.la_io.specs.Causes.{AppendsFront, Rose}
+use Rattle.la_io.specs.Feeds.{AddsMark}
+use Rattle.la_io.specs.Grown.{appends_nothing, appends_on}
+use Rattle.la_io.specs.declared.outside.Failed.{Failed}
+use Rattle.la_io.proofs.Fronts.{front_longer, front_on, front_whole}
+use Rattle.note_order.specs.declared.entry.Entry.{Entry}
+use Rattle.stack_spec.specs.Accepting.{Accepted}
+use Rattle.annot_merge.specs.Bounds.{IsAllowed}
+use Rattle.annot_merge.specs.Held.{Stands, StandsStill, Takes, count_of, held_in}
+use Rattle.annot_merge.specs.Marks.{Begins, Pushes}
+use Rattle.annot_merge.specs.declared.merge.Merge.{Merge}
+use Rattle.note_lister.specs.Data.{bytes_in, wanted_by, wanted_of}
+use Rattle.note_lister.specs.Lines.{shown_line, shown_lines}
+use Rattle.note_lister.specs.Prompt.{Prompts}
+use Rattle.note_lister.specs.Ready.{ListsReady}
+use Rattle.note_lister.specs.Taking.{Writes, WritesAll, WritesFront, WritesFrontOf, WritesLines}
+use Rattle.note_lister.specs.declared.stop.ListStop.{ListStop}
+use Rattle.note_lister.specs.declared.stop.ListStop.TheVariants.{Write, NoMemory}
+use Rattle.note_lister.proofs.Settling.{Settles, one_more, settles}
+
+pub as_pushed : (before after : ℕ → List Mark) (instance : ℕ) (mark : Mark) → AddsMark before after instance mark → Pushes before after instance mark
+as_pushed before after instance mark adds = record { here = adds.here; others = adds.others }
+
+pub begins_itself : {X : Type 0} (list : List X) → Begins list list
+begins_itself list = ([], append-nil list)
+
+-- notes are listed, and no binary data is wanted
+pub wants_none : {X : Type 0} (binary : Option X) → binary ≡ None → IsSome binary → ⊥
+wants_none None is some = cc
+wants_none (Some wanted) is some = cc
+
+-- bytes among marks
+pub bytes_in-append : (class : ℕ) (xs ys : List Mark) → bytes_in class (xs ++ ys) ≡ bytes_in class xs ++ bytes_in class ys
+bytes_in-append class [] ys = refl
+bytes_in-append class (NoteMark note ∷ xs) ys = bytes_in-append class xs ys
+bytes_in-append class (PieceMark piece ∷ xs) ys = by (piece.class == class) (bytes_in-append class xs ys)
+  where
+    by : (b : Bool) → bytes_in class (xs ++ ys) ≡ bytes_in class xs ++ bytes_in class ys
+        → cond b (piece.byte ∷ bytes_in class (xs ++ ys)) (bytes_in class (xs ++ ys)) ≡ cond b (piece.byte ∷ bytes_in class xs) (bytes_in class xs) ++ bytes_in class ys
+    by true more = ap (λ (l : List ℕ). piece.byte ∷ l) more
+    by false more = more
+bytes_in-append class (FloorMark start ∷ xs) ys = bytes_in-append class xs ys
+bytes_in-append class (EndMark ∷ xs) ys = bytes_in-append class xs ys
+
+-- what a mark adds to the bytes that are wanted
+pub bytes_after : (wanted : ℕ × ℕ) (before after : ℕ → List Mark) (instance : ℕ) (mark : Mark) → AddsMark before after instance mark → bytes_in wanted.1 (after wanted.0) ≡ bytes_in wanted.1 (before wanted.0) ++ wanted_of wanted instance mark
+bytes_after wanted before after instance mark adds = by (wanted.0 == instance) refl
+  where
+    by : (here : Bool) → (wanted.0 == instance) ≡ here → bytes_in wanted.1 (after wanted.0) ≡ bytes_in wanted.1 (before wanted.0) ++ cond here (bytes_in wanted.1 (mark ∷ [])) []
+    by true is =
+        let same : wanted.0 ≡ instance = grind (arith, nat_tests, is) in
+        subst (λ (k : ℕ). bytes_in wanted.1 (after k) ≡ bytes_in wanted.1 (before k) ++ bytes_in wanted.1 (mark ∷ [])) (sym same)
+        (ap (bytes_in wanted.1) adds.here ∙ bytes_in-append wanted.1 (before instance) (mark ∷ []))
+    by false is = ap (bytes_in wanted.1) (adds.others wanted.0 (λ same. absurd (differ is same))) ∙ sym (append-nil (bytes_in wanted.1 (before wanted.0)))
+      where
+        differ : (wanted.0 == instance) ≡ false → wanted.0 ≡ instance → ⊥
+        differ other same = let equal : (wanted.0 == instance) ≡ true = grind (arith, nat_tests, same) in absurd cc
+
+module _ (accepted : Accepted) where
+  -- nothing was taken
+  pub nothing_taken : (binary : Option (ℕ × ℕ)) (merge : Merge) (old : Option (List ℕ)) → Stands merge (λ _. []) [] → held_in merge ≡ [] → WritesAll accepted binary merge old old (λ _. [])
+  nothing_taken None merge old stands none = record {
+    given = [];
+    stands = stands;
+    prompt = subst (λ l. (k : ℕ) (d : Entry) → k < length l → IsAllowed (count_of merge) (λ _. []) (get_or l k d) → ⊥) (sym none) (All-nil (λ e. IsAllowed (count_of merge) (λ _. []) e → ⊥));
+    lines = appends_nothing old;
+  }
+  nothing_taken (Some wanted) merge old stands none = appends_nothing old
+
+  -- it is stopped now
+  stopped_now : (count : ℕ) (old new : Option (List ℕ)) (marks : ℕ → List Mark) → WritesFrontOf accepted count old new marks → WritesFront accepted count old new marks
+  stopped_now count old new marks w = record {
+    first = marks;
+    begins = λ j. begins_itself (marks j);
+    out = w.out;
+    prompts = w.prompts;
+    front = w.front;
+  }
+
+  -- it was never stopped
+  pub never_stopped : (merge : Merge) (cause : Option ListStop) (stops : ℕ) (old new : Option (List ℕ)) (failed_old failed_new : ℕ) (marks : ℕ → List Mark) → stops ≡ 0 → Writes accepted merge cause stops old new failed_old failed_new marks
+      → (cause ≡ None) × (failed_new ≡ failed_old) × WritesAll accepted accepted.binary merge old new marks
+  never_stopped merge None stops old new failed_old failed_new marks never w = (refl, w.1, w.2)
+  never_stopped merge (Some Write) stops old new failed_old failed_new marks never w = absurd (w.0 never)
+  never_stopped merge (Some NoMemory) stops old new failed_old failed_new marks never w = absurd (w.0 never)
+
+  module _ (before after : ℕ → List Mark) (instance : ℕ) (mark : Mark) (adds : AddsMark before after instance mark) where
+    -- it was stopped before
+    front_later : (count : ℕ) (old new : Option (List ℕ)) → WritesFront accepted count old new before → WritesFront accepted count old new after
+    front_later count old new w = record {
+      first = w.first;
+      begins = λ j. elim (cases_eq j instance) [
+        | inl same ↦ subst (λ (k : ℕ). Begins (w.first k) (after k)) (sym same) ((w.begins instance).0 ++ mark ∷ [], sym (append_assoc (w.first instance) (w.begins instance).0 (mark ∷ [])) ∙ (ap (λ (l : List Mark). l ++ mark ∷ []) (w.begins instance).1 ∙ sym adds.here))
+        | inr differ ↦ subst (Begins (w.first j)) (sym (adds.others j differ)) (w.begins j)
+      ];
+      out = w.out;
+      prompts = w.prompts;
+      front = w.front;
+    }
+
+    pub stopped_again : (merge : Merge) (cause : Option ListStop) (stops more : ℕ) (old new : Option (List ℕ)) (failed_old failed_new : ℕ) → stops ≢ 0 → more ≢ 0 → Writes accepted merge cause stops old new failed_old failed_new before
+        → Writes accepted merge cause more old new failed_old failed_new after
+    stopped_again merge None stops more old new failed_old failed_new some again w = absurd (some w.0)
+    stopped_again merge (Some Write) stops more old new failed_old failed_new some again w = (again, w.1, w.2, front_later (count_of merge) old new w.3)
+    stopped_again merge (Some NoMemory) stops more old new failed_old failed_new some again w = (again, w.1, front_later (count_of merge) old new w.2)
+
+    -- binary data is wanted
+    data_on : (binary : Option (ℕ × ℕ)) → IsSome binary → (merge : Merge) (old mid new : Option (List ℕ)) → WritesAll accepted binary merge old mid before → Appends mid new (wanted_by binary instance mark) → WritesAll accepted binary merge old new after
+    data_on None some merge old mid new had more = absurd cc
+    data_on (Some wanted) some merge old mid new had more =
+        appends_on old mid new (bytes_in wanted.1 (before wanted.0)) (wanted_of wanted instance mark) (bytes_in wanted.1 (after wanted.0)) had more (sym (bytes_after wanted before after instance mark adds))
+
+    data_front : (binary : Option (ℕ × ℕ)) → IsSome binary → accepted.binary ≡ binary → (merge : Merge) (old mid new : Option (List ℕ)) → WritesAll accepted binary merge old mid before → AppendsFront mid new (wanted_by binary instance mark)
+        → WritesFrontOf accepted (count_of merge) old new after
+    data_front None some is merge old mid new had more = absurd cc
+    data_front (Some wanted) some is merge old mid new had more = record {
+      out = bytes_in wanted.1 (after wanted.0);
+      prompts = subst (λ b. Prompts accepted b (count_of merge) after (bytes_in wanted.1 (after wanted.0))) (sym is) refl;
+      front = subst (AppendsFront old new) (sym (bytes_after wanted before after instance mark adds)) (front_on old mid new (bytes_in wanted.1 (before wanted.0)) (wanted_of wanted instance mark) had more);
+    }
+
+    -- notes are listed
+    lines_append : (xs ys : List Entry) → shown_lines accepted (xs ++ ys) ≡ shown_lines accepted xs ++ shown_lines accepted ys
+    lines_append xs ys = flat_map-append (shown_line accepted) xs ys
+
+    lines_on : (merge mid_merge last : Merge) (old mid new : Option (List ℕ)) (done : Unit {0}) → WritesLines accepted merge old mid before → Takes merge mid_merge instance mark
+        → ((marks : ℕ → List Mark) (given : List Entry) → Stands mid_merge marks given → ListsReady accepted last mid new marks given (Ok done)) → WritesLines accepted last old new after
+    lines_on merge mid_merge last old mid new done w takes lists =
+        let r = lists after w.given (takes before after w.given w.stands (as_pushed before after instance mark adds)) in
+        record {
+          given = w.given ++ r.0.more;
+          stands = r.0.stands;
+          prompt = r.1;
+          lines = appends_on old mid new (shown_lines accepted w.given) (shown_lines accepted r.0.more) (shown_lines accepted (w.given ++ r.0.more)) w.lines r.0.lines (sym (lines_append w.given r.0.more));
+        }
+
+    module _ (is : accepted.binary ≡ None) where
+      front_of : (count : ℕ) (old new : Option (List ℕ)) (given : List Entry) (s : Settles count after given) → AppendsFront old new (shown_lines accepted given) → WritesFrontOf accepted count old new after
+      front_of count old new given s front = record {
+        out = shown_lines accepted (given ++ s.more);
+        prompts = subst (λ b. Prompts accepted b count after (shown_lines accepted (given ++ s.more))) (sym is) (record {
+          given = given ++ s.more;
+          held = s.held;
+          merges = s.merges;
+          prompt = s.prompt;
+          lines = refl;
+        });
+        front = subst (AppendsFront old new) (sym (lines_append given s.more)) (front_longer old new (shown_lines accepted given) (shown_lines accepted s.more) front);
+      }
+
+      lines_front : (merge mid_merge last : Merge) (old mid new : Option (List ℕ)) (failed : Failed) → WritesLines accepted merge old mid before → Takes merge mid_merge instance mark
+          → ((marks : ℕ → List Mark) (given : List Entry) → Stands mid_merge marks given → ListsReady accepted last mid new marks given (Err failed)) → WritesFrontOf accepted (count_of last) old new after
+      lines_front merge mid_merge last old mid new failed w takes lists =
+          let r = lists after w.given (takes before after w.given w.stands (as_pushed before after instance mark adds)) in
+          front_of (count_of last) old new (w.given ++ r.more) (settles (count_of last) after (w.given ++ r.more) (held_in last) r.stands.merges)
+          (subst (AppendsFront old new) (sym (lines_append w.given r.more)) (front_on old mid new (shown_lines accepted w.given) (shown_lines accepted r.more) w.lines r.front))
+
+      lines_cut : (merge last : Merge) (old new : Option (List ℕ)) → instance < count_of last → WritesLines accepted merge old new before → StandsStill merge last → WritesFrontOf accepted (count_of last) old new after
+      lines_cut merge last old new within w still =
+          front_of (count_of last) old new w.given (one_more (count_of last) before after w.given (held_in last) instance mark within (still before w.given w.stands).merges (as_pushed before after instance mark adds))
+          (front_whole old new (shown_lines accepted w.given) w.lines)
+
+    -- what was written before, and how often the sink had failed
+    module _ (merge : Merge) (cause : Option ListStop) (stops : ℕ) (old mid new : Option (List ℕ)) (failed_old failed_mid failed_new : ℕ) (never : stops ≡ 0) (w : Writes accepted merge cause stops old mid failed_old failed_mid before) where
+      had : (cause ≡ None) × (failed_mid ≡ failed_old) × WritesAll accepted accepted.binary merge old mid before
+      had = never_stopped merge cause stops old mid failed_old failed_mid before never w
+
+      -- all of it
+      goes_well : (last : Merge) → failed_new ≡ failed_mid → WritesAll accepted accepted.binary last old new after → Writes accepted last cause stops old new failed_old failed_new after
+      goes_well last kept all = subst (λ c. Writes accepted last c stops old new failed_old failed_new after) (sym had.0) (never, kept ∙ had.1, all)
+
+      -- a write failed
+      fails : (last : Merge) (now : Option ListStop) (more : ℕ) → now ≡ Some Write → more ≢ 0 → failed_mid ≤ failed_new → Rose failed_mid failed_new → WritesFrontOf accepted (count_of last) old new after
+          → Writes accepted last now more old new failed_old failed_new after × WritesFrontOf accepted (count_of last) old new after
+      fails last now more is some later rose front = (
+        subst (λ c. Writes accepted last c more old new failed_old failed_new after) (sym is)
+            (some, omega (arith, had.1, later), subst (λ (n : ℕ). Rose n failed_new) had.1 rose, stopped_now (count_of last) old new after front),
+        front,
+      )
+
+      pub data_writes : IsSome accepted.binary → failed_new ≡ failed_mid → Appends mid new (wanted_by accepted.binary instance mark) → Writes accepted merge cause stops old new failed_old failed_new after
+      data_writes some kept more = goes_well merge kept (data_on accepted.binary some merge old mid new had.2 more)
+
+      pub data_fails : IsSome accepted.binary → (now : Option ListStop) (more : ℕ) → now ≡ Some Write → more ≢ 0 → failed_mid ≤ failed_new → Rose failed_mid failed_new → AppendsFront mid new (wanted_by accepted.binary instance mark)
+          → Writes accepted merge now more old new failed_old failed_new after × WritesFrontOf accepted (count_of merge) old new after
+      data_fails some now more is again later rose front = fails merge now more is again later rose (data_front accepted.binary some refl merge old mid new had.2 front)
+
+      module _ (notes : accepted.binary ≡ None) (mid_merge last : Merge) where
+        lines : WritesLines accepted merge old mid before
+        lines = subst (λ b. WritesAll accepted b merge old mid before) notes had.2
+
+        pub mark_writes : (done : Unit {0}) → failed_new ≡ failed_mid → Takes merge mid_merge instance mark
+            → ((marks : ℕ → List Mark) (given : List Entry) → Stands mid_merge marks given → ListsReady accepted last mid new marks given (Ok done)) → Writes accepted last cause stops old new failed_old failed_new after
+        mark_writes done kept takes lists = goes_well last kept (subst (λ b. WritesAll accepted b last old new after) (sym notes) (lines_on merge mid_merge last old mid new done lines takes lists))
+
+        pub mark_fails : (failed : Failed) (now : Option ListStop) (more : ℕ) → now ≡ Some Write → more ≢ 0 → failed_mid ≤ failed_new → Rose failed_mid failed_new → Takes merge mid_merge instance mark
+            → ((marks : ℕ → List Mark) (given : List Entry) → Stands mid_merge marks given → ListsReady accepted last mid new marks given (Err failed)) → Writes accepted last now more old new failed_old failed_new after × WritesFrontOf accepted (count_of last) old new after
+        mark_fails failed now more is again later rose takes lists = fails last now more is again later rose (lines_front notes merge mid_merge last old mid new failed lines takes lists)
+
+    -- there was no memory for it
+    pub mark_cut : (merge : Merge) (cause : Option ListStop) (stops : ℕ) (old new : Option (List ℕ)) (failed_old failed_new : ℕ) → stops ≡ 0 → Writes accepted merge cause stops old new failed_old failed_new before → accepted.binary ≡ None
+        → (last : Merge) (now : Option ListStop) (more : ℕ) → now ≡ Some NoMemory → more ≢ 0 → instance < count_of last → StandsStill merge last → Writes accepted last now more old new failed_old failed_new after × WritesFrontOf accepted (count_of last) old new after
+    mark_cut merge cause stops old new failed_old failed_new never w notes last now more is again within still =
+        let h = never_stopped merge cause stops old new failed_old failed_new before never w in
+        let front = lines_cut notes merge last old new within (subst (λ b. WritesAll accepted b merge old new before) notes h.2) still in (
+          subst (λ c. Writes accepted last c more old new failed_old failed_new after) (sym is) (again, h.1, stopped_now (count_of last) old new after front),
+          front,
+        )
+
+-- a note more that was given
+pub listed_more : (accepted : Accepted) (old mid new : Option (List ℕ)) (more : List Entry) (e : Entry) → Appends old mid (shown_lines accepted more) → Appends mid new (shown_line accepted e) → Appends old new (shown_lines accepted (more ++ e ∷ []))
+listed_more accepted old mid new more e had one =
+    appends_on old mid new (shown_lines accepted more) (shown_line accepted e) (shown_lines accepted (more ++ e ∷ [])) had one
+    (ap (λ (l : List ℕ). shown_lines accepted more ++ l) (sym (append-nil (shown_line accepted e))) ∙ sym (flat_map-append (shown_line accepted) more (e ∷ [])))
+
+pub listed_front : (accepted : Accepted) (old mid new : Option (List ℕ)) (more : List Entry) (e : Entry) → Appends old mid (shown_lines accepted more) → AppendsFront mid new (shown_line accepted e) → AppendsFront old new (shown_lines accepted (more ++ e ∷ []))
+listed_front accepted old mid new more e had one =
+    subst (AppendsFront old new) (ap (λ (l : List ℕ). shown_lines accepted more ++ l) (sym (append-nil (shown_line accepted e))) ∙ sym (flat_map-append (shown_line accepted) more (e ∷ [])))
+    (front_on old mid new (shown_lines accepted more) (shown_line accepted e) had one)

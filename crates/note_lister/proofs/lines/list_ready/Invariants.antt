@@ -1,0 +1,21 @@
+use Rattle.std.proofs.Common.{◌≡◌, List, ℕ, length}
+use Rattle.la_base.specs.declared.wires.Mark.{Mark}
+use Rattle.note_order.specs.declared.entry.Entry.{Entry}
+use Rattle.stack_spec.specs.Stacks.{stack_meaning}
+use Rattle.annot_merge.specs.Held.{Stands, count_of, held_in}
+use Rattle.note_lister.specs.Ready.{ListsAll}
+use Rattle.note_lister.proofs.lines.list_ready.Given as goal
+
+-- the lines of the notes given so far are written
+abbrev pub invariant-loop-instance : goal.invariant-loop-instance
+invariant-loop-instance g l =
+    let k = g.K.Sink in
+    record {
+      count : count_of l.merge ≡ count_of l.fn.merge;
+      lists : (marks : ℕ → List Mark) (given : List Entry) → Stands l.fn.merge marks given → ListsAll (stack_meaning l.stack) l.merge (k.written l.fn.sink) (k.written l.sink) marks given;
+      faults : k.faults l.sink ≡ k.faults l.fn.sink;
+      goes_on : k.goes_on l.fn.sink l.sink;
+    }
+
+abbrev pub decreases-loop-instance : goal.decreases-loop-instance
+decreases-loop-instance g l = length (held_in l.merge)

@@ -1,0 +1,139 @@
+-- What a lister wrote of the marks that it took.
+use Rattle.std.specs.Prelude.{ℕ, ◌≡◌, ◌≢◌, ◌≤◌, Bool, true, false, List, [], Option, Some, None}
+use Rattle.std.specs.Prelude.{Result, IsErr, IsSome}
+use Rattle.std.specs.Io.KnownBytes.{Appends}
+use Rattle.la_base.specs.declared.wires.Mark.{Mark}
+use Rattle.la_io.specs.Causes.{AppendsFront, Rose}
+use Rattle.la_io.specs.declared.feeds.Stopped.{Stopped}
+use Rattle.note_order.specs.declared.entry.Entry.{Entry}
+use Rattle.stack_spec.specs.Accepting.{Accepted}
+use Rattle.stack_spec.specs.Stacks.{stack_meaning}
+use Rattle.stack_spec.specs.declared.stack.Stack.{Stack}
+use Rattle.std.proofs.Common.{MutBor}
+use Rattle.annot_merge.specs.Held.{Stands, count_of, held_in}
+use Rattle.annot_merge.specs.Marks.{Begins}
+use Rattle.annot_merge.specs.declared.merge.Merge.{Merge}
+use Rattle.note_lister.specs.Data.{bytes_in}
+use Rattle.note_lister.specs.Lines.{shown_lines}
+use Rattle.note_lister.specs.Prompt.{NoneAllowed, Prompts}
+use Rattle.note_lister.specs.declared.lister.Lister.{Lister}
+use Rattle.note_lister.specs.declared.stop.ListStop.{ListStop}
+use Rattle.note_lister.specs.declared.stop.ListStop.TheVariants.{Write, NoMemory}
+
+-- the lines of the notes that were given are written, and none that is held may be given
+pub record WritesLines (accepted : Accepted) (merge : Merge) (old new : Option (List ℕ))
+    (marks : ℕ → List Mark) : Type 0 where
+  pub given : List Entry
+  pub stands : Stands merge marks given
+  pub prompt : NoneAllowed (count_of merge) marks (held_in merge)
+  pub lines : Appends old new (shown_lines accepted given)
+
+-- all was written at once; or, where binary data is wanted, its bytes were
+abbrev pub WritesAll : Accepted → Option (ℕ × ℕ) → Merge → Option (List ℕ) → Option (List ℕ)
+    → (ℕ → List Mark) → Type 0
+WritesAll accepted None merge old new marks = WritesLines accepted merge old new marks
+WritesAll accepted (Some wanted) merge old new marks =
+    Appends old new (bytes_in wanted.1 (marks wanted.0))
+
+-- the taking was stopped at the last of these marks: a front of what was to be written at once of
+-- them is written
+pub record WritesFrontOf (accepted : Accepted) (count : ℕ) (old new : Option (List ℕ))
+    (marks : ℕ → List Mark) : Type 0 where
+  pub out : List ℕ
+  pub prompts : Prompts accepted accepted.binary count marks out
+  pub front : AppendsFront old new out
+
+-- it was stopped at the last of these first marks
+pub record WritesFront (accepted : Accepted) (count : ℕ) (old new : Option (List ℕ))
+    (marks : ℕ → List Mark) : Type 0 where
+  pub first : ℕ → List Mark
+  pub begins : (j : ℕ) → Begins (first j) (marks j)
+  pub out : List ℕ
+  pub prompts : Prompts accepted accepted.binary count first out
+  pub front : AppendsFront old new out
+
+-- what was written, by the cause for which the taking was stopped, if it was; and how often the
+-- sink failed
+abbrev pub Writes : Accepted → Merge → Option ListStop → ℕ → Option (List ℕ) → Option (List ℕ) → ℕ
+    → ℕ → (ℕ → List Mark) → Type 0
+Writes accepted merge None stops old new failed_old failed_new marks =
+    (stops ≡ 0) × (failed_new ≡ failed_old) × WritesAll accepted accepted.binary merge old new marks
+Writes accepted merge (Some Write) stops old new failed_old failed_new marks =
+    (stops ≢ 0) × (failed_old ≤ failed_new) × Rose failed_old failed_new
+    × WritesFront accepted (count_of merge) old new marks
+Writes accepted merge (Some NoMemory) stops old new failed_old failed_new marks =
+    (stops ≢ 0) × (failed_new ≡ failed_old) × WritesFront accepted (count_of merge) old new marks
+
+-- how many instances a lister takes marks of
+abbrev pub instances_of : {K : Type 0} → Lister K → ℕ
+instances_of lister = count_of lister.merge
+
+-- the sink behind it, and what it was when it was lent
+abbrev pub sink_of : {K : Type 0} → Lister K → K
+sink_of lister = lister.sink.now
+
+abbrev pub first_sink : {K : Type 0} → Lister K → K
+first_sink lister = lister.first.value.now
+
+-- its stack, the reference to its sink, and what that was when it was lent
+abbrev pub stack_of : {K : Type 0} → Lister K → Stack
+stack_of lister = lister.stack.now
+
+abbrev pub sink_ref : {K : Type 0} → Lister K → MutBor K
+sink_ref lister = lister.sink
+
+abbrev pub first_of : {K : Type 0} → Lister K → MutBor K
+first_of lister = lister.first.value
+
+-- why it was stopped, if it was, and how often
+abbrev pub cause_of : {K : Type 0} → Lister K → Option ListStop
+cause_of lister = lister.cause
+
+abbrev pub stops_of : {K : Type 0} → Lister K → ℕ
+stops_of lister = lister.stops
+
+-- the notes that it holds
+abbrev pub held_by : {K : Type 0} → Lister K → List Entry
+held_by lister = held_in lister.merge
+
+-- each mark goes to its merge
+abbrev pub merges_in : {K : Type 0} → Lister K → Bool
+merges_in lister = lister.merges
+
+-- a lister took these marks since it was made: it still has the sink that it was lent, and wrote
+-- what it had to
+pub record Took {K : Type 0} (written : K → Option (List ℕ)) (faults : K → ℕ)
+    (goes_on : K → K → Type 0) (lister : Lister K) (marks : ℕ → List Mark) : Type 0 where
+  pub same_sink : lister.sink.ghost_name ≡ lister.first.value.ghost_name
+  pub goes_on_is : goes_on (first_sink lister) (sink_of lister)
+  pub writes : Writes (stack_meaning lister.stack.now) lister.merge lister.cause lister.stops
+      (written (first_sink lister)) (written (sink_of lister)) (faults (first_sink lister))
+      (faults (sink_of lister)) marks
+  -- where it was stopped once, that was at the last of these marks
+  pub at_stop : lister.stops ≡ 1 → WritesFrontOf (stack_meaning lister.stack.now)
+      (count_of lister.merge) (written (first_sink lister)) (written (sink_of lister)) marks
+  -- where binary data is wanted, no note is held
+  pub holds_none : IsSome (stack_meaning lister.stack.now).binary → held_in lister.merge ≡ []
+
+-- neither stack nor what it was lent has changed
+abbrev pub SameOrigin : {K : Type 0} → Lister K → Lister K → Type 0
+SameOrigin old new = (new.stack ≡ old.stack) × (new.first ≡ old.first)
+
+-- with true: it wasn't stopped yet; with false: it was stopped once, and its cause is there
+abbrev pub Goes : {K : Type 0} → Bool → Lister K → Type 0
+Goes true lister = (stops_of lister ≡ 0) × (cause_of lister ≡ None)
+Goes false lister = (stops_of lister ≡ 1) × IsSome (cause_of lister)
+
+-- a call is stopped for this cause, by how often the sink had failed before it and has now
+abbrev pub StopsFor : Option ListStop → ℕ → ℕ → Type 0
+StopsFor None before now = ⊥
+StopsFor (Some Write) before now = Rose before now
+StopsFor (Some NoMemory) before now = now ≡ before
+
+-- behind a stop a call is stopped again: nothing is written, and the cause stays
+pub record StaysStopped {K : Type 0} (old new : Lister K) (result : Result (Unit {0}) Stopped)
+    : Type 0 where
+  pub stopped : IsErr result
+  pub sink : sink_ref new ≡ sink_ref old
+  pub cause : cause_of new ≡ cause_of old
+  pub held : held_by new ≡ held_by old

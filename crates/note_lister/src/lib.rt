@@ -1,0 +1,13 @@
+//! What takes the marks of a stack of decoders and writes their notes in the order of a listing,
+//! each as soon as it may be given.
+#![tactic(auto)]
+
+mod laws;
+mod lines;
+mod lister;
+mod stop;
+mod take;
+
+pub use laws::lister_is_send;
+pub use lister::Lister;
+pub use stop::ListStop;

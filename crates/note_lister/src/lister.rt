@@ -1,0 +1,31 @@
+// The lister.
+ghost use Rattle.std.specs.Prelude.{◌≡◌, IsSome, None, false, true};
+ghost use Rattle.stack_spec.specs.Stacks.{stack_meaning};
+
+use crate::stop::ListStop;
+use annot_merge::Merge;
+use listing_out::NoteLine;
+use stack_spec::Stack;
+use std::snapshot::Snapshot;
+
+/// Takes the marks of the instances of a stack, and writes the line of each note of an instance
+/// that is shown as soon as no later note can come before it, in the order of a listing; or, where
+/// binary data is wanted, its bytes as they come.
+#[derive(Drop)]
+pub struct Lister<'a, 'b, K> {
+    pub(crate) stack: &'a Stack,
+    /// The sink, to be taken back.
+    pub sink: &'b mut K,
+    pub(crate) merge: Merge,
+    pub(crate) line: NoteLine,
+    /// Why the taking was stopped; none where it wasn't.
+    pub cause: Option<ListStop>,
+    pub(crate) stops: u64,
+    // Each mark goes to the merge: notes are listed, and it wasn't stopped.
+    pub(crate) merges: bool,
+    // What it was lent. Contracts alone read it.
+    pub(crate) first: Snapshot<&'b mut K>,
+    ghost going: { merges ≡ true → stops ≡ 0 },
+    ghost notes: { merges ≡ true → (stack_meaning stack.now).binary ≡ None },
+    ghost wanted: { merges ≡ false → stops ≡ 0 → IsSome (stack_meaning stack.now).binary },
+}

@@ -1,0 +1,271 @@
+// Taking marks.
+ghost use Rattle.std.specs.Prelude.{◌≡◌, ◌≢◌, ◌<◌, [], IfOk, IsErr, IsSome, OnErr, OnOk, Some};
+ghost use Rattle.std.specs.Prelude.{false, length, true};
+ghost use Rattle.annot_merge.specs.Held.{Stands, count_of, held_in};
+ghost use Rattle.std.specs.Result.{is_ok};
+ghost use Rattle.std.specs.Io.KnownBytes.{Appends};
+ghost use Rattle.la_io.specs.Causes.{AppendsFront, HasCause};
+ghost use Rattle.la_io.specs.Feeds.{TakesMark};
+ghost use Rattle.stack_spec.specs.Stacks.{instances_in, stack_meaning};
+ghost use Rattle.note_lister.specs.Data.{wanted_by};
+ghost use Rattle.note_lister.specs.Taking.{Goes, SameOrigin, StaysStopped, StopsFor, Took};
+ghost use Rattle.note_lister.specs.Taking.{cause_of, first_of, first_sink, held_by, instances_of};
+ghost use Rattle.note_lister.specs.Taking.{merges_in};
+ghost use Rattle.note_lister.specs.Taking.{sink_of, stack_of, stops_of};
+
+use crate::lines::list_ready;
+use crate::lister::Lister;
+use crate::stop::ListStop;
+use annot_merge::Merge;
+use la_base::{Mark, NoMemory};
+use la_io::{Failed, MarkTake, Sink, Stopped};
+use listing_out::{NoteLine, write_piece};
+use stack_spec::Stack;
+use std::alloc::Global;
+use std::snapshot::Snapshot;
+
+// Writes the byte of a mark, where it is a piece that is wanted.
+fn write_wanted<K: Sink>(
+    stack: &Stack,
+    instance: u32,
+    mark: Mark,
+    sink: &mut K,
+) -> Result<(), Failed>
+    ensures whole { OnOk result
+        (Appends (K.written sink.old) (K.written sink.new)
+        (wanted_by (stack_meaning stack.now).binary instance mark)) }
+    ensures front { AppendsFront (K.written sink.old) (K.written sink.new)
+        (wanted_by (stack_meaning stack.now).binary instance mark) }
+    ensures cause { HasCause (K.faults sink.old) (K.faults sink.new) result }
+    ensures goes_on { K.goes_on sink.old sink.new }
+{
+    match (stack.binary(), mark) {
+        (Some((of, class)), Mark::Piece(piece)) => {
+            if of != instance {
+                return Ok(());
+            }
+            if piece.class != class {
+                return Ok(());
+            }
+            write_piece(sink, piece)
+        }
+        _ => Ok(()),
+    }
+}
+
+// The taking is stopped, for this cause.
+#[cold]
+fn stop(
+    cause: &mut Option<ListStop>,
+    stops: &mut u64,
+    merges: &mut bool,
+    why: ListStop,
+) -> Result<(), Stopped>
+    requires { stops.old ≡ 0 }
+    ensures cause { cause.new ≡ Some why }
+    ensures stops { stops.new ≡ 1 }
+    ensures merges { merges.new ≡ false }
+    ensures rose { HasCause stops.old stops.new result }
+    ensures stopped { IsErr result }
+{
+    *cause = Some(why);
+    *stops = 1;
+    *merges = false;
+    Err(Stopped)
+}
+
+// It was stopped before.
+#[cold]
+fn stop_again(stops: &mut u64) -> Result<(), Stopped>
+    requires { stops.old ≢ 0 }
+    ensures stops { 1 < stops.new }
+    ensures rose { HasCause stops.old stops.new result }
+    ensures stopped { IsErr result }
+{
+    *stops = stops.saturating_add(1);
+    Err(Stopped)
+}
+
+impl<'a, 'b, K: Sink> Lister<'a, 'b, K> {
+    /// Takes the marks of this stack by this merge, to which nothing was pushed.
+    pub fn over(stack: &'a Stack, merge: Merge, sink: &'b mut K) -> Lister<'a, 'b, K>
+        requires stands { Stands merge (λ _. []) [] }
+        requires none { held_in merge ≡ [] }
+        ensures instances { instances_of result ≡ count_of merge }
+        ensures stack { stack_of result ≡ stack.now }
+        ensures first { first_sink result ≡ sink.old }
+        ensures same { (first_of result).ghost_name ≡ sink.entry.ghost_name }
+        ensures goes { Goes true result }
+        ensures never { stops_of result ≡ 0 }
+        ensures took { Took K.written K.faults K.goes_on result (λ _. []) }
+    {
+        let first = Snapshot::of(&sink);
+        Lister {
+            stack,
+            sink,
+            merge,
+            line: NoteLine::new(),
+            cause: None,
+            stops: 0,
+            merges: stack.binary().is_none(),
+            first,
+        }
+    }
+
+    /// Takes the marks of this stack, of which none was taken yet, and writes to this sink.
+    pub fn new(
+        alloc: Global,
+        stack: &'a Stack,
+        sink: &'b mut K,
+    ) -> Result<Lister<'a, 'b, K>, NoMemory>
+        ensures instances { IfOk result
+            (λ lister. instances_of lister ≡ length (instances_in stack.now)) }
+        ensures stack { IfOk result (λ lister. stack_of lister ≡ stack.now) }
+        ensures first { IfOk result (λ lister. first_sink lister ≡ sink.old) }
+        ensures same { IfOk result
+            (λ lister. (first_of lister).ghost_name ≡ sink.entry.ghost_name) }
+        ensures goes { IfOk result (λ lister. Goes true lister) }
+        ensures never { IfOk result (λ lister. stops_of lister ≡ 0) }
+        ensures took { IfOk result
+            (λ lister. Took K.written K.faults K.goes_on lister (λ _. [])) }
+    {
+        match Merge::new(alloc, stack.count()) {
+            Ok(merge) => Ok(Lister::over(stack, merge, sink)),
+            Err(NoMemory) => Err(NoMemory),
+        }
+    }
+
+    // Takes a mark where notes are listed.
+    #[inline(always)]
+    fn take_mark(&mut self, instance: u32, mark: Mark) -> Result<(), Stopped>
+        requires within { instance < instances_of self.old }
+        requires merges { merges_in self.old ≡ true }
+        ensures adds { TakesMark (Took K.written K.faults K.goes_on self.old)
+            (Took K.written K.faults K.goes_on self.new) instance mark }
+        ensures instances { instances_of self.new ≡ instances_of self.old }
+        ensures cause { HasCause (stops_of self.old) (stops_of self.new) result }
+        ensures going { Goes true self.old → Goes (is_ok result) self.new }
+        ensures origin { SameOrigin self.old self.new }
+        ensures why { OnErr result (StopsFor (cause_of self.new)
+            (K.faults (sink_of self.old)) (K.faults (sink_of self.new))) }
+    {
+        match self.merge.push(instance, mark) {
+            Ok(()) => {
+                if !self.merge.is_ready() {
+                    return Ok(());
+                }
+                match list_ready(&mut self.merge, self.stack, &mut self.line, self.sink) {
+                    Ok(()) => Ok(()),
+                    Err(Failed) => stop(
+                        &mut self.cause,
+                        &mut self.stops,
+                        &mut self.merges,
+                        ListStop::Write,
+                    ),
+                }
+            }
+            Err(NoMemory) => stop(
+                &mut self.cause,
+                &mut self.stops,
+                &mut self.merges,
+                ListStop::NoMemory,
+            ),
+        }
+    }
+
+    // Takes a mark where binary data is wanted.
+    fn take_data(&mut self, instance: u32, mark: Mark) -> Result<(), Stopped>
+        requires never { stops_of self.old ≡ 0 }
+        requires wanted { IsSome (stack_meaning (stack_of self.old)).binary }
+        ensures adds { TakesMark (Took K.written K.faults K.goes_on self.old)
+            (Took K.written K.faults K.goes_on self.new) instance mark }
+        ensures instances { instances_of self.new ≡ instances_of self.old }
+        ensures cause { HasCause (stops_of self.old) (stops_of self.new) result }
+        ensures going { Goes true self.old → Goes (is_ok result) self.new }
+        ensures origin { SameOrigin self.old self.new }
+        ensures why { OnErr result (StopsFor (cause_of self.new)
+            (K.faults (sink_of self.old)) (K.faults (sink_of self.new))) }
+    {
+        match write_wanted(self.stack, instance, mark, self.sink) {
+            Ok(()) => Ok(()),
+            Err(Failed) => stop(
+                &mut self.cause,
+                &mut self.stops,
+                &mut self.merges,
+                ListStop::Write,
+            ),
+        }
+    }
+
+    // Takes a mark that doesn't go to the merge.
+    #[inline(never)]
+    fn take_apart(&mut self, instance: u32, mark: Mark) -> Result<(), Stopped>
+        requires { merges_in self.old ≡ false }
+        ensures adds { TakesMark (Took K.written K.faults K.goes_on self.old)
+            (Took K.written K.faults K.goes_on self.new) instance mark }
+        ensures instances { instances_of self.new ≡ instances_of self.old }
+        ensures cause { HasCause (stops_of self.old) (stops_of self.new) result }
+        ensures going { Goes true self.old → Goes (is_ok result) self.new }
+        ensures origin { SameOrigin self.old self.new }
+        ensures why { stops_of self.old ≡ 0 → OnErr result (StopsFor (cause_of self.new)
+            (K.faults (sink_of self.old)) (K.faults (sink_of self.new))) }
+        ensures behind { stops_of self.old ≢ 0 → StaysStopped self.old self.new result }
+    {
+        if self.stops > 0 {
+            return stop_again(&mut self.stops);
+        }
+        self.take_data(instance, mark)
+    }
+
+    /// How many notes were taken and not yet given.
+    pub fn held(&self) -> u64
+        ensures { result ≡ length (held_by self.now) }
+    {
+        self.merge.held()
+    }
+
+    /// Why the taking was stopped; none where it wasn't.
+    pub fn cause(&self) -> Option<ListStop>
+        ensures { result ≡ cause_of self.now }
+    {
+        self.cause
+    }
+}
+
+impl<'a, 'b, K: Sink> MarkTake for Lister<'a, 'b, K> {
+    ghost use Rattle.note_lister.specs.Taking.{Goes, Took, instances_of};
+
+    type Origin = (&'a Stack, Snapshot<&'b mut K>);
+
+    ghost instances = { λ lister. instances_of lister };
+
+    ghost took = { λ lister marks. Took K.written K.faults K.goes_on lister marks };
+
+    ghost stops = { λ lister. lister.stops };
+
+    ghost going = { λ lister still. Goes still lister };
+
+    ghost origin = { λ lister. (lister.stack, lister.first) };
+
+    /// Takes the next mark of an instance. Once it has stopped, it stops at each mark, and writes
+    /// nothing.
+    #[inline(always)]
+    fn take(&mut self, instance: u32, mark: Mark) -> Result<(), Stopped>
+        requires { instance < instances_of self.old }
+        ensures adds { TakesMark (Took K.written K.faults K.goes_on self.old)
+            (Took K.written K.faults K.goes_on self.new) instance mark }
+        ensures instances { instances_of self.new ≡ instances_of self.old }
+        ensures cause { HasCause (stops_of self.old) (stops_of self.new) result }
+        ensures going { Goes true self.old → Goes (is_ok result) self.new }
+        ensures origin { SameOrigin self.old self.new }
+        ensures why { stops_of self.old ≡ 0 → OnErr result (StopsFor (cause_of self.new)
+            (K.faults (sink_of self.old)) (K.faults (sink_of self.new))) }
+        ensures behind { stops_of self.old ≢ 0 → StaysStopped self.old self.new result }
+    {
+        if self.merges {
+            self.take_mark(instance, mark)
+        } else {
+            self.take_apart(instance, mark)
+        }
+    }
+}
