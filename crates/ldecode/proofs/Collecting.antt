@@ -21,7 +21,8 @@ use Rattle.decoder_core.specs.declared.end.RunEnd.TheVariants.{Ended}
 use Rattle.note_order.specs.Order.{entries_from, entry_of, is_of}
 use Rattle.note_order.specs.declared.entry.Entry.{Entry}
 use Rattle.stack_direct.specs.Machines.{Stand, whole_of}
-use Rattle.stack_direct.specs.Passing.{IsForest, Reaches}
+use Rattle.stack_direct.specs.Passing.{IsForest}
+use Rattle.stack_direct.specs.Reaching.{Reaches}
 use Rattle.stack_direct.specs.Runs.{Told as ToldOf, input_at, nodes_of}
 use Rattle.stack_direct.proofs.Fresh.{reads_nothing}
 use Rattle.stack_direct.proofs.Telling.{given_at, given_len}
@@ -94,8 +95,8 @@ get_map f (y ∷ xs) zero x at = let same : y ≡ x = cc in ap (λ z. Some (f z)
 get_map f (y ∷ xs) (suc j) x at = get_map f xs j x at
 
 -- what was told of an instance that read nothing before: its notes are all that it gives
-told_notes : (at_end : Bool) (whole : List Item → List Out) (was now : List Item) (marks : List Mark) → ToldOf Ended at_end whole was now marks → whole was ≡ [] → notes_in marks ≡ notes_of (whole now)
-told_notes at_end whole was now taken told nothing =
+told_notes : (at_end : Bool) (whole : List Item → List Out) (near : List Item → ℕ) (was now : List Item) (feeds : List (List Item)) (marks : List Mark) → ToldOf Ended at_end whole near was now feeds marks → whole was ≡ [] → notes_in marks ≡ notes_of (whole now)
+told_notes at_end whole near was now feeds taken told nothing =
     let closed = told.closes refl in
     let reached : marks.shown told.body ≡ marks_of told.new = subst (λ (b : Bool). Reaches b (marks.shown told.body) (marks_of told.new)) closed told.shows in
     ap notes_in (told.made ∙ ap (λ (b : Bool). told.body ++ (if b then EndMark ∷ [] else [])) closed)
@@ -122,8 +123,8 @@ bytes_in_shown class (FloorMark start ∷ some) = bytes_in_shown class some
 bytes_in_shown class (EndMark ∷ some) = bytes_in_shown class some
 
 -- so of bytes
-told_bytes : (class : ℕ) (at_end : Bool) (whole : List Item → List Out) (was now : List Item) (taken : List Mark) → ToldOf Ended at_end whole was now taken → whole was ≡ [] → bytes_in class taken ≡ bytes_of class (whole now)
-told_bytes class at_end whole was now taken told nothing =
+told_bytes : (class : ℕ) (at_end : Bool) (whole : List Item → List Out) (near : List Item → ℕ) (was now : List Item) (feeds : List (List Item)) (taken : List Mark) → ToldOf Ended at_end whole near was now feeds taken → whole was ≡ [] → bytes_in class taken ≡ bytes_of class (whole now)
+told_bytes class at_end whole near was now feeds taken told nothing =
     let closed = told.closes refl in
     let reached : marks.shown told.body ≡ marks_of told.new = subst (λ (b : Bool). Reaches b (marks.shown told.body) (marks_of told.new)) closed told.shows in
     ap (bytes_in class) (told.made ∙ ap (λ (b : Bool). told.body ++ (if b then EndMark ∷ [] else [])) closed)
@@ -136,9 +137,9 @@ told_bytes class at_end whole was now taken told nothing =
 
 -- what is kept of a tree that was run to its end is what it gives
 module _ {S : Type 0} (outputs : S → List Item → List Out) (setups : List S) (parents : List (Option ℕ)) (forest : IsForest parents) (count : length setups ≡ length parents)
-    (nothing : (j : ℕ) → j < length parents → GivesNothing (whole_of outputs setups j)) (shown : ℕ → Bool) where
+    (nothing : (j : ℕ) → j < length parents → GivesNothing (whole_of outputs setups j)) (shown : ℕ → Bool) (near : ℕ → List Item → ℕ) (feeds : ℕ → List (List Item)) where
   all_gathered : (at_end : Bool) (samples : List ℕ) (entries : List Entry) (taken : ℕ → List Mark) → Keeps shown (length parents) entries taken
-      → ((j : ℕ) → j < length parents → ToldOf Ended at_end (whole_of outputs setups j) (input_at outputs (nodes_of setups parents) [] j) (input_at outputs (nodes_of setups parents) samples j) (taken j))
+      → ((j : ℕ) → j < length parents → ToldOf Ended at_end (whole_of outputs setups j) (near j) (input_at outputs (nodes_of setups parents) [] j) (input_at outputs (nodes_of setups parents) samples j) (feeds j) (taken j))
       → Gathered outputs (nodes_of setups parents) shown entries samples
   all_gathered at_end samples entries taken keeps told i = by (nat_lt i (length parents)) refl
     where
@@ -152,7 +153,7 @@ module _ {S : Type 0} (outputs : S → List Item → List Out) (setups : List S)
           let whole = whole_of outputs setups i in
           keeps.each i within
           ∙ ap (λ (l : List Note). map (entry_of i) (where_shown (shown i) l))
-          (told_notes at_end whole (input_at outputs (nodes_of setups parents) [] i) (input_at outputs (nodes_of setups parents) samples i) (taken i) (told i within) (ap whole reads ∙ nothing i within))
+          (told_notes at_end whole (near i) (input_at outputs (nodes_of setups parents) [] i) (input_at outputs (nodes_of setups parents) samples i) (feeds i) (taken i) (told i within) (ap whole reads ∙ nothing i within))
           ∙ sym (entries_at shown i 0 i (notes_of (whole (input_at outputs (nodes_of setups parents) samples i))) (map notes_of all) (get_map notes_of all i (whole (input_at outputs (nodes_of setups parents) samples i)) (given_at outputs setups parents forest count samples i within)) (omega arith))
       by false is =
           let beyond : length parents ≤ i = grind (arith, nat_tests, is) in
@@ -161,7 +162,7 @@ module _ {S : Type 0} (outputs : S → List Item → List Out) (setups : List S)
 
   -- so of what was kept, notes or bytes
   pub all_kept : (binary : Option (ℕ × ℕ)) → IfSome binary (λ wanted. wanted.0 < length parents) → (at_end : Bool) (samples : List ℕ) (entries : List Entry) (bytes : List ℕ) (taken : ℕ → List Mark) → Kept binary shown (length parents) entries bytes taken
-      → ((j : ℕ) → j < length parents → ToldOf Ended at_end (whole_of outputs setups j) (input_at outputs (nodes_of setups parents) [] j) (input_at outputs (nodes_of setups parents) samples j) (taken j))
+      → ((j : ℕ) → j < length parents → ToldOf Ended at_end (whole_of outputs setups j) (near j) (input_at outputs (nodes_of setups parents) [] j) (input_at outputs (nodes_of setups parents) samples j) (feeds j) (taken j))
       → GatheredBy outputs (nodes_of setups parents) shown binary entries bytes samples
   all_kept None within at_end samples entries bytes taken keeps told = all_gathered at_end samples entries taken keeps told
   all_kept (Some wanted) within at_end samples entries bytes taken keeps told =
@@ -169,7 +170,7 @@ module _ {S : Type 0} (outputs : S → List Item → List Out) (setups : List S)
       let whole = whole_of outputs setups j in
       let reads = reads_nothing outputs setups parents forest count nothing j within in
       keeps
-      ∙ told_bytes wanted.1 at_end whole (input_at outputs (nodes_of setups parents) [] j) (input_at outputs (nodes_of setups parents) samples j) (taken j) (told j within) (ap whole reads ∙ nothing j within)
+      ∙ told_bytes wanted.1 at_end whole (near j) (input_at outputs (nodes_of setups parents) [] j) (input_at outputs (nodes_of setups parents) samples j) (feeds j) (taken j) (told j within) (ap whole reads ∙ nothing j within)
       ∙ sym (ap (bytes_by wanted.1) (given_at outputs setups parents forest count samples j within))
 
 -- what is to be written of what was kept is the output of the tree

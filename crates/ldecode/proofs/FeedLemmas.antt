@@ -168,9 +168,8 @@ module _ {S : Type 0} (left : S → Option (List ℕ)) (faults : S → ℕ) (old
 
   -- the capture came to its end
   pub feed_ends : new.runs ≡ [] → (runs : List Run) (answer : Result Bool CaptureError) → ended answer ≡ Some new.end → is_open_of new.capture.now ≡ false → Gives old.capture.now new.capture.now (left old.source.now) (left new.source.now) runs answer
-      → CaptureCause (faults old.source.now) (faults new.source.now) answer → GaveRuns left faults new (before ++ new.runs)
+      → CaptureCause (faults old.source.now) (faults new.source.now) answer → GaveRuns left faults new before
   feed_ends none runs answer is closed gives cause =
-      let joined : before ++ new.runs ≡ before = ap (λ (l : List Run). before ++ l) none ∙ append-nil before in
       let ends = answer_ends from old.capture.now new.capture.now (left source_from) (left old.source.now) (left new.source.now) runs (samples_of before) (form ∙ gave.form) (pins ∙ gave.pins) gave_so_far answer new.end gives is in
       let why = answer_cause answer new.end (faults old.source.now) (faults new.source.now) cause is in
       record {
@@ -178,9 +177,9 @@ module _ {S : Type 0} (left : S → Option (List ℕ)) (faults : S → ℕ) (old
         form = form_stays;
         pins = pins_stay;
         count = λ o. absurd (both o closed);
-        few = subst (λ (l : List Run). length (samples_of l) ≤ 2 ^ 60) (sym joined) gave.few;
-        given = subst (λ (b : Bool). Given left faults b new.end new.first_capture.value.now new.capture.now new.first_source.value.now new.source.now (samples_of (before ++ new.runs))) (sym closed)
-            (transport (λ i. Given left faults false new.end (sym same_capture i) new.capture.now (sym same_from i) new.source.now (samples_of (sym joined i))) ends);
+        few = gave.few;
+        given = subst (λ (b : Bool). Given left faults b new.end new.first_capture.value.now new.capture.now new.first_source.value.now new.source.now (samples_of before)) (sym closed)
+            (transport (λ i. Given left faults false new.end (sym same_capture i) new.capture.now (sym same_from i) new.source.now (samples_of before)) ends);
         cause = subst (λ (b : Bool). Caused left faults b new.end new.first_source.value.now new.source.now) (sym closed)
             (transport (λ i. ReadCause (faults (sym same_from i)) (faults new.source.now) new.end × (new.end ≢ Write)) (subst (λ (n : ℕ). ReadCause n (faults new.source.now) new.end × (new.end ≢ Write)) failed_so_far why));
       }

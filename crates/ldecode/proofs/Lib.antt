@@ -10,8 +10,8 @@ pub mod Stacked
 pub mod Running
 pub mod Exact
 pub mod Headlines
-mod MadeSamples
-mod Tallying
 mod MadeLaws
-mod MadeRun
+mod MadeTree
+mod MadeGiving
 mod Counting
+mod Tallying

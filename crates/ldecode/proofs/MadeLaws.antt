@@ -19,7 +19,9 @@ use Rattle.ldecode.specs.Decoding.{notes_of}
 use Rattle.ldecode.specs.Making.{bus_setup, line_setup, made_rate, sum_of, tally_of}
 use Rattle.ldecode.specs.Sums.{ReadBack, bus_sum, line_sum}
 use Rattle.listing_out.specs.Summaries.{summary}
-use Rattle.ldecode.proofs.MadeSamples.{made_few}
+
+pub made_few : (seed count : ℕ) → count ≤ 1000000 → length (made seed count) ≤ 2 ^ 60
+made_few seed count few = let len = made_length seed count in omega (arith, len, few)
 
 samples_of_items : (l : List ℕ) → samples_in (map Sample l) ≡ l
 samples_of_items [] = refl
@@ -43,6 +45,11 @@ module _ (seed count : ℕ) (few : count ≤ 1000000) where
   line_outs : outs_of line_setup (map Sample (made seed count)) ≡ line.all_told 0 sent_all
   line_outs = ap (uart_outs made_opts made_rate) counted ∙ made_tell made_rate refl refl seed count
 
+-- both give nothing on no samples
+pub made_nothing : (outs_of bus_setup [] ≡ []) × (outs_of line_setup [] ≡ [])
+unfolding made
+made_nothing = (bus_outs 0 0 (omega arith), line_outs 0 0 (omega arith))
+
 -- the notes of the bus
 bus_count : (t : ℕ) (list : List Sent) → length (notes_of (bus.all_told t list)) ≡ 8 * length list
 bus_count t [] = refl
@@ -62,14 +69,14 @@ line_sums t [] = refl
 line_sums t (s ∷ list) = ap (λ (n : ℕ). s.serial + n) (line_sums (t + 120) list)
 
 -- the tallies of both
-bus_tally : (seed count : ℕ) → count ≤ 1000000 → tally_of (notes_of (outs_of bus_setup (map Sample (made seed count)))) ≡ record { count = 8 * count; sum = bus_sum (sent_from seed 0 count) % 2 ^ 32 }
+pub bus_tally : (seed count : ℕ) → count ≤ 1000000 → tally_of (notes_of (outs_of bus_setup (map Sample (made seed count)))) ≡ record { count = 8 * count; sum = bus_sum (sent_from seed 0 count) % 2 ^ 32 }
 bus_tally seed count few =
     let list = sent_from seed 0 count in
     let many : 8 * length list ≡ 8 * count = ap (λ (n : ℕ). 8 * n) (sent_length seed 0 count) in
     ap (λ (outs : List Out). tally_of (notes_of outs)) (bus_outs seed count few)
     ∙ (λ i. record { count = (bus_count 0 list ∙ many) i; sum = bus_sums 0 list i % 2 ^ 32 })
 
-line_tally : (seed count : ℕ) → count ≤ 1000000 → tally_of (notes_of (outs_of line_setup (map Sample (made seed count)))) ≡ record { count = count; sum = line_sum (sent_from seed 0 count) % 2 ^ 32 }
+pub line_tally : (seed count : ℕ) → count ≤ 1000000 → tally_of (notes_of (outs_of line_setup (map Sample (made seed count)))) ≡ record { count = count; sum = line_sum (sent_from seed 0 count) % 2 ^ 32 }
 line_tally seed count few =
     let list = sent_from seed 0 count in
     ap (λ (outs : List Out). tally_of (notes_of outs)) (line_outs seed count few)

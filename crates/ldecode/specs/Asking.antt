@@ -28,41 +28,52 @@ use Rattle.decoder_set.specs.declared.setup.Setup.{Setup}
 
 -- the values name this form of capture
 abbrev pub IsFormOf : Values → Form → Type 0
-IsFormOf values (Raw channels rate) = (values.format ≡ format.Raw) × (channels ≡ values.channels) × (numbers_of rate ≡ values.rate)
+IsFormOf values (Raw channels rate) =
+    (values.format ≡ format.Raw) × (channels ≡ values.channels) × (numbers_of rate ≡ values.rate)
 IsFormOf values (Vcd down) = (values.format ≡ format.Vcd) × (down ≡ values.down)
-IsFormOf values (Csv mode header rate) = (values.format ≡ format.Csv) × (mode ≡ values.csv) × (header ≡ values.header) × (numbers_of rate ≡ values.rate)
+IsFormOf values (Csv mode header rate) =
+    (values.format ≡ format.Csv) × (mode ≡ values.csv) × (header ≡ values.header)
+    × (numbers_of rate ≡ values.rate)
 
 -- in this form the bytes have a head, with these names of channels and this rate
 abbrev pub HasHead : Form → List ℕ → Told → List (List ℕ) → Rate → Type 0
-HasHead form bytes told names rate = (capture_of form [] bytes told).head ≡ Good names rate.num rate.den
+HasHead form bytes told names rate =
+    (capture_of form [] bytes told).head ≡ Good names rate.num rate.den
 
 -- the fault of an item, in this entry
 abbrev pub in_entry : ℕ → Result (List Bound) ItemFault → Result (List Bound) BindFault
 in_entry entry (Ok bounds) = Ok bounds
 in_entry entry (Err fault) = Err (record { entry = entry; item = fault.item; why = fault.why })
 
--- alternatives are bound in their order, each to the pins of those before it and its own; or the first fault
-abbrev pub bind_all : List (List ℕ) → ℕ → List ℕ → List (List Meaning) → Result (List (List Bound)) BindFault
+-- alternatives are bound in their order, each to the pins of those before it and its own; or the
+-- first fault
+abbrev pub bind_all : List (List ℕ) → ℕ → List ℕ → List (List Meaning)
+    → Result (List (List Bound)) BindFault
 bind_all names entry pins [] = Ok []
-bind_all names entry pins (terms ∷ more) = then_read (in_entry entry (bind_terms MOST_PINS names pins terms))
-    (λ bounds. then_read (bind_all names (entry + 1) (pins_after pins bounds) more) (λ others. Ok (bounds ∷ others)))
+bind_all names entry pins (terms ∷ more) =
+    then_read (in_entry entry (bind_terms MOST_PINS names pins terms))
+    (λ bounds. then_read (bind_all names (entry + 1) (pins_after pins bounds) more)
+    (λ others. Ok (bounds ∷ others)))
 
 -- the pins of all alternatives
 abbrev pub pins_of : List ℕ → List (List Bound) → List ℕ
 pins_of pins [] = pins
 pins_of pins (bounds ∷ more) = pins_of (pins_after pins bounds) more
 
--- each alternative asks its terms of the pins up to and with its own; those of later ones stand behind them
+-- each alternative asks its terms of the pins up to and with its own; those of later ones stand
+-- behind them
 abbrev pub EachAsks : List ℕ → List (List Bound) → List Alt → Type 0
 EachAsks pins [] [] = Unit {0}
 EachAsks pins [] (alt ∷ alts) = ⊥
 EachAsks pins (bounds ∷ more) [] = ⊥
-EachAsks pins (bounds ∷ more) (alt ∷ alts) = Asks (pins_after pins bounds) bounds alt × EachAsks (pins_after pins bounds) more alts
+EachAsks pins (bounds ∷ more) (alt ∷ alts) =
+    Asks (pins_after pins bounds) bounds alt × EachAsks (pins_after pins bounds) more alts
 
 -- the values are those of a search, and these are the terms of its alternatives
 pub record Searches (values : Values) (alternatives : List (List Meaning)) : Type 0 where
   pub job : values.job ≡ Find
-  pub terms : map (λ chain. terms_of chain.text) values.chains ≡ map (λ terms. Ok terms) alternatives
+  pub terms : map (λ chain. terms_of chain.text) values.chains
+      ≡ map (λ terms. Ok terms) alternatives
 
 -- the values are those of a decoding, and this is its stack
 pub record Stacks (values : Values) (accepted : Accepted) : Type 0 where
@@ -75,13 +86,15 @@ pub record HasStackFault (values : Values) (fault : StackFault) : Type 0 where
   pub stack : stack_of values.chains values.show values.binary ≡ Err fault
 
 -- where the channels have these names, an alternative of a search has this first fault
-pub record SearchRefused (values : Values) (names : List (List ℕ)) (fault : BindFault) : Type 0 where
+pub record SearchRefused (values : Values) (names : List (List ℕ))
+    (fault : BindFault) : Type 0 where
   pub alternatives : List (List Meaning)
   pub searches : Searches values alternatives
   pub refused : bind_all names 0 [] alternatives ≡ Err fault
 
 -- where the channels have these names, an instance of a stack has this first fault
-pub record StackRefused (values : Values) (names : List (List ℕ)) (rate : Rate) (fault : BindFault) : Type 0 where
+pub record StackRefused (values : Values) (names : List (List ℕ)) (rate : Rate)
+    (fault : BindFault) : Type 0 where
   pub accepted : Accepted
   pub stacks : Stacks values accepted
   pub refused : bound_of MOST_PINS names rate accepted.instances ≡ Err fault
@@ -110,8 +123,10 @@ pub record StackBound (values : Values) (names : List (List ℕ)) (rate : Rate) 
   pub bounds : List BoundInstance
   pub bound : bound_of MOST_PINS names rate accepted.instances ≡ Ok bounds
 
--- the head of these bytes is good, and a channel isn't there, is one too many, or the rate is too low
-pub record CannotBind (values : Values) (bytes : List ℕ) (told : Told) (fault : BindFault) : Type 0 where
+-- the head of these bytes is good, and a channel isn't there, is one too many, or the rate is too
+-- low
+pub record CannotBind (values : Values) (bytes : List ℕ) (told : Told)
+    (fault : BindFault) : Type 0 where
   pub form : Form
   pub names : List (List ℕ)
   pub rate : Rate
@@ -128,7 +143,8 @@ pub record CanBind (values : Values) (bytes : List ℕ) (told : Told) : Type 0 w
   pub head : HasHead form bytes told names rate
   pub bound : SearchBound values names ⊎ StackBound values names rate
 
--- the bytes have a good head to which all is bound, and this ending, on which the choice of channels has no bearing
+-- the bytes have a good head to which all is bound, and this ending, on which the choice of
+-- channels has no bearing
 pub record EndsAs (values : Values) (bytes : List ℕ) (told : Told) (ending : Ending) : Type 0 where
   pub can : CanBind values bytes told
   pub ends : (capture_of can.form [] bytes told).ending ≡ ending
@@ -140,12 +156,15 @@ pub record HeadIs (values : Values) (bytes : List ℕ) (told : Told) (head : Hea
   pub judged : IsJudged values
   pub head_is : (capture_of form [] bytes told).head ≡ head
 
--- the bytes have this fault: their head has it; or it is good, all is bound to it, and they end with it
+-- the bytes have this fault: their head has it; or it is good, all is bound to it, and they end
+-- with it
 abbrev pub HasFault : Values → List ℕ → Told → CaptureFault → Type 0
-HasFault values bytes told fault = HeadIs values bytes told (Bad fault) ⊎ EndsAs values bytes told (Faulty fault)
+HasFault values bytes told fault =
+    HeadIs values bytes told (Bad fault) ⊎ EndsAs values bytes told (Faulty fault)
 
 -- the values ask for these alternatives at these pins
-pub record AsksFor (values : Values) (names : List (List ℕ)) (pins : List ℕ) (alts : List Alt) : Type 0 where
+pub record AsksFor (values : Values) (names : List (List ℕ)) (pins : List ℕ)
+    (alts : List Alt) : Type 0 where
   pub search : SearchBound values names
   pub pins_are : pins ≡ pins_of [] search.bounds
   pub asks : EachAsks [] search.bounds alts
@@ -154,10 +173,12 @@ pub record AsksFor (values : Values) (names : List (List ℕ)) (pins : List ℕ)
 abbrev pub nodes_of : List Instance → List BoundInstance → List (Node Setup)
 nodes_of [] bounds = []
 nodes_of (instance ∷ instances) [] = []
-nodes_of (instance ∷ instances) (bound ∷ bounds) = record { setup = bound.setup; parent = instance.parent } ∷ nodes_of instances bounds
+nodes_of (instance ∷ instances) (bound ∷ bounds) =
+    record { setup = bound.setup; parent = instance.parent } ∷ nodes_of instances bounds
 
 -- the values ask for this stack, with these decoders at these pins
-pub record AsksStack (values : Values) (names : List (List ℕ)) (rate : Rate) (pins : List ℕ) (accepted : Accepted) (nodes : List (Node Setup)) : Type 0 where
+pub record AsksStack (values : Values) (names : List (List ℕ)) (rate : Rate) (pins : List ℕ)
+    (accepted : Accepted) (nodes : List (Node Setup)) : Type 0 where
   pub stack : StackBound values names rate
   pub accepted_is : accepted ≡ stack.accepted
   pub pins_are : pins ≡ binding.pins_of stack.bounds

@@ -1,4 +1,5 @@
--- What a run does: the status that its words, its capture and its failures give, and what is written with it.
+-- What a run does: the status that its words, its capture and its failures give, and what is
+-- written with it.
 use Rattle.std.specs.Prelude.{ℕ, ◌≡◌, ◌≤◌, ◌⊎◌, List, [], Option, Some, Ok, Err}
 use Rattle.std.specs.Io.KnownBytes.{Appends, Consumes}
 use Rattle.la_base.specs.declared.samples.Rate.{Rate}
@@ -21,15 +22,17 @@ use Rattle.stack_spec.specs.declared.faults.BindFault.{BindFault}
 use Rattle.stack_spec.specs.declared.faults.StackFault.{StackFault}
 use Rattle.decoder_core.specs.Trees.{Node}
 use Rattle.decoder_set.specs.declared.setup.Setup.{Setup}
-use Rattle.ldecode.specs.Asking.{AsksFor, AsksStack, CannotBind, EndsAs, HasFault, HasHead, HasStackFault, HeadIs, IsFormOf, NamesNoHead}
+use Rattle.ldecode.specs.Asking.{AsksFor, AsksStack, CannotBind, EndsAs, HasFault, HasHead}
+use Rattle.ldecode.specs.Asking.{HasStackFault, HeadIs, IsFormOf, NamesNoHead}
 use Rattle.ldecode.specs.Decoding.{decode_listing}
 use Rattle.ldecode.specs.Making.{MadeBy}
 use Rattle.ldecode.specs.Notices.{notice_of}
 use Rattle.ldecode.specs.declared.status.Status.{Status}
-use Rattle.ldecode.specs.declared.status.Status.TheVariants.{Done, Words, Stack, Bind, ReadFault, Capture, WriteFault, NoMemory}
+use Rattle.ldecode.specs.declared.status.Status.TheVariants.{Done, Words, Stack, Bind, ReadFault}
+use Rattle.ldecode.specs.declared.status.Status.TheVariants.{Capture, WriteFault, NoMemory}
 
--- a stream before and after a run: its bytes, where it tells them (those that a source has left, those that a sink has got), and its
--- count of failures
+-- a stream before and after a run: its bytes, where it tells them (those that a source has left,
+-- those that a sink has got), and its count of failures
 pub record Stream : Type 0 where
   pub old : Option (List ℕ)
   pub new : Option (List ℕ)
@@ -38,14 +41,16 @@ pub record Stream : Type 0 where
 
 -- a stream by what it tells
 abbrev pub stream : {S : Type 0} → (S → Option (List ℕ)) → (S → ℕ) → S → S → Stream
-stream bytes faults old new = record { old = bytes old; new = bytes new; failed_old = faults old; failed_new = faults new }
+stream bytes faults old new =
+    record { old = bytes old; new = bytes new; failed_old = faults old; failed_new = faults new }
 
 -- it failed: its count rose, or stands at the last value of its type
 abbrev pub DidFail : Stream → Type 0
 DidFail s = Rose s.failed_old s.failed_new
 
 -- the search that the values ask for came to this end
-pub record Searched (values : Values) (bytes : List ℕ) (told : Told) (old new : Option (List ℕ)) (end : ListingEnd) : Type 0 where
+pub record Searched (values : Values) (bytes : List ℕ) (told : Told) (old new : Option (List ℕ))
+    (end : ListingEnd) : Type 0 where
   pub form : Form
   pub names : List (List ℕ)
   pub rate : Rate
@@ -54,10 +59,12 @@ pub record Searched (values : Values) (bytes : List ℕ) (told : Told) (old new 
   pub pins : List ℕ
   pub alts : List Alt
   pub asks : AsksFor values names pins alts
-  pub says : Says form pins (λ samples. WholeListing samples alts old new) (λ samples. ListingFront samples alts old new) bytes told end
+  pub says : Says form pins (λ samples. WholeListing samples alts old new)
+      (λ samples. ListingFront samples alts old new) bytes told end
 
 -- the decoding that the values ask for came to this end
-pub record Decoded (values : Values) (bytes : List ℕ) (told : Told) (old new : Option (List ℕ)) (end : ListingEnd) : Type 0 where
+pub record Decoded (values : Values) (bytes : List ℕ) (told : Told) (old new : Option (List ℕ))
+    (end : ListingEnd) : Type 0 where
   pub form : Form
   pub names : List (List ℕ)
   pub rate : Rate
@@ -67,25 +74,36 @@ pub record Decoded (values : Values) (bytes : List ℕ) (told : Told) (old new :
   pub accepted : Accepted
   pub nodes : List (Node Setup)
   pub asks : AsksStack values names rate pins accepted nodes
-  pub says : Says form pins (λ samples. Appends old new (decode_listing accepted nodes samples)) (λ samples. AppendsFront old new (decode_listing accepted nodes samples)) bytes told end
+  pub says : Says form pins (λ samples. Appends old new (decode_listing accepted nodes samples))
+      (λ samples. AppendsFront old new (decode_listing accepted nodes samples)) bytes told end
 
 -- the work that the values ask for came to this end
 abbrev pub Worked : Values → List ℕ → Told → Option (List ℕ) → Option (List ℕ) → ListingEnd → Type 0
-Worked values bytes told old new end = Searched values bytes told old new end ⊎ Decoded values bytes told old new end
+Worked values bytes told old new end =
+    Searched values bytes told old new end ⊎ Decoded values bytes told old new end
 
 -- what a status says of good words, the bytes that were taken and what was written
 abbrev pub Works : Values → List ℕ → Told → Option (List ℕ) → Option (List ℕ) → Status → Type 0
 Works values bytes told old new Done = Worked values bytes told old new end.Done
 Works values bytes told old new (Words fault) = ⊥
-Works values bytes told old new (Stack fault) = HasStackFault values fault × (bytes ≡ []) × Appends old new []
-Works values bytes told old new (Bind fault) = CannotBind values bytes told fault × Appends old new []
-Works values bytes told old new ReadFault = (told ≡ Cut) × (Worked values bytes told old new end.Read ⊎ (HeadIs values bytes told Unread × Appends old new []))
-Works values bytes told old new (Capture fault) = Worked values bytes told old new (end.Fault fault) ⊎ (HeadIs values bytes told (Bad fault) × Appends old new [])
+Works values bytes told old new (Stack fault) =
+    HasStackFault values fault × (bytes ≡ []) × Appends old new []
+Works values bytes told old new (Bind fault) =
+    CannotBind values bytes told fault × Appends old new []
+Works values bytes told old new ReadFault =
+    (told ≡ Cut)
+    × (Worked values bytes told old new end.Read
+    ⊎ (HeadIs values bytes told Unread × Appends old new []))
+Works values bytes told old new (Capture fault) =
+    Worked values bytes told old new (end.Fault fault)
+    ⊎ (HeadIs values bytes told (Bad fault) × Appends old new [])
 Works values bytes told old new WriteFault = Worked values bytes told old new end.Write
-Works values bytes told old new NoMemory = Worked values bytes told old new end.NoMemory ⊎ Appends old new []
+Works values bytes told old new NoMemory =
+    Worked values bytes told old new end.NoMemory ⊎ Appends old new []
 
 -- the same of a run that took these bytes of its source, whose end it was told or not
-pub record WorksOn (values : Values) (left_old left_new old new : Option (List ℕ)) (status : Status) : Type 0 where
+pub record WorksOn (values : Values) (left_old left_new old new : Option (List ℕ))
+    (status : Status) : Type 0 where
   pub bytes : List ℕ
   pub told : Told
   pub taken : Consumes left_old left_new bytes
@@ -101,28 +119,39 @@ abbrev pub IsMade : Values → Type 0
 IsMade values = values.job ≡ Make
 
 -- what a status says of a made capture: nothing was read
-pub record Makes (values : Values) (bytes : List ℕ) (old new : Option (List ℕ)) (status : Status) : Type 0 where
+pub record Makes (values : Values) (bytes : List ℕ) (old new : Option (List ℕ))
+    (status : Status) : Type 0 where
   pub job : IsMade values
   pub none : bytes ≡ []
   pub wrote : MadeBy values.seed values.count old new status
 
 -- what a status says of good words, by their job
 abbrev pub Does : Values → List ℕ → Told → Option (List ℕ) → Option (List ℕ) → Status → Type 0
-Does values bytes told old new status = Works values bytes told old new status ⊎ Makes values bytes old new status
+Does values bytes told old new status =
+    Works values bytes told old new status ⊎ Makes values bytes old new status
 
 -- what a status says of the words, the bytes that were taken and what was written
 abbrev pub Tells : List Text → List ℕ → Told → Option (List ℕ) → Option (List ℕ) → Status → Type 0
 Tells words bytes told old new Done = Good words (λ values. Does values bytes told old new Done)
-Tells words bytes told old new (Words fault) = (settings_of words ≡ Err fault) × (bytes ≡ []) × Appends old new []
-Tells words bytes told old new (Stack fault) = Good words (λ values. Does values bytes told old new (Stack fault))
-Tells words bytes told old new (Bind fault) = Good words (λ values. Does values bytes told old new (Bind fault))
-Tells words bytes told old new ReadFault = Good words (λ values. Does values bytes told old new ReadFault)
-Tells words bytes told old new (Capture fault) = Good words (λ values. Does values bytes told old new (Capture fault))
-Tells words bytes told old new WriteFault = Good words (λ values. Does values bytes told old new WriteFault)
-Tells words bytes told old new NoMemory = Good words (λ values. Does values bytes told old new NoMemory) ⊎ Appends old new []
+Tells words bytes told old new (Words fault) =
+    (settings_of words ≡ Err fault) × (bytes ≡ []) × Appends old new []
+Tells words bytes told old new (Stack fault) =
+    Good words (λ values. Does values bytes told old new (Stack fault))
+Tells words bytes told old new (Bind fault) =
+    Good words (λ values. Does values bytes told old new (Bind fault))
+Tells words bytes told old new ReadFault =
+    Good words (λ values. Does values bytes told old new ReadFault)
+Tells words bytes told old new (Capture fault) =
+    Good words (λ values. Does values bytes told old new (Capture fault))
+Tells words bytes told old new WriteFault =
+    Good words (λ values. Does values bytes told old new WriteFault)
+Tells words bytes told old new NoMemory =
+    Good words (λ values. Does values bytes told old new NoMemory) ⊎ Appends old new []
 
--- a run took these bytes of its source, whose end it was told or not, and its status says what it says of them
-pub record Runs (words : List Text) (left_old left_new old new : Option (List ℕ)) (status : Status) : Type 0 where
+-- a run took these bytes of its source, whose end it was told or not, and its status says what it
+-- says of them
+pub record Runs (words : List Text) (left_old left_new old new : Option (List ℕ))
+    (status : Status) : Type 0 where
   pub bytes : List ℕ
   pub told : Told
   pub taken : Consumes left_old left_new bytes
@@ -155,7 +184,8 @@ SinkCause before now NoMemory = now ≡ before
 abbrev pub OrNoMemory : Status → Status → Type 0
 OrNoMemory expected status = (status ≡ expected) ⊎ (status ≡ NoMemory)
 
--- what holds where nothing was read: behind a fault of words or stack, and behind one of binding where the head takes no bytes
+-- what holds where nothing was read: behind a fault of words or stack, and behind one of binding
+-- where the head takes no bytes
 abbrev pub WhereUnread : Type 0 → Status → Type 0 → Type 0
 WhereUnread NoHead Done P = Unit {0}
 WhereUnread NoHead (Words fault) P = P
@@ -171,9 +201,10 @@ pub record Notified (notices : Stream) (status : Status) : Type 0 where
   pub front : AppendsFront notices.old notices.new (notice_of status)
   pub whole : ¬ DidFail notices → Appends notices.old notices.new (notice_of status)
 
--- The promise of a run: for these words, what it did to its source, its sink and its notices, and the status that it answers. `same`
--- says that the source is just as it was.
-pub record Headline (words : List Text) (source sink notices : Stream) (same : Type 0) (status : Status) : Type 0 where
+-- The promise of a run: for these words, what it did to its source, its sink and its notices, and
+-- the status that it answers. `same` says that the source is just as it was.
+pub record Headline (words : List Text) (source sink notices : Stream) (same : Type 0)
+    (status : Status) : Type 0 where
   -- these bytes were taken of the source, whose end it told or not
   pub bytes : List ℕ
   pub told : Told
@@ -181,13 +212,22 @@ pub record Headline (words : List Text) (source sink notices : Stream) (same : T
   pub at_end : ToldAt told source.new
   -- what the status says of them, and of what was written
   pub tells : Tells words bytes told sink.old sink.new status
-  -- each refusal comes exactly where words, stack, channels or bytes have just this fault, but for want of memory
-  pub words_fault : (fault : WordFault) → settings_of words ≡ Err fault → OrNoMemory (Words fault) status
-  pub stack_fault : (fault : StackFault) → Good words (λ values. HasStackFault values fault) → OrNoMemory (Stack fault) status
-  pub bind_fault : (fault : BindFault) → Good words (λ values. CannotBind values bytes told fault) → OrNoMemory (Bind fault) status
-  pub capture_fault : (fault : CaptureFault) → Good words (λ values. HasFault values bytes told fault) → ¬ DidFail source → ¬ DidFail sink → OrNoMemory (Capture fault) status
-  -- where nothing is refused, what the source had left ends as it may, and nothing fails, the run is done, but for want of memory
-  pub complete : (left : List ℕ) → source.old ≡ Some left → Good words (λ values. EndsAs values left AtEnd Clean) → ¬ DidFail source → ¬ DidFail sink → OrNoMemory Done status
+  -- each refusal comes exactly where words, stack, channels or bytes have just this fault, but for
+  -- want of memory
+  pub words_fault : (fault : WordFault) → settings_of words ≡ Err fault
+      → OrNoMemory (Words fault) status
+  pub stack_fault : (fault : StackFault) → Good words (λ values. HasStackFault values fault)
+      → OrNoMemory (Stack fault) status
+  pub bind_fault : (fault : BindFault) → Good words (λ values. CannotBind values bytes told fault)
+      → OrNoMemory (Bind fault) status
+  pub capture_fault : (fault : CaptureFault)
+      → Good words (λ values. HasFault values bytes told fault) → ¬ DidFail source → ¬ DidFail sink
+      → OrNoMemory (Capture fault) status
+  -- where nothing is refused, what the source had left ends as it may, and nothing fails, the run
+  -- is done, but for want of memory
+  pub complete : (left : List ℕ) → source.old ≡ Some left
+      → Good words (λ values. EndsAs values left AtEnd Clean) → ¬ DidFail source → ¬ DidFail sink
+      → OrNoMemory Done status
   -- where a capture is made, nothing can fail but writing and memory, and nothing is read
   pub made : Good words IsMade → ¬ DidFail sink → OrNoMemory Done status
   pub made_unread : Good words IsMade → same

@@ -1,9 +1,12 @@
 pub mod Decoding
 pub mod Feeding
+pub mod Gathering
 pub mod Asking
 pub mod Chosen
 pub mod Notices
 pub mod Headline
 pub mod Making
 pub mod Tallies
+pub mod MadeFeeding
+pub mod MadeTrees
 pub mod Sums

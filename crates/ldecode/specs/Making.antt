@@ -1,5 +1,5 @@
--- What `make` writes: how many samples a made capture has; and for each decoder of the stack that reads it how many notes it
--- gives, and the sum of their values.
+-- What `make` writes: how many samples a made capture has; and for each decoder of the stack that
+-- reads it how many notes it gives, and the sum of their values.
 use Rattle.std.specs.Prelude.{ℕ, ◌+◌, ◌%◌, ◌^◌, List, [], ◌∷◌, length, Option, Some, None, codes}
 use Rattle.std.specs.Io.KnownBytes.{Appends}
 use Rattle.std.proofs.Common.{arith}
@@ -17,11 +17,14 @@ use Rattle.listing_out.specs.Summaries.{summary}
 use Rattle.listing_out.specs.declared.summaries.Tally.{Tally}
 use Rattle.ldecode.specs.Decoding.{notes_of}
 use Rattle.ldecode.specs.declared.status.Status.{Status}
-use Rattle.ldecode.specs.declared.status.Status.TheVariants.{Done, Words, Stack, Bind, ReadFault, Capture, WriteFault, NoMemory}
+use Rattle.ldecode.specs.declared.status.Status.TheVariants.{Done, Words, Stack, Bind, ReadFault}
+use Rattle.ldecode.specs.declared.status.Status.TheVariants.{Capture, WriteFault, NoMemory}
 
 -- the stack that reads a made capture, as its words
 abbrev pub made_chains : List WordText
-made_chains = record { word = 0; text = codes "i2c:scl=D0:sda=D1" } ∷ record { word = 1; text = codes "uart:rx=D2:baud=100000" } ∷ []
+made_chains =
+    record { word = 0; text = codes "i2c:scl=D0:sda=D1" }
+    ∷ record { word = 1; text = codes "uart:rx=D2:baud=100000" } ∷ []
 
 -- a million samples a second
 abbrev pub made_rate : Rate
@@ -29,13 +32,26 @@ made_rate = record { num = 1000000; den = 1; above_zero = (omega arith, omega ar
 
 -- its decoders: I2C with SCL in bit 0 and SDA in bit 1, and a serial line in bit 2 at 100000 baud
 abbrev pub bus_setup : Setup
-bus_setup = record { kind = I2c; values = record { given = Some 0 ∷ Some 1 ∷ None ∷ None ∷ None ∷ None ∷ None ∷ None ∷ [] }; rate = made_rate }
+bus_setup =
+    record {
+      kind = I2c;
+      values = record { given = Some 0 ∷ Some 1 ∷ None ∷ None ∷ None ∷ None ∷ None ∷ None ∷ [] };
+      rate = made_rate;
+    }
 
 abbrev pub line_setup : Setup
-line_setup = record { kind = Uart; values = record { given = Some 2 ∷ Some 100000 ∷ None ∷ None ∷ None ∷ None ∷ None ∷ None ∷ [] }; rate = made_rate }
+line_setup =
+    record {
+      kind = Uart;
+      values = record {
+        given = Some 2 ∷ Some 100000 ∷ None ∷ None ∷ None ∷ None ∷ None ∷ None ∷ [];
+      };
+      rate = made_rate;
+    }
 
 abbrev pub made_nodes : List (Node Setup)
-made_nodes = record { setup = bus_setup; parent = None } ∷ record { setup = line_setup; parent = None } ∷ []
+made_nodes =
+    record { setup = bus_setup; parent = None } ∷ record { setup = line_setup; parent = None } ∷ []
 
 -- the sum of the values of notes
 abbrev pub sum_of : List Note → ℕ
@@ -50,11 +66,13 @@ tally_of notes = record { count = length notes; sum = sum_of notes % 2 ^ 32 }
 abbrev pub summed : ℕ → List (List Out) → List ℕ
 summed samples [] = []
 summed samples (bus ∷ []) = []
-summed samples (bus ∷ line ∷ others) = summary samples (tally_of (notes_of bus)) (tally_of (notes_of line))
+summed samples (bus ∷ line ∷ others) =
+    summary samples (tally_of (notes_of bus)) (tally_of (notes_of line))
 
 -- *what is written* of a made capture: of this seed, with so many transactions
 abbrev pub made_listing : ℕ → ℕ → List ℕ
-made_listing seed count = summed (length (made seed count)) (given outs_of (made seed count) made_nodes)
+made_listing seed count =
+    summed (length (made seed count)) (given outs_of (made seed count) made_nodes)
 
 -- what a status says of it: nothing can fail but writing, and memory
 abbrev pub MadeBy : ℕ → ℕ → Option (List ℕ) → Option (List ℕ) → Status → Type 0

@@ -14,7 +14,8 @@ use Rattle.stack_spec.specs.declared.faults.StackWhy.TheVariants as stack
 use Rattle.capture_any.specs.declared.end.ListingEnd.{ListingEnd}
 use Rattle.capture_any.specs.declared.end.ListingEnd.TheVariants as end
 use Rattle.ldecode.specs.declared.status.Status.{Status}
-use Rattle.ldecode.specs.declared.status.Status.TheVariants.{Done, Words, Stack, Bind, ReadFault, Capture, WriteFault, NoMemory}
+use Rattle.ldecode.specs.declared.status.Status.TheVariants.{Done, Words, Stack, Bind, ReadFault}
+use Rattle.ldecode.specs.declared.status.Status.TheVariants.{Capture, WriteFault, NoMemory}
 
 -- the status of a run whose work ended so
 abbrev pub status_of : ListingEnd → Status
@@ -105,10 +106,18 @@ capture_at capture.Bytes = 0
 -- the line that tells of a status; a run that is done tells nothing
 abbrev pub notice_of : Status → List ℕ
 notice_of Done = []
-notice_of (Words fault) = codes "ldecode: word " ++ decimal fault.word ++ codes " at " ++ decimal fault.at ++ codes ": " ++ word_why fault.why ++ codes "\n"
-notice_of (Stack fault) = codes "ldecode: stack word " ++ decimal fault.word ++ codes " at " ++ decimal fault.at ++ codes ": " ++ stack_why fault.why ++ codes "\n"
-notice_of (Bind fault) = codes "ldecode: entry " ++ decimal fault.entry ++ codes " item " ++ decimal fault.item ++ codes ": " ++ bind_why fault.why ++ codes "\n"
+notice_of (Words fault) =
+    codes "ldecode: word " ++ decimal fault.word ++ codes " at " ++ decimal fault.at ++ codes ": "
+    ++ word_why fault.why ++ codes "\n"
+notice_of (Stack fault) =
+    codes "ldecode: stack word " ++ decimal fault.word ++ codes " at " ++ decimal fault.at
+    ++ codes ": " ++ stack_why fault.why ++ codes "\n"
+notice_of (Bind fault) =
+    codes "ldecode: entry " ++ decimal fault.entry ++ codes " item " ++ decimal fault.item
+    ++ codes ": " ++ bind_why fault.why ++ codes "\n"
 notice_of ReadFault = codes "ldecode: read fault\n"
-notice_of (Capture fault) = codes "ldecode: capture at " ++ decimal (capture_at fault) ++ codes ": " ++ capture_why fault ++ codes "\n"
+notice_of (Capture fault) =
+    codes "ldecode: capture at " ++ decimal (capture_at fault) ++ codes ": " ++ capture_why fault
+    ++ codes "\n"
 notice_of WriteFault = codes "ldecode: write fault\n"
 notice_of NoMemory = codes "ldecode: out of memory\n"

@@ -15,8 +15,8 @@ abbrev pub line_sum : List Sent → ℕ
 line_sum [] = 0
 line_sum (s ∷ list) = s.serial + line_sum list
 
--- *made captures are read back*: eight notes for each transaction with its address and data bytes, and a note for each byte
--- of the serial line; so what is written is known from what was sent
+-- *made captures are read back*: eight notes for each transaction with its address and data bytes,
+-- and a note for each byte of the serial line; so what is written is known from what was sent
 abbrev pub ReadBack : Type 0
 ReadBack = (seed count : ℕ) → count ≤ 1000000
     → made_listing seed count

@@ -32,9 +32,11 @@ fn bind_word(
     requires short { length (string_bytes chain.now.text) ≤ 4096 }
     requires good { IsOk (terms_of (string_bytes chain.now.text)) }
     requires distinct { Distinct pins.old.items }
-    ensures chooses { (terms : List Meaning) → terms_of (string_bytes chain.now.text) ≡ Ok terms → ChoosesOne names.now entry pins.old.items pins.new.items terms result }
+    ensures chooses { (terms : List Meaning) → terms_of (string_bytes chain.now.text) ≡ Ok terms
+        → ChoosesOne names.now entry pins.old.items pins.new.items terms result }
     ensures distinct { Distinct pins.new.items }
-    ensures below { AllBelow (length names.now) pins.old.items → AllBelow (length names.now) pins.new.items }
+    ensures below { AllBelow (length names.now) pins.old.items
+        → AllBelow (length names.now) pins.new.items }
 {
     let words = match read_alt(alloc, chain.text.as_str()) {
         Ok(words) => words,
@@ -55,7 +57,8 @@ fn bind_word(
 /// their terms can't be bound, with the number of the alternative as its entry.
 pub fn bind_words(alloc: Global, chains: &[ChainWord], names: &Names) -> Result<Wanted, BindError>
     requires { IsReadable Find chains.now }
-    ensures chooses { (alternatives : List (List Meaning)) → AreTerms chains.now alternatives → Chooses names.now alternatives result }
+    ensures chooses { (alternatives : List (List Meaning)) → AreTerms chains.now alternatives
+        → Chooses names.now alternatives result }
     ensures below { IfOk result (λ wanted. AllBelow (length names.now) wanted.pins.items) }
 {
     let mut pins = Pins::new();

@@ -1,6 +1,7 @@
 // A capture as the feed of a tree of decoders.
 ghost use Rattle.std.specs.Prelude.{◌≡◌, ◌^◌, [], min, not, true};
 ghost use Rattle.capture_any.specs.Reading.{given_by, is_open_of};
+ghost use Rattle.la_io.specs.Feeds.{together};
 ghost use Rattle.ldecode.specs.Feeding.{ended};
 
 use capture_any::{Capture, ListingEnd, Runs};
@@ -8,8 +9,8 @@ use la_base::Run;
 use la_io::{CaptureError, RunFeed, Source};
 use std::snapshot::Snapshot;
 
-/// Gives the runs of a capture that was lent with its source, many at once. Behind them `end` tells how the
-/// capture ended.
+/// Gives the runs of a capture that was lent with its source, many at once. Behind them `end` tells
+/// how the capture ended.
 #[derive(Drop)]
 pub struct CaptureFeed<'a, 'b, S: Source> {
     pub capture: &'a mut Capture,
@@ -65,7 +66,7 @@ impl<'a, 'b, S: Source> RunFeed for CaptureFeed<'a, 'b, S> {
 
     type Origin = (Snapshot<&'a mut Capture>, Snapshot<&'b mut S>);
 
-    ghost gave = { λ feed runs. GaveRuns S.left S.faults feed runs };
+    ghost gave = { λ feed lists. GaveRuns S.left S.faults feed (together lists) };
 
     ghost given = { λ feed. min (given_by feed.capture.now) (2 ^ 60) };
 

@@ -1,5 +1,7 @@
-// The job `decode`: gathering all notes, and writing them in order; or binary data in place of them.
-ghost use Rattle.std.specs.Prelude.{◌≡◌, ◌≢◌, ◌<◌, ◌≤◌, [], ℕ, All, IfSome, List, length, map, true, OnOk};
+// The job `decode`: gathering all notes, and writing them in order; or binary data in place of
+// them.
+ghost use Rattle.std.specs.Prelude.{◌≡◌, ◌≢◌, ◌<◌, ◌≤◌, [], ℕ, All, IfSome, List, length, map};
+ghost use Rattle.std.specs.Prelude.{true, OnOk};
 ghost use Rattle.std.specs.Io.KnownBytes.{Appends};
 ghost use Rattle.la_io.specs.Causes.{AppendsFront, HasCause};
 ghost use Rattle.la_io.specs.Capture.{Told};
@@ -8,10 +10,12 @@ ghost use Rattle.capture_any.specs.Listings.{Lists, ReadCause, WriteCause};
 ghost use Rattle.capture_any.specs.Reading.{Stands, form_of, is_open_of, pins_of};
 ghost use Rattle.stack_direct.specs.Passing.{IsForest};
 ghost use Rattle.stack_direct.specs.Runs.{nodes_of};
+ghost use Rattle.stack_direct.specs.Taking.{IsTree};
 ghost use Rattle.stack_spec.specs.Stacks.{instances_in, stack_meaning};
 ghost use Rattle.note_order.specs.Order.{in_order};
 ghost use Rattle.ldecode.specs.Decoding.{Writes, note_lines, tree_output};
 ghost use Rattle.ldecode.specs.Feeding.{Gathers, kept_output};
+ghost use Rattle.ldecode.specs.Gathering.{IsNewTaker, WantsOwn};
 
 use crate::capture_feed::CaptureFeed;
 use crate::listing_taker::ListingTaker;
@@ -42,17 +46,16 @@ fn run_tree<'a, 'b, S: Source, M: Machine>(
     notes: &mut ListingTaker,
 ) -> Ran<'a, 'b, S>
     requires is_open { is_open_of capture.old ≡ true }
-    requires forest { IsForest parents.now }
-    requires few { length parents.now ≤ 24 }
-    requires each { length machines.old ≡ length parents.now }
-    requires instances { length (instances_in notes.old.stack.now) ≡ length parents.now }
-    requires empty { notes.old.entries.items ≡ [] }
-    requires no_bytes { notes.old.bytes.items ≡ [] }
-    requires wanted { IfSome (stack_meaning notes.old.stack.now).binary (λ wanted. wanted.0 < length parents.now) }
-    requires never { notes.old.stops ≡ 0 }
+    requires tree { IsTree parents.now (length machines.old)
+        (length (instances_in notes.old.stack.now)) }
+    requires new { IsNewTaker notes.old }
     ensures same_source { result.source.ghost_name ≡ source.entry.ghost_name }
-    ensures gathers { (before : List ℕ) (told : Told) → ToldAt told (S.left source.old) → Stands capture.old before told [] → All (λ machine. M.consumed machine []) machines.old
-        → Lists (form_of capture.old) (pins_of capture.old) (Gathers M.outputs (nodes_of (map M.setup machines.old) parents.now) (stack_meaning notes.old.stack.now) notes.new.entries.items notes.new.bytes.items) (λ _. Unit {0}) before told (S.left source.old) (S.left result.source.now) result.end }
+    ensures gathers { (before : List ℕ) (told : Told) → ToldAt told (S.left source.old)
+        → Stands capture.old before told [] → All (λ machine. M.consumed machine []) machines.old
+        → Lists (form_of capture.old) (pins_of capture.old)
+        (Gathers M.outputs (nodes_of (map M.setup machines.old) parents.now)
+        (stack_meaning notes.old.stack.now) notes.new.entries.items notes.new.bytes.items)
+        (λ _. Unit {0}) before told (S.left source.old) (S.left result.source.now) result.end }
     ensures read { ReadCause (S.faults source.old) (S.faults result.source.now) result.end }
     ensures unwritten { result.end ≢ ListingEnd.Write }
 {
@@ -92,16 +95,15 @@ pub fn collect<S: Source, M: Machine>(
     notes: &mut ListingTaker,
 ) -> ListingEnd
     requires is_open { is_open_of capture.old ≡ true }
-    requires forest { IsForest parents.now }
-    requires few { length parents.now ≤ 24 }
-    requires each { length machines.old ≡ length parents.now }
-    requires instances { length (instances_in notes.old.stack.now) ≡ length parents.now }
-    requires empty { notes.old.entries.items ≡ [] }
-    requires no_bytes { notes.old.bytes.items ≡ [] }
-    requires wanted { IfSome (stack_meaning notes.old.stack.now).binary (λ wanted. wanted.0 < length parents.now) }
-    requires never { notes.old.stops ≡ 0 }
-    ensures gathers { (before : List ℕ) (told : Told) → ToldAt told (S.left source.old) → Stands capture.old before told [] → All (λ machine. M.consumed machine []) machines.old
-        → Lists (form_of capture.old) (pins_of capture.old) (Gathers M.outputs (nodes_of (map M.setup machines.old) parents.now) (stack_meaning notes.old.stack.now) notes.new.entries.items notes.new.bytes.items) (λ _. Unit {0}) before told (S.left source.old) (S.left source.new) result }
+    requires tree { IsTree parents.now (length machines.old)
+        (length (instances_in notes.old.stack.now)) }
+    requires new { IsNewTaker notes.old }
+    ensures gathers { (before : List ℕ) (told : Told) → ToldAt told (S.left source.old)
+        → Stands capture.old before told [] → All (λ machine. M.consumed machine []) machines.old
+        → Lists (form_of capture.old) (pins_of capture.old)
+        (Gathers M.outputs (nodes_of (map M.setup machines.old) parents.now)
+        (stack_meaning notes.old.stack.now) notes.new.entries.items notes.new.bytes.items)
+        (λ _. Unit {0}) before told (S.left source.old) (S.left source.new) result }
     ensures read { ReadCause (S.faults source.old) (S.faults source.new) result }
     ensures unwritten { result ≢ ListingEnd.Write }
 {
@@ -117,8 +119,11 @@ pub fn collect<S: Source, M: Machine>(
 
 // Writes the lines of notes through a buffer before the sink.
 fn write_listing<K: Sink>(stack: &Stack, entries: &[Entry], sink: &mut K) -> Result<(), Failed>
-    ensures whole { OnOk result (Appends (K.written sink.old) (K.written sink.new) (note_lines (instances_in stack.now) entries.now)) }
-    ensures front { AppendsFront (K.written sink.old) (K.written sink.new) (note_lines (instances_in stack.now) entries.now) }
+    ensures whole { OnOk result
+        (Appends (K.written sink.old) (K.written sink.new)
+        (note_lines (instances_in stack.now) entries.now)) }
+    ensures front { AppendsFront (K.written sink.old) (K.written sink.new)
+        (note_lines (instances_in stack.now) entries.now) }
     ensures cause { HasCause (K.faults sink.old) (K.faults sink.new) result }
 {
     let mut buffered = Buffered::new(sink);
@@ -140,7 +145,8 @@ fn write_lines<K: Sink>(
     sink: &mut K,
 ) -> ListingEnd
     requires { (end ≢ ListingEnd.NoMemory) × (end ≢ ListingEnd.Write) }
-    ensures writes { Writes end (note_lines (instances_in stack.now) (in_order entries.items)) (K.written sink.old) (K.written sink.new) result }
+    ensures writes { Writes end (note_lines (instances_in stack.now) (in_order entries.items))
+        (K.written sink.old) (K.written sink.new) result }
     ensures write { WriteCause (K.faults sink.old) (K.faults sink.new) result }
 {
     let mut entries = entries;
@@ -165,7 +171,8 @@ fn write_bytes<K: Sink>(bytes: &[u8], end: ListingEnd, sink: &mut K) -> ListingE
     }
 }
 
-// Writes what was kept behind this end of the capture: the notes, or the binary data that is wanted.
+// Writes what was kept behind this end of the capture: the notes, or the binary data that is
+// wanted.
 fn write_gathered<K: Sink>(
     alloc: Global,
     stack: &Stack,
@@ -174,7 +181,9 @@ fn write_gathered<K: Sink>(
     sink: &mut K,
 ) -> ListingEnd
     requires { (end ≢ ListingEnd.NoMemory) × (end ≢ ListingEnd.Write) }
-    ensures writes { Writes end (kept_output (stack_meaning stack.now) kept.entry.entries.items kept.entry.bytes.items) (K.written sink.old) (K.written sink.new) result }
+    ensures writes { Writes end
+        (kept_output (stack_meaning stack.now) kept.entry.entries.items kept.entry.bytes.items)
+        (K.written sink.old) (K.written sink.new) result }
     ensures write { WriteCause (K.faults sink.old) (K.faults sink.new) result }
 {
     let ListingTaker { entries, bytes, .. } = kept;
@@ -185,8 +194,9 @@ fn write_gathered<K: Sink>(
 }
 
 /// Reads the capture to its end, and then writes the notes that the machines give, those of the
-/// instances that are shown, in the order of a listing; or the bytes of the binary data that is wanted, and
-/// nothing else. A machine with no parent reads the samples, each other one the packets of its parent.
+/// instances that are shown, in the order of a listing; or the bytes of the binary data that is
+/// wanted, and nothing else. A machine with no parent reads the samples, each other one the packets
+/// of its parent.
 pub fn decode<S: Source, K: Sink, M: Machine + Drop>(
     alloc: Global,
     stack: &Stack,
@@ -201,10 +211,17 @@ pub fn decode<S: Source, K: Sink, M: Machine + Drop>(
     requires few { length parents.now ≤ 24 }
     requires each { length machines.items ≡ length parents.now }
     requires instances { length (instances_in stack.now) ≡ length parents.now }
-    requires wanted { IfSome (stack_meaning stack.now).binary (λ wanted. wanted.0 < length parents.now) }
-    ensures lists { (before : List ℕ) (told : Told) → ToldAt told (S.left source.old) → Stands capture.old before told [] → All (λ machine. M.consumed machine []) machines.items
-        → Lists (form_of capture.old) (pins_of capture.old) (λ samples. Appends (K.written sink.old) (K.written sink.new) (tree_output M.outputs (stack_meaning stack.now) (nodes_of (map M.setup machines.items) parents.now) samples))
-        (λ samples. AppendsFront (K.written sink.old) (K.written sink.new) (tree_output M.outputs (stack_meaning stack.now) (nodes_of (map M.setup machines.items) parents.now) samples)) before told (S.left source.old) (S.left source.new) result }
+    requires wanted { WantsOwn stack.now }
+    ensures lists { (before : List ℕ) (told : Told) → ToldAt told (S.left source.old)
+        → Stands capture.old before told [] → All (λ machine. M.consumed machine []) machines.items
+        → Lists (form_of capture.old) (pins_of capture.old)
+        (λ samples. Appends (K.written sink.old) (K.written sink.new)
+        (tree_output M.outputs (stack_meaning stack.now)
+        (nodes_of (map M.setup machines.items) parents.now) samples))
+        (λ samples. AppendsFront (K.written sink.old) (K.written sink.new)
+        (tree_output M.outputs (stack_meaning stack.now)
+        (nodes_of (map M.setup machines.items) parents.now) samples)) before told
+        (S.left source.old) (S.left source.new) result }
     ensures read { ReadCause (S.faults source.old) (S.faults source.new) result }
     ensures write { WriteCause (K.faults sink.old) (K.faults sink.new) result }
 {

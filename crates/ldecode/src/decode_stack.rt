@@ -27,8 +27,10 @@ pub fn decode_stack<S: Source, K: Sink>(
     requires readable { IsReadable Decode settings.now.chains.items }
     requires shown { IfSome settings.now.show IsShort }
     requires binary { IfSome settings.now.binary IsShort }
-    ensures works { WorksOn (meaning_of settings.now) (S.left source.old) (S.left source.new) (K.written sink.old) (K.written sink.new) result }
-    ensures unread { WhereUnread (NamesNoHead (meaning_of settings.now)) result (source.new ≡ source.old) }
+    ensures works { WorksOn (meaning_of settings.now) (S.left source.old) (S.left source.new)
+        (K.written sink.old) (K.written sink.new) result }
+    ensures unread { WhereUnread (NamesNoHead (meaning_of settings.now)) result
+        (source.new ≡ source.old) }
     ensures read { SourceCause (S.faults source.old) (S.faults source.new) result }
     ensures write { SinkCause (K.faults sink.old) (K.faults sink.new) result }
 {

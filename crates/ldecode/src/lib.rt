@@ -8,12 +8,14 @@ mod decode_stack;
 mod form;
 mod laws;
 mod listing_taker;
+mod made_feed;
 mod make;
 mod note_lines;
 mod notices;
 mod run;
 mod search;
 mod status;
+mod tally_taker;
 
 pub use laws::made_captures_are_read_back;
 pub use run::run_here;

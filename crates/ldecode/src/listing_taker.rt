@@ -1,5 +1,5 @@
 // What takes the marks of a stack, and keeps what is to be written of them.
-ghost use Rattle.std.specs.Prelude.{◌≡◌, ◌≢◌, ◌++◌, ◌∷◌, ◌<◌, [], length, OnErr, OnOk};
+ghost use Rattle.std.specs.Prelude.{◌≡◌, ◌≢◌, ◌++◌, ◌∷◌, ◌<◌, [], length, OnErr, OnOk, true};
 ghost use Rattle.la_io.specs.Causes.{HasCause};
 ghost use Rattle.stack_spec.specs.Accepting.{is_shown};
 ghost use Rattle.stack_spec.specs.Stacks.{instances_in, stack_meaning};
@@ -11,8 +11,8 @@ use note_order::Entry;
 use stack_spec::Stack;
 use std::alloc::Global;
 
-/// Takes the marks of the instances of a stack, and keeps the notes of those that are shown; or, where binary
-/// data is wanted, its bytes and no notes. It stops for want of memory.
+/// Takes the marks of the instances of a stack, and keeps the notes of those that are shown; or,
+/// where binary data is wanted, its bytes and no notes. It stops for want of memory.
 #[derive(Drop)]
 pub struct ListingTaker<'a> {
     stack: &'a Stack,
@@ -42,7 +42,8 @@ impl<'a> ListingTaker<'a> {
     // Whether a note of an instance is kept.
     fn wants_note(&self, instance: u32) -> bool
         requires { instance < length (instances_in self.now.stack.now) }
-        ensures { result ≡ wants_note (stack_meaning self.now.stack.now).binary (is_shown (stack_meaning self.now.stack.now).shown) instance }
+        ensures { result ≡ wants_note (stack_meaning self.now.stack.now).binary
+            (is_shown (stack_meaning self.now.stack.now).shown) instance }
     {
         match self.stack.binary() {
             None => self.stack.shown(instance),
@@ -64,7 +65,8 @@ impl<'a> ListingTaker<'a> {
     fn keep(&mut self, entry: Entry) -> Result<(), Stopped>
         ensures stack { self.new.stack ≡ self.old.stack }
         ensures bytes { self.new.bytes ≡ self.old.bytes }
-        ensures keeps { OnOk result (self.new.entries.items ≡ self.old.entries.items ++ entry ∷ []) }
+        ensures keeps { OnOk result
+            (self.new.entries.items ≡ self.old.entries.items ++ entry ∷ []) }
         ensures stops { OnErr result (self.new.stops ≢ 0) }
         ensures cause { HasCause self.old.stops self.new.stops result }
     {
@@ -79,7 +81,9 @@ impl<'a> ListingTaker<'a> {
     fn keep_byte(&mut self, instance: u32, piece: Piece) -> Result<(), Stopped>
         ensures stack { self.new.stack ≡ self.old.stack }
         ensures entries { self.new.entries ≡ self.old.entries }
-        ensures keeps { OnOk result (self.new.bytes.items ≡ self.old.bytes.items ++ wanted_bytes (stack_meaning self.old.stack.now).binary instance piece) }
+        ensures keeps { OnOk result
+            (self.new.bytes.items ≡ self.old.bytes.items
+            ++ wanted_bytes (stack_meaning self.old.stack.now).binary instance piece) }
         ensures stops { OnErr result (self.new.stops ≢ 0) }
         ensures cause { HasCause self.old.stops self.new.stops result }
     {
@@ -93,13 +97,15 @@ impl<'a> ListingTaker<'a> {
         Ok(())
     }
 
-    // The same of a mark that is a piece. It isn't inlined, and takes the whole mark: a note would else be
-    // copied in parts, as its fields stand where those of a piece do.
+    // The same of a mark that is a piece. It isn't inlined, and takes the whole mark: a note would
+    // else be copied in parts, as its fields stand where those of a piece do.
     #[inline(never)]
     fn take_piece(&mut self, instance: u32, mark: Mark) -> Result<(), Stopped>
         ensures stack { self.new.stack ≡ self.old.stack }
         ensures entries { self.new.entries ≡ self.old.entries }
-        ensures keeps { OnOk result (self.new.bytes.items ≡ self.old.bytes.items ++ wanted_of (stack_meaning self.old.stack.now).binary instance mark) }
+        ensures keeps { OnOk result
+            (self.new.bytes.items ≡ self.old.bytes.items
+            ++ wanted_of (stack_meaning self.old.stack.now).binary instance mark) }
         ensures stops { OnErr result (self.new.stops ≢ 0) }
         ensures cause { HasCause self.old.stops self.new.stops result }
     {
@@ -120,9 +126,14 @@ impl<'a> MarkTake for ListingTaker<'a> {
     ghost instances = { λ taker. length (instances_in taker.stack.now) };
 
     // What it kept is told as long as it never stopped.
-    ghost took = { λ taker marks. taker.stops ≡ 0 → Kept (stack_meaning taker.stack.now).binary (is_shown (stack_meaning taker.stack.now).shown) (length (instances_in taker.stack.now)) taker.entries.items taker.bytes.items marks };
+    ghost took = { λ taker marks. taker.stops ≡ 0
+        → Kept (stack_meaning taker.stack.now).binary
+        (is_shown (stack_meaning taker.stack.now).shown)
+        (length (instances_in taker.stack.now)) taker.entries.items taker.bytes.items marks };
 
     ghost stops = { λ taker. taker.stops };
+
+    ghost going = { λ taker still. still ≡ true → taker.stops ≡ 0 };
 
     ghost origin = { λ taker. taker.stack };
 

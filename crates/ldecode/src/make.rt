@@ -1,36 +1,28 @@
 // The job `make`: a made capture is decoded, and what its decoders give is counted.
-ghost use Rattle.std.specs.Prelude.{◌≡◌, ◌≤◌, ◌<◌, ◌^◌, ◌+◌, IfOk, OnOk, map, true};
-ghost use Rattle.std.specs.Io.KnownBytes.{Appends};
-ghost use Rattle.la_io.specs.Causes.{AppendsFront, HasCause};
+ghost use Rattle.std.specs.Prelude.{◌≡◌, ◌≤◌, ◌<◌, ◌^◌, ◌*◌, IfOk, map};
 ghost use Rattle.text_parts.specs.Chains.{chain_of};
-ghost use Rattle.capture_make.specs.Made.{made};
-ghost use Rattle.decoder_set.specs.Setups.{outs_of};
 ghost use Rattle.listing_out.specs.Summaries.{summary};
-ghost use Rattle.ldecode.specs.Feeding.{Gathered};
+ghost use Rattle.stack_spec.specs.Stacks.{instances_in};
 ghost use Rattle.ldecode.specs.Headline.{SinkCause};
-ghost use Rattle.ldecode.specs.Making.{MadeBy, made_chains, made_nodes};
-ghost use Rattle.ldecode.specs.Tallies.{entries_tally, with_note};
+ghost use Rattle.ldecode.specs.Making.{MadeBy, made_chains, made_listing};
+ghost use Rattle.ldecode.specs.MadeTrees.{IsMadeTree, made_instances, made_names};
 
-use crate::decode::collect;
-use crate::listing_taker::ListingTaker;
+use crate::made_feed::MadeFeed;
 use crate::status::Status;
-use capture_any::{Capture, Form, ListingEnd};
-use capture_make::MadeSource;
-use la_base::{NoMemory, Note, Rate};
+use crate::tally_taker::TallyTaker;
+use decoder_core::RunEnd;
+use la_base::{Names, NoMemory, Rate};
 use la_io::{Failed, Sink};
-use listing_out::{Tally, write_summary};
-use note_order::Entry;
-use stack_spec::{bind, read_stack};
+use listing_out::write_summary;
+use stack_direct::run_direct;
+use stack_spec::{BindError, Bound, Stack, StackError, bind, read_stack};
 use std::alloc::Global;
 use text_parts::ChainWord;
 
-// A made capture has eight channels, and a million samples a second.
-const FORM: Form = Form::Raw {
-    channels: 8,
-    rate: Rate {
-        num: 1_000_000,
-        den: 1,
-    },
+// A million samples a second.
+const RATE: Rate = Rate {
+    num: 1_000_000,
+    den: 1,
 };
 
 // The samples of a transaction.
@@ -46,7 +38,7 @@ fn chain(alloc: Global, word: u32, text: &str) -> Result<ChainWord, NoMemory>
     }
 }
 
-// The stack that reads a made capture.
+// The words of the stack that reads a made capture.
 fn chains(alloc: Global) -> Result<Vec<ChainWord>, NoMemory>
     ensures { IfOk result (λ chains. map chain_of chains.items ≡ made_chains) }
 {
@@ -56,94 +48,75 @@ fn chains(alloc: Global) -> Result<Vec<ChainWord>, NoMemory>
     Ok(chains)
 }
 
-// Reads a made capture, and gathers the notes that its decoders give.
-fn gather(alloc: Global, seed: u64, count: u64) -> Result<Vec<Entry>, NoMemory>
-    requires seed { seed < 2 ^ 31 }
-    requires count { count ≤ 1000000 }
-    ensures { IfOk result (λ entries. Gathered outs_of made_nodes (λ _. true) entries.items (made seed count)) }
+// That stack. It has no fault.
+fn made_stack(alloc: Global) -> Result<Stack, NoMemory>
+    ensures { IfOk result (λ stack. instances_in stack ≡ made_instances) }
 {
     let chains = chains(alloc)?;
-    let stack = match read_stack(alloc, &chains, None, None) {
-        Ok(stack) => stack,
-        Err(_) => return Err(NoMemory),
-    };
-    let mut source = MadeSource::new(seed, count);
-    let mut capture = match Capture::open(alloc, FORM, &mut source) {
-        Ok(capture) => capture,
-        Err(_) => return Err(NoMemory),
-    };
-    let bound = match bind(alloc, &stack, capture.names(), capture.rate()) {
-        Ok(bound) => bound,
-        Err(_) => return Err(NoMemory),
-    };
-    capture.select(bound.pins);
+    match read_stack(alloc, &chains, None, None) {
+        Ok(stack) => Ok(stack),
+        Err(StackError::Fault(_)) => unreachable!(),
+        Err(StackError::NoMemory) => Err(NoMemory),
+    }
+}
+
+// The names of the channels of a made capture.
+fn names(alloc: Global) -> Result<Names, NoMemory>
+    ensures { IfOk result (λ names. names ≡ made_names) }
+{
+    let mut names = Names::new(alloc);
+    names.push(b"D0")?;
+    names.push(b"D1")?;
+    names.push(b"D2")?;
+    Ok(names)
+}
+
+// The decoders that read a made capture. Its stack can be bound.
+fn made_tree(alloc: Global) -> Result<Bound, NoMemory>
+    ensures { IfOk result IsMadeTree }
+{
+    let stack = made_stack(alloc)?;
+    let names = names(alloc)?;
+    match bind(alloc, &stack, &names, RATE) {
+        Ok(bound) => Ok(bound),
+        Err(BindError::Fault(_)) => unreachable!(),
+        Err(BindError::NoMemory) => Err(NoMemory),
+    }
+}
+
+// Decodes a made capture with its decoders, and counts the notes that they give. It takes no
+// memory.
+fn count_notes(bound: Bound, seed: u64, count: u64) -> TallyTaker
+    requires tree { IsMadeTree bound }
+    requires seed { seed < 2 ^ 31 }
+    requires count { count ≤ 1000000 }
+    ensures { summary (120 * count) result.bus result.line ≡ made_listing seed count }
+{
     let mut machines = bound.machines;
-    let mut notes = ListingTaker::new(alloc, &stack);
-    // Its words, its channels and its bytes have no fault, and its source doesn't fail: what is left is want of memory.
-    match collect(
-        &mut capture,
-        &mut machines,
-        &bound.parents,
-        &mut source,
-        &mut notes,
-    ) {
-        ListingEnd::Done => Ok(notes.entries),
-        _ => Err(NoMemory),
+    let mut feed = MadeFeed::new(seed, count);
+    let mut taker = TallyTaker::new();
+    match run_direct(&mut machines, &bound.parents, &mut feed, &mut taker) {
+        RunEnd::Ended => taker,
+        RunEnd::Stopped => unreachable!(),
     }
 }
 
-// One more note that is counted.
-fn with_note(tally: Tally, note: Note) -> Tally
-    requires count { tally.count + 1 < 2 ^ 64 }
-    requires sum { tally.sum < 2 ^ 32 }
-    ensures { result ≡ with_note tally note }
-{
-    Tally {
-        count: tally.count + 1,
-        sum: (tally.sum + note.a % (1 << 32)) % (1 << 32),
-    }
-}
-
-// The notes of an instance, counted.
-fn count_notes(entries: &[Entry], instance: u32) -> Tally
-    ensures { result ≡ entries_tally instance entries.now }
-{
-    let mut tally = Tally { count: 0, sum: 0 };
-    for entry in entries {
-        if entry.instance == instance {
-            tally = with_note(tally, entry.note);
-        }
-    }
-    tally
-}
-
-// Writes what was gathered, in numbers.
-fn write_counts<K: Sink>(samples: u64, entries: &[Entry], sink: &mut K) -> Result<(), Failed>
-    ensures whole { OnOk result (Appends (K.written sink.old) (K.written sink.new) (summary samples (entries_tally 0 entries.now) (entries_tally 1 entries.now))) }
-    ensures front { AppendsFront (K.written sink.old) (K.written sink.new) (summary samples (entries_tally 0 entries.now) (entries_tally 1 entries.now)) }
-    ensures cause { HasCause (K.faults sink.old) (K.faults sink.new) result }
-{
-    write_summary(
-        sink,
-        samples,
-        count_notes(entries, 0),
-        count_notes(entries, 1),
-    )
-}
-
-/// Decodes a made capture of this seed with so many transactions, and writes three lines: how many samples it has, and for
-/// its bus and its serial line how many notes they give, and the sum of their values. It reads nothing.
+/// Decodes a made capture of this seed with so many transactions, and writes three lines: how many
+/// samples it has, and for its bus and its serial line how many notes they give, and the sum of
+/// their values. It reads nothing.
 pub fn make<K: Sink>(alloc: Global, seed: u64, count: u64, sink: &mut K) -> Status
     requires seed { seed < 2 ^ 31 }
     requires count { count ≤ 1000000 }
     ensures makes { MadeBy seed count (K.written sink.old) (K.written sink.new) result }
     ensures write { SinkCause (K.faults sink.old) (K.faults sink.new) result }
 {
-    match gather(alloc, seed, count) {
-        Ok(entries) => match write_counts(BLOCK * count, &entries, sink) {
-            Ok(()) => Status::Done,
-            Err(Failed) => Status::WriteFault,
-        },
-        Err(NoMemory) => Status::NoMemory,
+    let bound = match made_tree(alloc) {
+        Ok(bound) => bound,
+        Err(NoMemory) => return Status::NoMemory,
+    };
+    let counted = count_notes(bound, seed, count);
+    match write_summary(sink, BLOCK * count, counted.bus, counted.line) {
+        Ok(()) => Status::Done,
+        Err(Failed) => Status::WriteFault,
     }
 }

@@ -17,8 +17,11 @@ fn write_entry<K: Sink>(
     entry: &Entry,
     sink: &mut K,
 ) -> Result<(), Failed>
-    ensures whole { OnOk result (Appends (K.written sink.old) (K.written sink.new) (note_line (instances_in stack.now) entry.now)) }
-    ensures front { AppendsFront (K.written sink.old) (K.written sink.new) (note_line (instances_in stack.now) entry.now) }
+    ensures whole { OnOk result
+        (Appends (K.written sink.old) (K.written sink.new)
+        (note_line (instances_in stack.now) entry.now)) }
+    ensures front { AppendsFront (K.written sink.old) (K.written sink.new)
+        (note_line (instances_in stack.now) entry.now) }
     ensures cause { HasCause (K.faults sink.old) (K.faults sink.new) result }
     ensures goes_on { K.goes_on sink.old sink.new }
 {
@@ -36,8 +39,11 @@ fn write_entry<K: Sink>(
 
 /// Writes the lines of notes. After `Failed` a front of them is written.
 pub fn write_notes<K: Sink>(stack: &Stack, entries: &[Entry], sink: &mut K) -> Result<(), Failed>
-    ensures whole { OnOk result (Appends (K.written sink.old) (K.written sink.new) (note_lines (instances_in stack.now) entries.now)) }
-    ensures front { AppendsFront (K.written sink.old) (K.written sink.new) (note_lines (instances_in stack.now) entries.now) }
+    ensures whole { OnOk result
+        (Appends (K.written sink.old) (K.written sink.new)
+        (note_lines (instances_in stack.now) entries.now)) }
+    ensures front { AppendsFront (K.written sink.old) (K.written sink.new)
+        (note_lines (instances_in stack.now) entries.now) }
     ensures cause { HasCause (K.faults sink.old) (K.faults sink.new) result }
     ensures goes_on { K.goes_on sink.old sink.new }
 {

@@ -1,7 +1,8 @@
 // The line that tells of a status.
 ghost use Rattle.std.specs.Prelude.{◌≡◌, ◌≤◌, ◌++◌, [], codes, length};
 ghost use Rattle.std.specs.Fmt.{decimal};
-ghost use Rattle.ldecode.specs.Notices.{word_why, stack_why, bind_why, capture_why, capture_at, notice_of};
+ghost use Rattle.ldecode.specs.Notices.{word_why, stack_why, bind_why, capture_why, capture_at};
+ghost use Rattle.ldecode.specs.Notices.{notice_of};
 
 use crate::status::Status;
 use la_io::CaptureFault;
@@ -104,7 +105,8 @@ fn at_word(line: &mut LineBuf, what: &str, word: u32, at: u32, why: &str)
     requires empty { line.old ≡ [] }
     requires what { length what.now ≤ 20 }
     requires why { length why.now ≤ 20 }
-    ensures { line.new ≡ what.now ++ decimal word ++ codes " at " ++ decimal at ++ codes ": " ++ why.now ++ codes "\n" }
+    ensures { line.new ≡ what.now ++ decimal word ++ codes " at " ++ decimal at ++ codes ": "
+        ++ why.now ++ codes "\n" }
 {
     push_text(line, what);
     line.push_number(u64::from(word));

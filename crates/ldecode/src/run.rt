@@ -2,7 +2,8 @@
 ghost use Rattle.std.specs.Prelude.{◌≡◌, map};
 ghost use Rattle.std.specs.String.{string_bytes};
 ghost use Rattle.ldecode.specs.Asking.{NamesNoHead};
-ghost use Rattle.ldecode.specs.Headline.{Good, Headline, IsMade, Notified, Runs, SinkCause, SourceCause, WhereUnread, stream};
+ghost use Rattle.ldecode.specs.Headline.{Good, Headline, IsMade, Notified, Runs, SinkCause};
+ghost use Rattle.ldecode.specs.Headline.{SourceCause, WhereUnread, stream};
 
 use crate::decode_stack::decode_stack;
 use crate::make::make;
@@ -20,8 +21,10 @@ fn run_words<S: Source, K: Sink>(
     source: &mut S,
     sink: &mut K,
 ) -> Status
-    ensures runs { Runs (map string_bytes words.now) (S.left source.old) (S.left source.new) (K.written sink.old) (K.written sink.new) result }
-    ensures unread { WhereUnread (Good (map string_bytes words.now) NamesNoHead) result (source.new ≡ source.old) }
+    ensures runs { Runs (map string_bytes words.now) (S.left source.old) (S.left source.new)
+        (K.written sink.old) (K.written sink.new) result }
+    ensures unread { WhereUnread (Good (map string_bytes words.now) NamesNoHead) result
+        (source.new ≡ source.old) }
     ensures made { Good (map string_bytes words.now) IsMade → source.new ≡ source.old }
     ensures read { SourceCause (S.faults source.old) (S.faults source.new) result }
     ensures write { SinkCause (K.faults sink.old) (K.faults sink.new) result }
@@ -51,12 +54,12 @@ fn tell<E: Sink>(status: &Status, notices: &mut E)
 /// Reads the capture from the source and writes to the sink what the words ask for, on this one
 /// thread, and then the line that tells of the status to the notices.
 ///
-/// What is written is the listing of the words' stack, or the binary data that they want of it, or the
-/// listing of their condition, on the settled samples of the bytes that were taken; or how much a made
-/// capture gives, for which nothing is read. The status is what words and capture give. `ReadFault` comes
-/// only where the source failed, `WriteFault` exactly where the sink failed: a front of the listing is then
-/// written. `NoMemory`, for want of memory, may come in place of any status but `WriteFault`; a front
-/// of the listing, or nothing, is written then.
+/// What is written is the listing of the words' stack, or the binary data that they want of it, or
+/// the listing of their condition, on the settled samples of the bytes that were taken; or how much
+/// a made capture gives, for which nothing is read. The status is what words and capture give.
+/// `ReadFault` comes only where the source failed, `WriteFault` exactly where the sink failed: a
+/// front of the listing is then written. `NoMemory`, for want of memory, may come in place of any
+/// status but `WriteFault`; a front of the listing, or nothing, is written then.
 pub fn run_here<S: Source, K: Sink, E: Sink>(
     alloc: Global,
     words: &[String],
@@ -64,7 +67,9 @@ pub fn run_here<S: Source, K: Sink, E: Sink>(
     sink: &mut K,
     notices: &mut E,
 ) -> Status
-    ensures { Headline (map string_bytes words.now) (stream S.left S.faults source.old source.new) (stream K.written K.faults sink.old sink.new) (stream E.written E.faults notices.old notices.new) (source.new ≡ source.old) result }
+    ensures { Headline (map string_bytes words.now) (stream S.left S.faults source.old source.new)
+        (stream K.written K.faults sink.old sink.new)
+        (stream E.written E.faults notices.old notices.new) (source.new ≡ source.old) result }
 {
     let status = run_words(alloc, words, source, sink);
     tell(&status, notices);

@@ -25,8 +25,10 @@ pub fn search<S: Source, K: Sink>(
 ) -> Status
     requires job { settings.now.job ≡ Find }
     requires readable { IsReadable Find settings.now.chains.items }
-    ensures works { WorksOn (meaning_of settings.now) (S.left source.old) (S.left source.new) (K.written sink.old) (K.written sink.new) result }
-    ensures unread { WhereUnread (NamesNoHead (meaning_of settings.now)) result (source.new ≡ source.old) }
+    ensures works { WorksOn (meaning_of settings.now) (S.left source.old) (S.left source.new)
+        (K.written sink.old) (K.written sink.new) result }
+    ensures unread { WhereUnread (NamesNoHead (meaning_of settings.now)) result
+        (source.new ≡ source.old) }
     ensures read { SourceCause (S.faults source.old) (S.faults source.new) result }
     ensures write { SinkCause (K.faults sink.old) (K.faults sink.new) result }
 {

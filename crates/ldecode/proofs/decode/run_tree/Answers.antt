@@ -1,11 +1,11 @@
-use Rattle.std.proofs.Common.{◌≡◌, ◌<◌, ℕ, List, [], map, length, refl, sym, ◌∙◌, ap, subst, arith, Bor}
+use Rattle.std.proofs.Common.{IfSome, ◌≡◌, ◌<◌, ℕ, List, [], map, length, refl, sym, ◌∙◌, ap, subst, arith, Bor}
 use Rattle.std.proofs.lemmas.List.{length-map}
-use Rattle.la_base.specs.Runs.{samples_of}
+use Rattle.la_io.specs.Feeds.{together}
 use Rattle.capture_any.specs.Reading.{form_of, is_open_of, pins_of}
 use Rattle.capture_any.proofs.ListingLemmas.{lists_on}
 use Rattle.decoder_core.specs.Promises.{GivesNothing}
-use Rattle.stack_direct.specs.Machines.{Stand, whole_of}
-use Rattle.stack_direct.specs.Runs.{nodes_of}
+use Rattle.stack_direct.specs.Machines.{Stand, near_of, whole_of}
+use Rattle.stack_direct.specs.Runs.{feeds_on, nodes_of, samples_in}
 use Rattle.stack_direct.proofs.Fresh.{fresh, nothing_at}
 use Rattle.stack_spec.specs.Accepting.{is_shown}
 use Rattle.stack_spec.specs.Stacks.{instances_in, stack_meaning}
@@ -30,23 +30,23 @@ returns-in-Ended-clause-gathers g c = λ before told at stands new.
     let run = c.in-Ended.ensures in
     let feed = c.run_direct-ran.new.feed in
     let taken = c.run_direct-ran.new.take in
-    let samples = samples_of run.runs.runs in
+    let samples = samples_in run.runs.lists in
     let gave = run.runs.gave [] c.new-feed.ensures.gave in
     let capture = ap (λ o. o.0.value.now) run.feed_origin ∙ c.new-feed.ensures.capture in
     let source = ap (λ o. o.1.value.now) run.feed_origin ∙ c.new-feed.ensures.source in
     let closed = closed_at_end (is_open_of feed.capture.now) (run.at_end refl) in
-    let count : length setups ≡ length parents = length-map ms m.setup ∙ c.requires.each in
-    let nothing : (j : ℕ) → j < length parents → GivesNothing (whole_of m.outputs setups j) = λ j within. nothing_at m.setup m.outputs g.met.M.Machine.nothing ms j (omega (arith, within, c.requires.each)) in
-    let stand = fresh m.outputs setups parents c.requires.forest count nothing (Stand m.consumed ms) (λ j within. machines_stand m.consumed ms new j (omega (arith, within, c.requires.each))) in
-    let kept = run.runs.took (λ _. []) run.runs.marks (λ never. kept_none shown (length (instances_in taker.stack.now)) taker.entries.items taker.bytes.items accepted.binary (λ _. []) c.requires.empty c.requires.no_bytes (λ i. refl)) (λ j. refl) (run.ended refl ∙ c.requires.never) in
+    let count : length setups ≡ length parents = length-map ms m.setup ∙ c.requires.tree.each in
+    let nothing : (j : ℕ) → j < length parents → GivesNothing (whole_of m.outputs setups j) = λ j within. nothing_at m.setup m.outputs g.met.M.Machine.nothing ms j (omega (arith, within, c.requires.tree.each)) in
+    let stand = fresh m.outputs setups parents c.requires.tree.forest count nothing (Stand m.consumed ms) (λ j within. machines_stand m.consumed ms new j (omega (arith, within, c.requires.tree.each))) in
+    let kept = run.runs.took (λ _. []) run.runs.marks (λ never. kept_none shown (length (instances_in taker.stack.now)) taker.entries.items taker.bytes.items accepted.binary (λ _. []) c.requires.new.empty c.requires.new.no_bytes (λ i. refl)) (λ j. refl) (run.ended refl ∙ c.requires.new.never) in
     let keeps : Kept accepted.binary shown (length parents) taken.entries.items taken.bytes.items run.runs.marks =
-    subst (λ (n : ℕ). Kept accepted.binary shown n taken.entries.items taken.bytes.items run.runs.marks) c.requires.instances
+    subst (λ (n : ℕ). Kept accepted.binary shown n taken.entries.items taken.bytes.items run.runs.marks) c.requires.tree.takes
     (subst (λ (s : Bor Stack). Kept (stack_meaning s.now).binary (is_shown (stack_meaning s.now).shown) (length (instances_in s.now)) taken.entries.items taken.bytes.items run.runs.marks) run.take_origin kept) in
-    let gathered = all_kept m.outputs setups parents c.requires.forest count nothing shown accepted.binary c.requires.wanted _ samples taken.entries.items taken.bytes.items run.runs.marks keeps (run.runs.told [] stand) in
+    let gathered = all_kept m.outputs setups parents c.requires.tree.forest count nothing shown (near_of m.near setups) (feeds_on m.outputs setups parents [] run.runs.lists) accepted.binary (subst (λ (n : ℕ). IfSome accepted.binary (λ wanted. wanted.0 < n)) c.requires.tree.takes c.requires.new.wanted) _ samples taken.entries.items taken.bytes.items run.runs.marks keeps (run.runs.told [] stand) in
     let Whole : List ℕ → Type 0 = Gathers m.outputs (nodes_of setups parents) accepted taken.entries.items taken.bytes.items in
     lists_on (form_of first) (pins_of first) (λ settled. settled ≡ samples) (λ _. Unit {0}) before told (left c.args.source.now) (left feed.source.now) (λ _. Unit {0}) (λ _ _. tt) Whole
     (λ given is. subst Whole (sym is) gathered) feed.end
-    (feed_whole left g.S.Source.faults feed run.runs.runs gave first capture c.args.source.now source feed.source.now refl closed before told at stands)
+    (feed_whole left g.S.Source.faults feed (together run.runs.lists) gave first capture c.args.source.now source feed.source.now refl closed before told at stands)
 
 pub returns-in-Ended-clause-read : goal.returns-in-Ended-clause-read
 returns-in-Ended-clause-read g c =
@@ -56,7 +56,7 @@ returns-in-Ended-clause-read g c =
     let capture = ap (λ o. o.0.value.now) run.feed_origin ∙ c.new-feed.ensures.capture in
     let source = ap (λ o. o.1.value.now) run.feed_origin ∙ c.new-feed.ensures.source in
     let closed = closed_at_end (is_open_of feed.capture.now) (run.at_end refl) in
-    (feed_cause g.S.Source.left g.S.Source.faults feed run.runs.runs gave c.args.capture.now capture c.args.source.now source feed.source.now refl closed).0
+    (feed_cause g.S.Source.left g.S.Source.faults feed (together run.runs.lists) gave c.args.capture.now capture c.args.source.now source feed.source.now refl closed).0
 
 pub returns-in-Ended-clause-unwritten : goal.returns-in-Ended-clause-unwritten
 returns-in-Ended-clause-unwritten g c = λ is.
@@ -64,7 +64,7 @@ returns-in-Ended-clause-unwritten g c = λ is.
     let feed = c.run_direct-ran.new.feed in
     let gave = run.runs.gave [] c.new-feed.ensures.gave in
     let closed = closed_at_end (is_open_of feed.capture.now) (run.at_end refl) in
-    let cause = feed_cause g.S.Source.left g.S.Source.faults feed run.runs.runs gave feed.first_capture.value.now refl feed.first_source.value.now refl feed.source.now refl closed in
+    let cause = feed_cause g.S.Source.left g.S.Source.faults feed (together run.runs.lists) gave feed.first_capture.value.now refl feed.first_source.value.now refl feed.source.now refl closed in
     cause.1 is
 
 pub returns-clause-gathers : goal.returns-clause-gathers
@@ -75,7 +75,7 @@ returns-clause-gathers g c = λ before told at stands new.
     let gave = run.runs.gave [] c.new-feed.ensures.gave in
     let capture = ap (λ o. o.0.value.now) run.feed_origin ∙ c.new-feed.ensures.capture in
     let source = ap (λ o. o.1.value.now) run.feed_origin ∙ c.new-feed.ensures.source in
-    feed_stopped g.S.Source.left g.S.Source.faults feed run.runs.runs gave c.args.capture.now capture c.args.source.now source feed.source.now refl
+    feed_stopped g.S.Source.left g.S.Source.faults feed (together run.runs.lists) gave c.args.capture.now capture c.args.source.now source feed.source.now refl
     (Gathers m.outputs (nodes_of (map m.setup c.args.machines.now) c.args.parents.now) (stack_meaning c.args.notes.now.stack.now) c.run_direct-ran.new.take.entries.items c.run_direct-ran.new.take.bytes.items) before told at stands
 
 pub returns-clause-read : goal.returns-clause-read
@@ -85,7 +85,7 @@ returns-clause-read g c =
     let gave = run.runs.gave [] c.new-feed.ensures.gave in
     let capture = ap (λ o. o.0.value.now) run.feed_origin ∙ c.new-feed.ensures.capture in
     let source = ap (λ o. o.1.value.now) run.feed_origin ∙ c.new-feed.ensures.source in
-    feed_failed g.S.Source.left g.S.Source.faults feed run.runs.runs gave c.args.capture.now capture c.args.source.now source feed.source.now refl
+    feed_failed g.S.Source.left g.S.Source.faults feed (together run.runs.lists) gave c.args.capture.now capture c.args.source.now source feed.source.now refl
 
 pub returns-in-Ended-clause-same_source : goal.returns-in-Ended-clause-same_source
 returns-in-Ended-clause-same_source g c =

@@ -1,28 +1,35 @@
-use Rattle.std.proofs.Common.{◌≡◌, ◌≤◌, ◌<◌, ◌+◌, ◌^◌, Bool, cond, take, sym, ◌∙◌, ap, subst, arith}
-use Rattle.list_cuts.proofs.TestLaws.{test_yes, test_no}
-use Rattle.listing_out.specs.declared.summaries.Tally.{Tally}
-use Rattle.ldecode.specs.Tallies.{entries_tally, with_note}
-use Rattle.ldecode.proofs.Counting.{counted_so_far}
+use Rattle.std.proofs.Common.{◌≡◌, ◌++◌, ℕ, List, [], map, refl, sym, ◌∙◌, ap, subst, arith, All}
+use Rattle.std.proofs.lemmas.List.{append-nil, length-map}
+use Rattle.capture_make.specs.Kept.{left_in}
+use Rattle.capture_make.specs.Made.{made}
+use Rattle.decoder_set.specs.Opening.{HasConsumed, setup_of}
+use Rattle.decoder_set.specs.Setups.{near_of, outs_of}
+use Rattle.decoder_set.specs.declared.any.AnyDecoder.{AnyDecoder}
+use Rattle.stack_direct.specs.Machines as at
+use Rattle.stack_direct.specs.Runs.{feeds_on, samples_in}
+use Rattle.stack_direct.proofs.Fresh.{fresh}
+use Rattle.ldecode.proofs.Tallying.{as_many, counted_is, forest, machines_stand, nothing}
 use Rattle.ldecode.proofs.make.count_notes.Goals as goal
-use Rattle.ldecode.proofs.make.count_notes.Goals.{then-entry-instance, else-entry-instance}
 
-pub loop-entry-preserved : goal.loop-entry-preserved
-loop-entry-preserved c =
-    let loop = c.loop-entry in
-    let more = counted_so_far c.args.instance c.args.entries.now loop.entry-index c.entry-item.result c.loop-entry-test.true c.entry-item.is in
-    let entry = c.entry-item.result in
-    let i = c.args.instance in
-    let before = entries_tally i (take loop.entry-index c.args.entries.now) in
-    elim c.if-entry-instance.branch [
-      | then-entry-instance w ↦
-          let is : c.if-entry-instance.tally ≡ with_note loop.tally entry.note = w.tally-is ∙ w.with_note-tally.ensures in (
-            is ∙ ap (λ (t : Tally). with_note t entry.note) loop.invariant.0 ∙ sym (more ∙ ap (λ (b : Bool). cond b (with_note before entry.note) before) (test_yes entry.instance i w.if-entry-instance.true)),
-            subst (λ (t : Tally). t.count ≤ loop.entry-index + 1) (sym is) (omega (arith, loop.invariant.1)),
-            subst (λ (t : Tally). t.sum < 2 ^ 32) (sym is) (omega arith),
-          )
-      | else-entry-instance w ↦ (
-        w.tally-is ∙ loop.invariant.0 ∙ sym (more ∙ ap (λ (b : Bool). cond b (with_note before entry.note) before) (test_no entry.instance i w.if-entry-instance.false)),
-        subst (λ (t : Tally). t.count ≤ loop.entry-index + 1) (sym w.tally-is) (omega (arith, loop.invariant.1)),
-        subst (λ (t : Tally). t.sum < 2 ^ 32) (sym w.tally-is) loop.invariant.2,
-      )
-    ]
+pub returns : goal.returns
+returns c =
+    let machines = c.deref_mut.result.now in
+    let parents = c.deref.result.now in
+    let setups = map setup_of machines in
+    let tree = c.requires.tree in
+    let setups_are = ap (map setup_of) c.deref_mut.ensures.value ∙ tree.setups in
+    let parents_are = c.deref.ensures.value ∙ tree.parents in
+    let run = c.in-Ended.ensures in
+    let lists = run.runs.lists in
+    let marks = run.runs.marks in
+    let feed = c.run_direct.new.feed in
+    let gave = run.runs.gave [] c.new-feed.ensures.gave in
+    let samples : samples_in lists ≡ made c.args.seed c.args.count =
+    sym (append-nil (samples_in lists)) ∙ ap (λ (l : List ℕ). samples_in lists ++ l) (sym (gave.ended (run.at_end refl)))
+    ∙ sym gave.split ∙ ap (λ f. left_in f.value) run.feed_origin ∙ c.new-feed.ensures.made in
+    let counted = run.runs.took (λ _. []) marks c.new-taker.ensures (λ j. refl) in
+    let new = subst (λ (l : List AnyDecoder). All (λ (machine : AnyDecoder). HasConsumed machine []) l) (sym c.deref_mut.ensures.value) tree.consumed in
+    let many = as_many setups parents setups_are parents_are in
+    let stand = fresh outs_of setups parents (forest setups parents setups_are parents_are) many (nothing setups parents setups_are parents_are) (at.Stand HasConsumed machines)
+    (λ j within. machines_stand machines new j (omega (arith, within, many, length-map machines setup_of))) in
+    counted_is setups parents setups_are parents_are (at.near_of near_of setups) (feeds_on outs_of setups parents [] lists) _ (samples_in lists) marks (run.runs.told [] stand) c.args.seed c.args.count c.requires.count samples c.run_direct.new.take counted

@@ -1,4 +1,8 @@
 use Rattle.std.proofs.Common.{◌≡◌, Bool, true, Result, refl, sym, ◌∙◌, ap, subst}
+use Rattle.std.proofs.lemmas.List.{append-nil}
+use Rattle.la_io.specs.Feeds.{together}
+use Rattle.la_io.proofs.Together.{together-last}
+use Rattle.ldecode.specs.Feeding.{GaveRuns}
 use Rattle.la_io.specs.declared.fault.CaptureError.{CaptureError}
 use Rattle.capture_any.specs.Reading.{is_open_of}
 use Rattle.la_io.specs.Reading.{CaptureCause}
@@ -16,9 +20,10 @@ returns-in-None-clause-gives g c =
     let was_open : is_open_of old.capture.now ≡ true = cc in
     record {
       gave = λ before gave.
-          feed_on left faults old _ refl refl refl refl next.form next.pins was_open before gave (next.is_open ∙ ap open_behind more)
+          subst (GaveRuns left faults _) (sym (together-last before c.next_runs.new.into))
+          (feed_on left faults old _ refl refl refl refl next.form next.pins was_open (together before) gave (next.is_open ∙ ap open_behind more)
           (subst (Gives old.capture.now c.next_runs.new.self (left old.source.now) (left c.next_runs.new.source) c.next_runs.new.into) more next.gives)
-          (subst (λ (a : Result Bool CaptureError). CaptureCause (faults old.source.now) (faults c.next_runs.new.source) a) more next.cause) (next.counts more) next.few;
+          (subst (λ (a : Result Bool CaptureError). CaptureCause (faults old.source.now) (faults c.next_runs.new.source) a) more next.cause) (next.counts more) next.few);
       few = λ all gave. gave.few;
     }
 
@@ -30,6 +35,7 @@ returns-in-Some-clause-gives g c =
     let was_open : is_open_of old.capture.now ≡ true = cc in
     record {
       gave = λ before gave.
-          feed_ends g.S.Source.left g.S.Source.faults old _ refl refl refl refl next.form next.pins was_open before gave c.clear-in-Some.ensures c.next_runs.new.into c.next_runs.result ends (next.is_open ∙ answer_closes c.next_runs.result c.in-Some.end ends) next.gives next.cause;
+          subst (GaveRuns g.S.Source.left g.S.Source.faults _) (ap together (sym (append-nil before)))
+          (feed_ends g.S.Source.left g.S.Source.faults old _ refl refl refl refl next.form next.pins was_open (together before) gave c.clear-in-Some.ensures c.next_runs.new.into c.next_runs.result ends (next.is_open ∙ answer_closes c.next_runs.result c.in-Some.end ends) next.gives next.cause);
       few = λ all gave. gave.few;
     }
