@@ -1,5 +1,6 @@
 -- What a reader of lines stands for, and what its answers mean.
-use Rattle.std.specs.Prelude.{ℕ, ◌≡◌, ◌+◌, ◌-◌, ◌^◌, ◌<◌, ◌≤◌, Bool, true, List, [], ◌∷◌, ◌++◌, length, slice_index, take, drop, Option, Some, None, Result, Ok, Err}
+use Rattle.std.specs.Prelude.{ℕ, ◌≡◌, ◌+◌, ◌-◌, ◌^◌, ◌<◌, ◌≤◌, Bool, true, List, [], ◌∷◌, ◌++◌}
+use Rattle.std.specs.Prelude.{length, slice_index, take, drop, Option, Some, None, Result, Ok, Err}
 use Rattle.text_parts.specs.Places.{Placed}
 use Rattle.la_io.specs.Capture.{Told}
 use Rattle.la_io.specs.Intake.{Front}
@@ -10,11 +11,15 @@ use Rattle.byte_feed.specs.Lines.{is_feed, kept, lines_behind, lines_of}
 use Rattle.byte_feed.specs.declared.fault.FeedFault.{FeedFault}
 use Rattle.byte_feed.specs.declared.lines.Lines.{Lines}
 
--- these bytes were taken and these lines given: whatever comes, they are the first of its lines, and the others are those of what is held behind so many bytes
-pub record LinesAt (front : Front) (over lines : ℕ) (ended : Bool) (bytes : List ℕ) (given : List Placed) : Type 0 where
+-- these bytes were taken and these lines given: whatever comes, they are the first of its lines,
+-- and the others are those of what is held behind so many bytes
+pub record LinesAt (front : Front) (over lines : ℕ) (ended : Bool) (bytes : List ℕ)
+    (given : List Placed) : Type 0 where
   pub taken : front.taken ≡ length bytes
   pub few : ended ≡ true → length bytes < 2 ^ 60
-  pub goes_on : Onward ended (λ more how. lines_behind 0 how (kept (bytes ++ more)) ≡ behind given (lines_behind lines how (drop over front.bytes ++ kept more)))
+  pub goes_on : Onward ended
+      (λ more how. lines_behind 0 how (kept (bytes ++ more))
+      ≡ behind given (lines_behind lines how (drop over front.bytes ++ kept more)))
 
 -- what it holds, and how many bytes it took
 abbrev pub front_of : Lines → Front
@@ -49,7 +54,8 @@ abbrev pub left_of : Lines → ℕ
 left_of l = 2 ^ 60 + (length (front_of l).bytes - l.over) - taken_of l
 
 -- the reader has taken these bytes, was told the end behind them or not, and has given these lines
-pub record Stands (lines : Lines) (bytes : List ℕ) (told : Told) (given : List Placed) : Type 0 where
+pub record Stands (lines : Lines) (bytes : List ℕ) (told : Told)
+    (given : List Placed) : Type 0 where
   pub told_is : told ≡ told_of (ended_of lines)
   pub stands : LinesAt (front_of lines) lines.over lines.number lines.ended bytes given
 
@@ -64,15 +70,21 @@ pub record Ahead (lines : Lines) (len : ℕ) : Type 0 where
 
 -- one more line was given, and no byte was taken
 abbrev pub GaveLine : Lines → Lines → ℕ → Type 0
-GaveLine old new number = (bytes : List ℕ) (told : Told) (given : List Placed) → Stands old bytes told given → Stands new bytes told (given ++ (number, text_of new) ∷ [])
+GaveLine old new number =
+    (bytes : List ℕ) (told : Told) (given : List Placed) → Stands old bytes told given
+    → Stands new bytes told (given ++ (number, text_of new) ∷ [])
 
 -- what an answer means, where these bytes were taken and these lines were given before it
-abbrev pub Answers : Lines → Option (List ℕ) → List ℕ → List Placed → Result (Option ℕ) FeedFault → Type 0
-Answers lines left bytes given result = feeding.Answers ended_of is_spent text_of Stands lines_of lines left bytes given result
+abbrev pub Answers : Lines → Option (List ℕ) → List ℕ → List Placed → Result (Option ℕ) FeedFault
+    → Type 0
+Answers lines left bytes given result =
+    feeding.Answers ended_of is_spent text_of Stands lines_of lines left bytes given result
 
 -- one call: the bytes that it took, and what its answer means behind them
-abbrev pub Next : Lines → Lines → Option (List ℕ) → Option (List ℕ) → Result (Option ℕ) FeedFault → Type 0
-Next old new left_old left_new result = feeding.Next ended_of is_spent text_of Stands lines_of old new left_old left_new result
+abbrev pub Next : Lines → Lines → Option (List ℕ) → Option (List ℕ) → Result (Option ℕ) FeedFault
+    → Type 0
+Next old new left_old left_new result =
+    feeding.Next ended_of is_spent text_of Stands lines_of old new left_old left_new result
 
 -- the lines are counted from 1
 abbrev pub Numbers : ℕ → ℕ → Result (Option ℕ) FeedFault → Type 0

@@ -1,5 +1,6 @@
 -- The lines of bytes, each with its number, counted from 1.
-use Rattle.std.specs.Prelude.{ℕ, ◌+◌, ◌^◌, ◌==◌, nat_eq, Bool, true, if◌then◌else◌, List, [], ◌∷◌, length, take, drop}
+use Rattle.std.specs.Prelude.{ℕ, ◌+◌, ◌^◌, ◌==◌, nat_eq, Bool, true, if◌then◌else◌, List, [], ◌∷◌}
+use Rattle.std.specs.Prelude.{length, take, drop}
 use Rattle.std.specs.List.{starts_with}
 use Rattle.la_io.specs.Capture.{Told, Ending}
 use Rattle.la_io.specs.Intake.{without}

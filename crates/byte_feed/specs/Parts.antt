@@ -1,11 +1,14 @@
--- Bytes that are cut into parts, as tokens and lines are: the parts that count, each with a mark, up to the first that is too long.
-use Rattle.std.specs.Prelude.{ℕ, ◌≡◌, ◌<◌, ◌^◌, ◌==◌, ◌&&◌, nat_le, not, Bool, false, if◌then◌else◌, List, [], ◌∷◌, ◌++◌, length, slice_index}
+-- Bytes that are cut into parts, as tokens and lines are: the parts that count, each with a mark,
+-- up to the first that is too long.
+use Rattle.std.specs.Prelude.{ℕ, ◌≡◌, ◌<◌, ◌^◌, ◌==◌, ◌&&◌, nat_le, not, Bool, false, if◌then◌else◌}
+use Rattle.std.specs.Prelude.{List, [], ◌∷◌, ◌++◌, length, slice_index}
 use Rattle.std.specs.List.{slice_split}
 use Rattle.text_parts.specs.Places.{Placed}
 use Rattle.la_io.specs.declared.fault.CaptureFault.TheVariants.{TooLong, Bytes}
 use Rattle.la_io.specs.Capture.{Told, AtEnd, Cut, Ending, Clean, Faulty, Open}
 
--- how bytes are cut: the bytes that end a part, whether an empty part counts that has one behind it, and the mark of the part behind one
+-- how bytes are cut: the bytes that end a part, whether an empty part counts that has one behind
+-- it, and the mark of the part behind one
 pub record Cutting : Type 0 where
   pub ends_part : ℕ → Bool
   pub empties : Bool
@@ -37,14 +40,16 @@ whole_part empties part rest = if is_long part.1 then ends (Faulty (TooLong part
 -- the last part counts where the bytes end clean behind it and it isn't empty
 abbrev pub last_part : Ending → Placed → Fed
 last_part Clean part = whole_part false part (ends Clean)
-last_part (Faulty fault) part = if is_long part.1 then ends (Faulty (TooLong part.0)) else ends (Faulty fault)
+last_part (Faulty fault) part =
+    if is_long part.1 then ends (Faulty (TooLong part.0)) else ends (Faulty fault)
 last_part Open part = if is_long part.1 then ends (Faulty (TooLong part.0)) else ends Open
 
 -- those that count among parts, up to the first that is too long
 abbrev pub parts_in : Bool → Ending → List Placed → Fed
 parts_in empties how [] = ends how
 parts_in empties how (part ∷ []) = last_part how part
-parts_in empties how (part ∷ next ∷ parts) = whole_part empties part (parts_in empties how (next ∷ parts))
+parts_in empties how (part ∷ next ∷ parts) =
+    whole_part empties part (parts_in empties how (next ∷ parts))
 
 -- parts with their marks
 abbrev pub marked_from : (ℕ → List ℕ → ℕ) → ℕ → List (List ℕ) → List Placed
@@ -53,7 +58,8 @@ marked_from next mark (part ∷ parts) = (mark, part) ∷ marked_from next (next
 
 -- the parts of bytes that end in this way, the first with this mark
 unfoldable pub parts_from : Cutting → ℕ → Ending → List ℕ → Fed
-parts_from cut mark how bytes = parts_in cut.empties how (marked_from cut.next mark (slice_split cut.ends_part bytes))
+parts_from cut mark how bytes =
+    parts_in cut.empties how (marked_from cut.next mark (slice_split cut.ends_part bytes))
 
 -- none of so many bytes at the front ends a part
 abbrev pub NoneEnds : Cutting → List ℕ → ℕ → Type 0

@@ -1,5 +1,7 @@
--- The tokens of bytes: the parts between blanks that aren't empty, each with the place of its first byte.
-use Rattle.std.specs.Prelude.{ℕ, ◌+◌, ◌^◌, ◌==◌, ◌||◌, ◌&&◌, nat_le, Bool, false, List, length, take}
+-- The tokens of bytes: the parts between blanks that aren't empty, each with the place of its first
+-- byte.
+use Rattle.std.specs.Prelude.{ℕ, ◌+◌, ◌^◌, ◌==◌, ◌||◌, ◌&&◌, nat_le, Bool, false, List, length}
+use Rattle.std.specs.Prelude.{take}
 use Rattle.la_io.specs.Capture.{Told, Ending}
 use Rattle.byte_feed.specs.Parts.{Cutting, Fed, bytes_ending, parts_from}
 

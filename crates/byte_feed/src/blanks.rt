@@ -3,7 +3,8 @@ ghost use Rattle.std.specs.Prelude.{◌≡◌, ◌<◌, ◌≤◌, length, slice
 ghost use Rattle.byte_feed.specs.Tokens.{is_blank};
 ghost use Rattle.byte_feed.specs.Blanks.{AllBlank, AllPlain};
 
-/// Whether a byte parts tokens: tab, line feed, vertical tab, form feed, carriage return and space do.
+/// Whether a byte parts tokens: tab, line feed, vertical tab, form feed, carriage return and space
+/// do.
 #[inline(always)]
 pub fn is_blank(byte: u8) -> bool
     ensures { result ≡ is_blank byte }

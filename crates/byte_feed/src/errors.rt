@@ -5,8 +5,8 @@ ghost use Rattle.byte_feed.specs.Errors.{error_of};
 use crate::FeedFault;
 use la_io::{CaptureError, CaptureFault};
 
-/// What stops the reader of a capture whose tokens or lines have a fault. A reader that has answered a fault
-/// asks for no more, so that `Spent` doesn't come.
+/// What stops the reader of a capture whose tokens or lines have a fault. A reader that has
+/// answered a fault asks for no more, so that `Spent` doesn't come.
 pub fn error_of(fault: FeedFault) -> CaptureError
     ensures is { result ≡ error_of fault }
     ensures some_memory { result ≢ CaptureError.NoMemory }

@@ -9,8 +9,8 @@ use la_io::{Failed, Intake, MOST_BYTES, Source};
 /// The least length that is too long, and the room for bytes that are held.
 pub const LONG: usize = 65_536;
 
-/// Reads once, and never behind the end. `false` is the end. It isn't inlined, since mostly a whole token
-/// is held.
+/// Reads once, and never behind the end. `false` is the end. It isn't inlined, since mostly a whole
+/// token is held.
 #[inline(never)]
 pub fn fill<S: Source>(
     intake: &mut Intake<LONG>,
@@ -18,7 +18,8 @@ pub fn fill<S: Source>(
     source: &mut S,
 ) -> Result<bool, FeedFault>
     requires room { length intake.old.bytes < 65536 }
-    ensures fills { Fills intake.old intake.new ended.old ended.new (S.left source.old) (S.left source.new) result }
+    ensures fills { Fills intake.old intake.new ended.old ended.new (S.left source.old)
+        (S.left source.new) result }
     ensures unread { ended.old ≡ true → source.new ≡ source.old }
     ensures cause { FeedCause (S.faults source.old) (S.faults source.new) result }
 {
@@ -45,7 +46,8 @@ pub fn skip_blanks<S: Source>(
     ended: &mut bool,
     source: &mut S,
 ) -> Result<bool, FeedFault>
-    ensures skips { Skips intake.old intake.new ended.old ended.new (S.left source.old) (S.left source.new) result }
+    ensures skips { Skips intake.old intake.new ended.old ended.new (S.left source.old)
+        (S.left source.new) result }
     ensures unread { ended.old ≡ true → source.new ≡ source.old }
     ensures cause { FeedCause (S.faults source.old) (S.faults source.new) result }
 {
@@ -71,7 +73,8 @@ pub fn token_len<S: Source>(
     ended: &mut bool,
     source: &mut S,
 ) -> Result<usize, FeedFault>
-    ensures reaches { Reaches intake.old intake.new ended.old ended.new (S.left source.old) (S.left source.new) result }
+    ensures reaches { Reaches intake.old intake.new ended.old ended.new (S.left source.old)
+        (S.left source.new) result }
     ensures unread { ended.old ≡ true → source.new ≡ source.old }
     ensures cause { FeedCause (S.faults source.old) (S.faults source.new) result }
 {

@@ -1,5 +1,5 @@
-//! Tokens of a stream of bytes, each with the place of its first byte, and lines, each with its number,
-//! however the stream is cut.
+//! Tokens of a stream of bytes, each with the place of its first byte, and lines, each with its
+//! number, however the stream is cut.
 #![tactic(auto)]
 
 mod blanks;

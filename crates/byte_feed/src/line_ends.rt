@@ -1,5 +1,6 @@
 // How a reader of lines takes bytes from its source.
-ghost use Rattle.std.specs.Prelude.{◌≡◌, ◌<◌, ◌≤◌, ◌^◌, ◌++◌, ◌⊎◌, ◌∷◌, [], List, ℕ, length, slice_index, drop, true, false};
+ghost use Rattle.std.specs.Prelude.{◌≡◌, ◌<◌, ◌≤◌, ◌^◌, ◌++◌, ◌⊎◌, ◌∷◌, [], List, ℕ, length};
+ghost use Rattle.std.specs.Prelude.{slice_index, drop, true, false};
 ghost use Rattle.byte_feed.specs.Lines.{is_feed, without_mark};
 ghost use Rattle.byte_feed.specs.LineMoves.{AllIn, FillsKept, PassesFront, ReachesEnd};
 ghost use Rattle.byte_feed.specs.Moving.{FeedCause};
@@ -33,8 +34,10 @@ fn line_at(bytes: &[u8], known: usize) -> usize
 
 /// Whether the bytes may begin a mark that more of them make whole.
 fn may_be_mark(bytes: &[u8]) -> bool
-    ensures may { result ≡ true → (bytes.now ≡ []) ⊎ (bytes.now ≡ 239 ∷ []) ⊎ (bytes.now ≡ 239 ∷ 187 ∷ []) }
-    ensures may_not { result ≡ false → (more : List ℕ) → without_mark (bytes.now ++ more) ≡ without_mark bytes.now ++ more }
+    ensures may { result ≡ true
+        → (bytes.now ≡ []) ⊎ (bytes.now ≡ 239 ∷ []) ⊎ (bytes.now ≡ 239 ∷ 187 ∷ []) }
+    ensures may_not { result ≡ false → (more : List ℕ)
+        → without_mark (bytes.now ++ more) ≡ without_mark bytes.now ++ more }
 {
     bytes.len() < MARK.len() && MARK.starts_with(bytes)
 }
@@ -55,7 +58,8 @@ fn fill<S: Source>(
     source: &mut S,
 ) -> Result<bool, FeedFault>
     requires room { length intake.old.bytes < 65536 }
-    ensures fills { FillsKept intake.old intake.new ended.old ended.new (S.left source.old) (S.left source.new) result }
+    ensures fills { FillsKept intake.old intake.new ended.old ended.new (S.left source.old)
+        (S.left source.new) result }
     ensures unread { ended.old ≡ true → source.new ≡ source.old }
     ensures cause { FeedCause (S.faults source.old) (S.faults source.new) result }
 {
@@ -83,7 +87,8 @@ pub fn pass_mark<S: Source>(
     source: &mut S,
     lines: u64,
 ) -> Result<(), FeedFault>
-    ensures passes { PassesFront lines intake.old intake.new ended.old ended.new (S.left source.old) (S.left source.new) result }
+    ensures passes { PassesFront lines intake.old intake.new ended.old ended.new (S.left source.old)
+        (S.left source.new) result }
     ensures unread { ended.old ≡ true → source.new ≡ source.old }
     ensures cause { FeedCause (S.faults source.old) (S.faults source.new) result }
 {
@@ -112,7 +117,8 @@ pub fn line_len<S: Source>(
     lines: u64,
 ) -> Result<usize, FeedFault>
     requires { lines ≤ 2 ^ 60 }
-    ensures reaches { ReachesEnd lines intake.old intake.new ended.old ended.new (S.left source.old) (S.left source.new) result }
+    ensures reaches { ReachesEnd lines intake.old intake.new ended.old ended.new (S.left source.old)
+        (S.left source.new) result }
     ensures unread { ended.old ≡ true → source.new ≡ source.old }
     ensures cause { FeedCause (S.faults source.old) (S.faults source.new) result }
 {

@@ -8,9 +8,9 @@ use la_base::NoMemory;
 use la_io::{Intake, Source};
 use std::alloc::Global;
 
-/// Reads lines, which end at line feeds; the last one may lack its own, and is none where it is empty.
-/// Carriage returns are dropped wherever they stand, and so is a byte order mark at the very front. It
-/// holds the line that it gave last.
+/// Reads lines, which end at line feeds; the last one may lack its own, and is none where it is
+/// empty. Carriage returns are dropped wherever they stand, and so is a byte order mark at the very
+/// front. It holds the line that it gave last.
 #[derive(Drop)]
 pub struct Lines {
     intake: Box<Intake<LONG>>,
@@ -28,11 +28,14 @@ pub struct Lines {
 }
 
 impl Lines {
-    ghost use Rattle.std.specs.Prelude.{◌≡◌, ◌≢◌, ◌<◌, ◌≤◌, ◌^◌, [], ◌+◌, length, take, IfOk, IfSome, Err, true, false};
+    ghost use Rattle.std.specs.Prelude.{◌≡◌, ◌≢◌, ◌<◌, ◌≤◌, ◌^◌, [], ◌+◌, length, take, IfOk};
+    ghost use Rattle.std.specs.Prelude.{IfSome, Err, true, false};
     ghost use Rattle.la_io.specs.Capture.{Cut};
     ghost use Rattle.byte_feed.specs.Moving.{FeedCause};
     ghost use Rattle.byte_feed.specs.Feeding.{spent_by};
-    ghost use Rattle.byte_feed.specs.LineReader.{Stands, Next, Numbers, Ahead, GaveLine, is_spent, ended_of, number_of, text_of, left_of, rest_of, taken_of};
+    ghost use Rattle.byte_feed.specs.LineReader.{Stands, Next, Numbers, Ahead, GaveLine, is_spent};
+    ghost use Rattle.byte_feed.specs.LineReader.{ended_of, number_of, text_of, left_of, rest_of};
+    ghost use Rattle.byte_feed.specs.LineReader.{taken_of};
     ghost use Rattle.byte_feed.specs.LineMoves.{AllIn};
     ghost use Rattle.byte_feed.specs.declared.fault.FeedFault.TheVariants.{Spent};
 
@@ -51,7 +54,8 @@ impl Lines {
         })
     }
 
-    /// The number of the next line, counted from 1, or `None` at the end. After a fault there is none.
+    /// The number of the next line, counted from 1, or `None` at the end. After a fault there is
+    /// none.
     // Inlined, since most lines are held.
     #[inline(always)]
     pub fn next<S: Source>(&mut self, source: &mut S) -> Result<Option<u64>, FeedFault>
@@ -62,7 +66,8 @@ impl Lines {
         ensures unread { ended_of self.old ≡ true → source.new ≡ source.old }
         ensures idle { is_spent self.old ≡ true → source.new ≡ source.old }
         ensures still { is_spent self.old ≡ true → self.new ≡ self.old }
-        ensures progress { IfOk result (λ line. IfSome line (λ _. left_of self.new < left_of self.old)) }
+        ensures progress { IfOk result
+            (λ line. IfSome line (λ _. left_of self.new < left_of self.old)) }
         ensures few { IfOk result (λ line. IfSome line (λ _. taken_of self.new ≤ 2 ^ 60)) }
         ensures numbers { Numbers (number_of self.old) (number_of self.new) result }
         ensures cause { FeedCause (S.faults source.old) (S.faults source.new) result }
@@ -98,11 +103,12 @@ impl Lines {
         }
     }
 
-    /// So many bytes behind the line that was given last, where they are held and a line feed stands
-    /// behind them. Nothing is read.
+    /// So many bytes behind the line that was given last, where they are held and a line feed
+    /// stands behind them. Nothing is read.
     #[inline(always)]
     pub fn ahead(&self, len: usize) -> Option<&[u8]>
-        ensures { IfSome result (λ text. Ahead self.now len × (text.now ≡ take len (rest_of self.now))) }
+        ensures { IfSome result
+            (λ text. Ahead self.now len × (text.now ≡ take len (rest_of self.now))) }
     {
         if self.number == 0 {
             return None;

@@ -8,8 +8,8 @@ use la_base::NoMemory;
 use la_io::{Intake, Source};
 use std::alloc::Global;
 
-/// Reads tokens: parts of a stream of bytes between spaces, tabs and the bytes of line ends. It holds
-/// the token that it gave last.
+/// Reads tokens: parts of a stream of bytes between spaces, tabs and the bytes of line ends. It
+/// holds the token that it gave last.
 #[derive(Drop)]
 pub struct Tokens {
     intake: Box<Intake<LONG>>,
@@ -20,10 +20,12 @@ pub struct Tokens {
 }
 
 impl Tokens {
-    ghost use Rattle.std.specs.Prelude.{◌≡◌, ◌≢◌, ◌<◌, ◌≤◌, ◌^◌, [], IfOk, IfSome, None, Err, true, false};
+    ghost use Rattle.std.specs.Prelude.{◌≡◌, ◌≢◌, ◌<◌, ◌≤◌, ◌^◌, [], IfOk, IfSome, None, Err, true};
+    ghost use Rattle.std.specs.Prelude.{false};
     ghost use Rattle.la_io.specs.Capture.{Cut};
     ghost use Rattle.byte_feed.specs.Moving.{FeedCause};
-    ghost use Rattle.byte_feed.specs.Reader.{Stands, Next, GaveToken, HoldsNone, is_spent, ended_of, text_of, left_of, taken_of};
+    ghost use Rattle.byte_feed.specs.Reader.{Stands, Next, GaveToken, HoldsNone, is_spent};
+    ghost use Rattle.byte_feed.specs.Reader.{ended_of, text_of, left_of, taken_of};
     ghost use Rattle.byte_feed.specs.Feeding.{spent_by};
     ghost use Rattle.byte_feed.specs.declared.fault.FeedFault.TheVariants.{Spent};
 
@@ -51,7 +53,8 @@ impl Tokens {
         ensures unread { ended_of self.old ≡ true → source.new ≡ source.old }
         ensures idle { is_spent self.old ≡ true → source.new ≡ source.old }
         ensures still { is_spent self.old ≡ true → self.new ≡ self.old }
-        ensures progress { IfOk result (λ token. IfSome token (λ _. left_of self.new < left_of self.old)) }
+        ensures progress { IfOk result
+            (λ token. IfSome token (λ _. left_of self.new < left_of self.old)) }
         ensures few { IfOk result (λ token. IfSome token (λ _. taken_of self.new ≤ 2 ^ 60)) }
         ensures cause { FeedCause (S.faults source.old) (S.faults source.new) result }
     {
@@ -80,8 +83,8 @@ impl Tokens {
         }
     }
 
-    /// The place of the next token's first byte, where that token and a blank behind it are held. Where
-    /// they aren't, it is `None`, nothing changes, and `next` gives it. Nothing is read.
+    /// The place of the next token's first byte, where that token and a blank behind it are held.
+    /// Where they aren't, it is `None`, nothing changes, and `next` gives it. Nothing is read.
     #[inline(always)]
     pub fn held(&mut self) -> Option<u64>
         requires { is_spent self.old ≡ false }

@@ -14,7 +14,8 @@ use Rattle.capture_any.specs.declared.form.Form.TheVariants.{Raw, Vcd, Csv}
 abbrev pub capture_of : Form → List ℕ → List ℕ → Told → Captured
 capture_of (Raw channels rate) pins bytes told = raw_capture channels rate pins bytes told
 capture_of (Vcd down) pins bytes told = vcd_capture down pins bytes told
-capture_of (Csv mode header rate) pins bytes told = csv_capture mode header rate.num rate.den pins bytes told
+capture_of (Csv mode header rate) pins bytes told =
+    csv_capture mode header rate.num rate.den pins bytes told
 
 -- the source told its end only where no byte is left
 abbrev pub ToldAt : Told → Option (List ℕ) → Type 0
@@ -43,7 +44,8 @@ TakesNoMemory (Raw channels rate) = Unit {0}
 TakesNoMemory (Vcd down) = Unit {0}
 TakesNoMemory (Csv mode header rate) = ⊥
 
--- a reader of this form that took these bytes may want memory where it has given what the first `count` of them settle
+-- a reader of this form that took these bytes may want memory where it has given what the first
+-- `count` of them settle
 abbrev pub WantsMemoryAt : Form → List ℕ → ℕ → Type 0
 WantsMemoryAt (Raw channels rate) bytes count = ⊥
 WantsMemoryAt (Vcd down) bytes count = ⊥

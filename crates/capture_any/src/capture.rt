@@ -20,19 +20,21 @@ pub struct Capture {
 }
 
 impl Capture {
-    ghost use Rattle.std.specs.Prelude.{◌≡◌, ◌≢◌, ◌+◌, ◌^◌, ◌<◌, ◌≤◌, ℕ, List, [], ◌++◌, length, slice_index, true, Bool, None, Ok, IfOk, IfSome};
+    ghost use Rattle.std.specs.Prelude.{◌≡◌, ◌≢◌, ◌+◌, ◌^◌, ◌<◌, ◌≤◌, ℕ, List, [], ◌++◌, length};
+    ghost use Rattle.std.specs.Prelude.{slice_index, true, Bool, None, Ok, IfOk, IfSome};
     ghost use Rattle.la_base.specs.Samples.{samples};
     ghost use Rattle.la_base.specs.declared.samples.Run.{Run};
     ghost use Rattle.la_base.specs.Runs.{samples_of};
     ghost use Rattle.capture_any.specs.Taking.{GaveHeld, Gives, open_behind};
     ghost use Rattle.la_io.specs.Capture.{Told};
     ghost use Rattle.capture_any.specs.Captures.{IsForm, HasNoHead, TakesNoMemory};
-    ghost use Rattle.capture_any.specs.Reading.{Stands, Next, Opens, form_of, pins_of, names_of, rate_of, is_open_of, given_by};
+    ghost use Rattle.capture_any.specs.Reading.{Stands, Next, Opens, form_of, pins_of, names_of};
+    ghost use Rattle.capture_any.specs.Reading.{rate_of, is_open_of, given_by};
     ghost use Rattle.la_io.specs.Reading.{CaptureCause, run_samples, stays_open};
 
     /// Opens a capture of this form: reads its head; nothing is read where the form's head takes no
-    /// bytes. `Fault` comes exactly where the head has one, and `Read` where the source failed before
-    /// the head was whole. Its rate is at most 10^15.
+    /// bytes. `Fault` comes exactly where the head has one, and `Read` where the source failed
+    /// before the head was whole. Its rate is at most 10^15.
     pub fn open<S: Source>(
         alloc: Global,
         form: Form,
@@ -99,9 +101,11 @@ impl Capture {
 
     /// Bit j of each sample is channel `pins[j]` from now on. No sample was given yet.
     pub fn select(&mut self, pins: Pins)
-        requires within { (k : ℕ) → k < length pins.items → slice_index pins.items k < length (names_of self.old) }
+        requires within { (k : ℕ) → k < length pins.items
+            → slice_index pins.items k < length (names_of self.old) }
         requires fresh { (bytes : List ℕ) × (told : Told) × Stands self.old bytes told [] }
-        ensures stands { (bytes : List ℕ) (told : Told) → Stands self.old bytes told [] → Stands self.new bytes told [] }
+        ensures stands { (bytes : List ℕ) (told : Told) → Stands self.old bytes told []
+            → Stands self.new bytes told [] }
         ensures pins { pins_of self.new ≡ pins.items }
         ensures form { form_of self.new ≡ form_of self.old }
         ensures names { names_of self.new ≡ names_of self.old }
@@ -129,7 +133,8 @@ impl Capture {
     /// The next run, or `None` at a clean end. After every answer but a run it is closed. `Fault`
     /// comes where the capture has one, and `Read` where the source failed, both after all samples
     /// that came before.
-    // Inlined, since its answer is as wide as the largest fault, and is looked at in one place alone.
+    // Inlined, since its answer is as wide as the largest fault, and is looked at in one place
+    // alone.
     #[inline(always)]
     pub fn next<S: Source>(&mut self, source: &mut S) -> Result<Option<Run>, CaptureError>
         requires { is_open_of self.old ≡ true }
@@ -139,7 +144,8 @@ impl Capture {
         ensures pins { pins_of self.new ≡ pins_of self.old }
         ensures names { names_of self.new ≡ names_of self.old }
         ensures rate { rate_of self.new ≡ rate_of self.old }
-        ensures progress { IfOk result (λ step. IfSome step (λ run. given_by self.old + run.len ≤ given_by self.new)) }
+        ensures progress { IfOk result
+            (λ step. IfSome step (λ run. given_by self.old + run.len ≤ given_by self.new)) }
         ensures few { given_by self.new ≤ 2 ^ 60 }
         ensures memory { TakesNoMemory (form_of self.old) → result ≢ Err CaptureError.NoMemory }
         ensures cause { CaptureCause (S.faults source.old) (S.faults source.new) result }
@@ -194,7 +200,9 @@ impl Capture {
 
     // Appends the runs of what was read already, as far as there is room.
     fn take_held(&mut self, into: &mut Runs)
-        ensures gave { (new : List Run) × (into.new ≡ into.old ++ new) × GaveHeld self.old self.new (samples_of new) × (given_by self.old + length (samples_of new) ≤ given_by self.new) }
+        ensures gave { (new : List Run) × (into.new ≡ into.old ++ new)
+            × GaveHeld self.old self.new (samples_of new)
+            × (given_by self.old + length (samples_of new) ≤ given_by self.new) }
         ensures is_open { is_open_of self.new ≡ is_open_of self.old }
         ensures form { form_of self.new ≡ form_of self.old }
         ensures pins { pins_of self.new ≡ pins_of self.old }
@@ -209,22 +217,24 @@ impl Capture {
         }
     }
 
-    /// As `next`, but gives as many runs as are read already and there is room for, one at least: `true`.
-    /// `false` is the clean end. What `into` held before is let go.
+    /// As `next`, but gives as many runs as are read already and there is room for, one at least:
+    /// `true`. `false` is the clean end. What `into` held before is let go.
     pub fn next_runs<S: Source>(
         &mut self,
         source: &mut S,
         into: &mut Runs,
     ) -> Result<bool, CaptureError>
         requires { is_open_of self.old ≡ true }
-        ensures gives { Gives self.old self.new (S.left source.old) (S.left source.new) into.new result }
+        ensures gives { Gives self.old self.new (S.left source.old)
+            (S.left source.new) into.new result }
         ensures is_open { is_open_of self.new ≡ open_behind result }
         ensures form { form_of self.new ≡ form_of self.old }
         ensures pins { pins_of self.new ≡ pins_of self.old }
         ensures names { names_of self.new ≡ names_of self.old }
         ensures rate { rate_of self.new ≡ rate_of self.old }
         ensures progress { result ≡ Ok true → given_by self.old < given_by self.new }
-        ensures counts { result ≡ Ok true → given_by self.old + length (samples_of into.new) ≤ given_by self.new }
+        ensures counts { result ≡ Ok true
+            → given_by self.old + length (samples_of into.new) ≤ given_by self.new }
         ensures few { given_by self.new ≤ 2 ^ 60 }
         ensures memory { TakesNoMemory (form_of self.old) → result ≢ Err CaptureError.NoMemory }
         ensures cause { CaptureCause (S.faults source.old) (S.faults source.new) result }

@@ -5,7 +5,8 @@ ghost use Rattle.la_base.specs.declared.samples.Run.{Run};
 ghost use Rattle.capture_vcd.specs.Reader.{GaveHeld, SameReader, vcd_given, vcd_open};
 ghost use Rattle.la_io.specs.Reading.{run_samples};
 ghost use Rattle.capture_vcd.specs.Running.{RunCounts};
-ghost use Rattle.capture_csv.specs.Reader.{GaveHeld as CsvGaveHeld, SameReader as SameCsv, csv_given, csv_open};
+ghost use Rattle.capture_csv.specs.Reader.{GaveHeld as CsvGaveHeld, SameReader as SameCsv};
+ghost use Rattle.capture_csv.specs.Reader.{csv_given, csv_open};
 ghost use Rattle.capture_csv.specs.Running.{run_len as csv_len};
 
 use crate::runs::Runs;
@@ -16,7 +17,9 @@ use la_base::Run;
 /// Appends the runs that a VCD reader has read already, as far as there is room.
 #[inline(never)]
 pub fn take_vcd(reader: &mut VcdReader, into: &mut Runs)
-    ensures gave { (new : List Run) × (into.new ≡ into.old ++ new) × GaveHeld reader.old reader.new (samples_of new) × (vcd_given reader.old + length (samples_of new) ≤ vcd_given reader.new) }
+    ensures gave { (new : List Run) × (into.new ≡ into.old ++ new)
+        × GaveHeld reader.old reader.new (samples_of new)
+        × (vcd_given reader.old + length (samples_of new) ≤ vcd_given reader.new) }
     ensures form { SameReader reader.old reader.new }
     ensures is_open { vcd_open reader.new ≡ vcd_open reader.old }
     ensures few { vcd_given reader.old ≤ 2 ^ 60 → vcd_given reader.new ≤ 2 ^ 60 }
@@ -44,7 +47,9 @@ pub fn held_of(reader: &mut VcdReader) -> Option<Run>
 /// Appends the runs that a CSV reader has read already, as far as there is room.
 #[inline(never)]
 pub fn take_csv(reader: &mut CsvReader, into: &mut Runs)
-    ensures gave { (new : List Run) × (into.new ≡ into.old ++ new) × CsvGaveHeld reader.old reader.new (samples_of new) × (csv_given reader.old + length (samples_of new) ≤ csv_given reader.new) }
+    ensures gave { (new : List Run) × (into.new ≡ into.old ++ new)
+        × CsvGaveHeld reader.old reader.new (samples_of new)
+        × (csv_given reader.old + length (samples_of new) ≤ csv_given reader.new) }
     ensures form { SameCsv reader.old reader.new }
     ensures is_open { csv_open reader.new ≡ csv_open reader.old }
     ensures few { csv_given reader.old ≤ 2 ^ 60 → csv_given reader.new ≤ 2 ^ 60 }

@@ -1,5 +1,6 @@
 // Laws of captures, each on a function that does nothing.
-ghost use Rattle.capture_any.specs.Laws.{LongerExtends, FaultStays, HeadStays, PinsLeaveTheHead, PinsLeaveTheEnding, GivenIsFront};
+ghost use Rattle.capture_any.specs.Laws.{LongerExtends, FaultStays, HeadStays, PinsLeaveTheHead};
+ghost use Rattle.capture_any.specs.Laws.{PinsLeaveTheEnding, GivenIsFront};
 
 /// The settled samples of bytes that are cut are the first of those of every longer input.
 pub fn longer_extends()

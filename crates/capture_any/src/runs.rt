@@ -1,5 +1,6 @@
 // Several runs at once.
-ghost use Rattle.std.specs.Prelude.{◌≡◌, ◌≤◌, ◌<◌, ◌+◌, ◌^◌, ◌∷◌, ◌++◌, [], List, length, take, true, false};
+ghost use Rattle.std.specs.Prelude.{◌≡◌, ◌≤◌, ◌<◌, ◌+◌, ◌^◌, ◌∷◌, ◌++◌, [], List, length, take};
+ghost use Rattle.std.specs.Prelude.{true, false};
 ghost use Rattle.la_base.specs.Runs.{samples_of};
 ghost use Rattle.capture_raw.specs.Reader.{SameForm, raw_given, raw_open};
 ghost use Rattle.capture_any.specs.Taking.{RawGave};
@@ -12,8 +13,8 @@ use std::marker::Model;
 /// How many runs are given at once.
 pub const MOST_RUNS: usize = 64;
 
-/// At most `MOST_RUNS` runs, in their order: room that is used again and again. Contracts see the list of
-/// runs.
+/// At most `MOST_RUNS` runs, in their order: room that is used again and again. Contracts see the
+/// list of runs.
 #[derive(Drop)]
 pub struct Runs {
     // the runs, and what doesn't count behind them
@@ -74,7 +75,9 @@ impl Runs {
     /// Appends the runs that a raw reader has read already, as far as there is room.
     #[inline(never)]
     pub fn take_raw(&mut self, reader: &mut RawReader)
-        ensures gave { (new : List Run) × (self.new ≡ self.old ++ new) × RawGave reader.old reader.new (samples_of new) × (raw_given reader.old + length (samples_of new) ≤ raw_given reader.new) }
+        ensures gave { (new : List Run) × (self.new ≡ self.old ++ new)
+            × RawGave reader.old reader.new (samples_of new)
+            × (raw_given reader.old + length (samples_of new) ≤ raw_given reader.new) }
         ensures form { SameForm reader.old reader.new }
         ensures is_open { raw_open reader.new ≡ raw_open reader.old }
         ensures few { raw_given reader.new ≤ 2 ^ 60 }

@@ -1,11 +1,14 @@
 -- What the bytes of a CSV capture give.
-use Rattle.std.specs.Prelude.{ℕ, ◌+◌, ◌*◌, ◌^◌, ◌==◌, nat_le, nat_lt, Bool, true, false, if◌then◌else◌, List, [], ◌∷◌, ◌++◌, length, map, drop, get_or, codes, Option, Some, None, Result, Ok, Err}
+use Rattle.std.specs.Prelude.{ℕ, ◌+◌, ◌*◌, ◌^◌, ◌==◌, nat_le, nat_lt, Bool, true, false}
+use Rattle.std.specs.Prelude.{if◌then◌else◌, List, [], ◌∷◌, ◌++◌, length, map, drop, get_or, codes}
+use Rattle.std.specs.Prelude.{Option, Some, None, Result, Ok, Err}
 use Rattle.std.specs.Fmt.{decimal}
 use Rattle.std.specs.List.{range_with_len}
 use Rattle.la_base.specs.Naming.{same_name}
 use Rattle.la_io.specs.declared.fault.CaptureFault.{CaptureFault}
 use Rattle.la_io.specs.declared.fault.CaptureFault.TheVariants as fault
-use Rattle.la_io.specs.Capture.{Told, Head, Good, Bad, Unread, Ending, Clean, Faulty, Open, Captured}
+use Rattle.la_io.specs.Capture.{Told, Head, Good, Bad, Unread, Ending, Clean, Faulty, Open}
+use Rattle.la_io.specs.Capture.{Captured}
 use Rattle.text_parts.specs.Reading.{read_front}
 use Rattle.byte_feed.specs.Parts.{Fed}
 use Rattle.byte_feed.specs.Lines.{lines_of}
@@ -20,7 +23,8 @@ level_of line column field = if same_name (codes "0") field then Ok false
     else if same_name (codes "1") field then Ok true
     else Err (fault.Field line column)
 
-abbrev pub before_levels : Result Bool CaptureFault → Result (List Bool) CaptureFault → Result (List Bool) CaptureFault
+abbrev pub before_levels : Result Bool CaptureFault → Result (List Bool) CaptureFault
+    → Result (List Bool) CaptureFault
 before_levels (Err fault) levels = Err fault
 before_levels (Ok level) (Err fault) = Err fault
 before_levels (Ok level) (Ok levels) = Ok (level ∷ levels)
@@ -28,9 +32,11 @@ before_levels (Ok level) (Ok levels) = Ok (level ∷ levels)
 -- the levels of fields, the first of which stands in this column; or the first fault among them
 abbrev pub levels_of : ℕ → ℕ → List (List ℕ) → Result (List Bool) CaptureFault
 levels_of line column [] = Ok []
-levels_of line column (field ∷ fields) = before_levels (level_of line column field) (levels_of line (column + 1) fields)
+levels_of line column (field ∷ fields) =
+    before_levels (level_of line column field) (levels_of line (column + 1) fields)
 
--- what a record without a fault says: the levels of all channels, and the time from which on they hold, 0 where it tells none
+-- what a record without a fault says: the levels of all channels, and the time from which on they
+-- hold, 0 where it tells none
 pub record Taken : Type 0 where
   pub time : ℕ
   pub levels : List Bool
@@ -49,21 +55,27 @@ last_time time [] = time
 last_time time (taken ∷ rest) = last_time taken.time rest
 
 -- a record of this time: it isn't before the last one, and its sample is below 2^60
-abbrev pub timed : ℕ → ℕ → List Taken → ℕ → Result (List Bool) CaptureFault → Option ℕ → Result Taken CaptureFault
+abbrev pub timed : ℕ → ℕ → List Taken → ℕ → Result (List Bool) CaptureFault → Option ℕ
+    → Result Taken CaptureFault
 timed num den before line levels None = Err (fault.Time line)
-timed num den before line levels (Some time) = if nat_lt time (last_time time before) then Err (fault.TimeBack line (from_zero (last_time time before)) (from_zero time))
-    else if nat_le (2 ^ 60) (sample_at num den (first_time time before) time) then Err (fault.TimeLarge line)
+timed num den before line levels (Some time) =
+    if nat_lt time (last_time time before)
+    then Err (fault.TimeBack line (from_zero (last_time time before)) (from_zero time))
+    else if nat_le (2 ^ 60) (sample_at num den (first_time time before) time)
+    then Err (fault.TimeLarge line)
     else taken_at time levels
 
 -- what the fields of a record say behind those before it
 abbrev pub fields_say : CsvMode → ℕ → ℕ → List Taken → ℕ → List (List ℕ) → Result Taken CaptureFault
 fields_say Rows num den before line fields = taken_at 0 (levels_of line 1 fields)
 fields_say Times num den before line [] = Err (fault.Time line)
-fields_say Times num den before line (field ∷ fields) = timed num den before line (levels_of line 2 fields) (time_in field)
+fields_say Times num den before line (field ∷ fields) =
+    timed num den before line (levels_of line 2 fields) (time_in field)
 
 -- a record has as many fields as the first
 abbrev pub record_says : CsvMode → ℕ → ℕ → ℕ → List Taken → Record → Result Taken CaptureFault
-record_says mode num den want before row = if length row.1 == want then fields_say mode num den before row.0 row.1
+record_says mode num den want before row =
+    if length row.1 == want then fields_say mode num den before row.0 row.1
     else Err (fault.Columns row.0 want (length row.1))
 
 -- a word of levels, the first as its lowest bit
@@ -78,13 +90,17 @@ word_of pins levels = word_bits (map (λ pin. get_or levels pin false) pins)
 -- the levels of the last record whose sample is at most k
 abbrev pub levels_at : ℕ → ℕ → ℕ → ℕ → List Bool → List Taken → List Bool
 levels_at num den start k so_far [] = so_far
-levels_at num den start k so_far (taken ∷ rest) = levels_at num den start k (if nat_le (sample_at num den start taken.time) k then taken.levels else so_far) rest
+levels_at num den start k so_far (taken ∷ rest) =
+    levels_at num den start k
+    (if nat_le (sample_at num den start taken.time) k then taken.levels else so_far) rest
 
 -- the words at so many samples from the first time on
 unfoldable pub words_from : ℕ → ℕ → List ℕ → ℕ → List Taken → ℕ → List ℕ
-words_from num den pins start taken count = map (λ k. word_of pins (levels_at num den start k [] taken)) (range_with_len 0 count)
+words_from num den pins start taken count =
+    map (λ k. word_of pins (levels_at num den start k [] taken)) (range_with_len 0 count)
 
--- how many samples are settled up to the sample of the last record: at a clean end it is the last, else those before it
+-- how many samples are settled up to the sample of the last record: at a clean end it is the last,
+-- else those before it
 abbrev pub count_by : Ending → ℕ → ℕ
 count_by Clean last = last + 1
 count_by (Faulty fault) last = last
@@ -93,7 +109,8 @@ count_by Open last = last
 abbrev pub timed_words : ℕ → ℕ → List ℕ → List Taken → Ending → List ℕ
 timed_words num den pins [] ending = []
 timed_words num den pins (first ∷ rest) ending =
-    words_from num den pins first.time (first ∷ rest) (count_by ending (sample_at num den first.time (last_time first.time rest)))
+    words_from num den pins first.time (first ∷ rest)
+    (count_by ending (sample_at num den first.time (last_time first.time rest)))
 
 -- the samples that records settle: each is one; or they are those between their times
 abbrev pub settled_by : CsvMode → ℕ → ℕ → List ℕ → List Taken → Ending → List ℕ
@@ -125,7 +142,8 @@ body_ending how (Some fault) = Faulty fault
 body_ending how None = how
 
 -- what a body gives
-abbrev pub body_by : CsvMode → Head → ℕ → ℕ → List ℕ → Ending → List Taken × Option CaptureFault → Captured
+abbrev pub body_by : CsvMode → Head → ℕ → ℕ → List ℕ → Ending → List Taken × Option CaptureFault
+    → Captured
 body_by mode head num den pins how read = record {
   head = head;
   settled = settled_by mode num den pins read.0 (body_ending how read.1);
@@ -143,13 +161,21 @@ abbrev pub records_give : CsvMode → Bool → ℕ → ℕ → List ℕ → Endi
 records_give mode header num den pins how [] = no_record num den how
 records_give mode header num den pins how (first ∷ rest) =
     if nat_lt 4096 (length (channel_fields mode first.1))
-    then record { head = Bad (fault.TooMany first.0); settled = []; ending = Faulty (fault.TooMany first.0) }
-    else body_by mode (Good (names_by mode header first.1) num den) num den pins how (read_front (record_says mode num den (length first.1)) [] (body_of header first rest))
+    then record {
+      head = Bad (fault.TooMany first.0);
+      settled = [];
+      ending = Faulty (fault.TooMany first.0);
+    }
+    else body_by mode (Good (names_by mode header first.1) num den) num den pins how
+    (read_front (record_says mode num den (length first.1)) [] (body_of header first rest))
 
 -- what lines give
 abbrev pub lines_give : CsvMode → Bool → ℕ → ℕ → List ℕ → Fed → Captured
-lines_give mode header num den pins fed = records_give mode header num den pins fed.ending (records_in fed.items)
+lines_give mode header num den pins fed =
+    records_give mode header num den pins fed.ending (records_in fed.items)
 
--- what the bytes of a CSV capture give, at so many samples in so many seconds, with these channels as the bits of the samples
+-- what the bytes of a CSV capture give, at so many samples in so many seconds, with these channels
+-- as the bits of the samples
 unfoldable pub csv_capture : CsvMode → Bool → ℕ → ℕ → List ℕ → List ℕ → Told → Captured
-csv_capture mode header num den pins bytes told = lines_give mode header num den pins (lines_of bytes told)
+csv_capture mode header num den pins bytes told =
+    lines_give mode header num den pins (lines_of bytes told)

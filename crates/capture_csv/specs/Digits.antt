@@ -1,5 +1,6 @@
 -- Lines of which each field is one digit.
-use Rattle.std.specs.Prelude.{ℕ, ◌≡◌, ◌<◌, ◌≤◌, ◌+◌, ◌-◌, ◌*◌, Bool, true, false, if◌then◌else◌, List, [], ◌∷◌, length, map, slice_index}
+use Rattle.std.specs.Prelude.{ℕ, ◌≡◌, ◌<◌, ◌≤◌, ◌+◌, ◌-◌, ◌*◌, Bool, true, false, if◌then◌else◌}
+use Rattle.std.specs.Prelude.{List, [], ◌∷◌, length, map, slice_index}
 use Rattle.capture_csv.specs.Plain.{Written, line_of}
 
 -- a level as a digit
@@ -14,9 +15,12 @@ digit_field quoted level = record { quoted = quoted; text = digit_of level ∷ [
 abbrev pub digits_of : Bool → List Bool → List ℕ
 digits_of quoted levels = line_of (map (digit_field quoted) levels)
 
--- a digit, 0 or 1, stands in this place of a line of digits, and a comma before it where it isn't the first
+-- a digit, 0 or 1, stands in this place of a line of digits, and a comma before it where it isn't
+-- the first
 abbrev pub DigitAt : List ℕ → ℕ → Type 0
-DigitAt text k = (level : Bool) × (slice_index text (2 * k) ≡ digit_of level) × (1 ≤ k → slice_index text (2 * k - 1) ≡ 44)
+DigitAt text k =
+    (level : Bool) × (slice_index text (2 * k) ≡ digit_of level)
+    × (1 ≤ k → slice_index text (2 * k - 1) ≡ 44)
 
 -- a line is so many digits with a comma between two
 pub record DigitsIn (text : List ℕ) (count : ℕ) : Type 0 where
@@ -26,7 +30,9 @@ pub record DigitsIn (text : List ℕ) (count : ℕ) : Type 0 where
 
 -- a digit between quotes stands here
 abbrev pub QuotedDigit : List ℕ → ℕ → Type 0
-QuotedDigit text at = (level : Bool) × (slice_index text at ≡ 34) × (slice_index text (at + 1) ≡ digit_of level) × (slice_index text (at + 2) ≡ 34)
+QuotedDigit text at =
+    (level : Bool) × (slice_index text at ≡ 34) × (slice_index text (at + 1) ≡ digit_of level)
+    × (slice_index text (at + 2) ≡ 34)
 
 abbrev pub QuotedAt : List ℕ → ℕ → Type 0
 QuotedAt text k = QuotedDigit text (4 * k) × (1 ≤ k → slice_index text (4 * k - 1) ≡ 44)

@@ -9,6 +9,7 @@ abbrev pub record_fields : Option Read → List (List ℕ)
 record_fields None = []
 record_fields (Some read) = read.0
 
--- the record of a line as `csv` reads it in its usual settings (RFC 4180, section 2), from its start to its end, where a quote that is open ends too
+-- the record of a line as `csv` reads it in its usual settings (RFC 4180, section 2), from its
+-- start to its end, where a quote that is open ends too
 unfoldable pub fields_in : List ℕ → List (List ℕ)
 fields_in line = record_fields (next_record default_config st.StartRecord [] [] line)

@@ -1,5 +1,6 @@
 -- Lines that are read without `csv`: each of their fields is plain or one quoted text.
-use Rattle.std.specs.Prelude.{ℕ, ◌≡◌, ◌<◌, ◌==◌, Bool, true, false, if◌then◌else◌, List, [], ◌∷◌, ◌++◌, length, map}
+use Rattle.std.specs.Prelude.{ℕ, ◌≡◌, ◌<◌, ◌==◌, Bool, true, false, if◌then◌else◌, List, [], ◌∷◌}
+use Rattle.std.specs.Prelude.{◌++◌, length, map}
 use Rattle.std.specs.List.{All, join_with_byte, slice_split}
 use Rattle.capture_csv.specs.Fields.{fields_in}
 
@@ -10,11 +11,14 @@ IsPlainByte byte = ((byte == 34) ≡ false) × ((byte == 10) ≡ false) × ((byt
 -- no byte is a quote or of a line's end
 abbrev pub IsPlain : List ℕ → Type 0
 IsPlain [] = Unit {0}
-IsPlain (byte ∷ bytes) = ((byte == 34) ≡ false) × ((byte == 10) ≡ false) × ((byte == 13) ≡ false) × IsPlain bytes
+IsPlain (byte ∷ bytes) =
+    ((byte == 34) ≡ false) × ((byte == 10) ≡ false) × ((byte == 13) ≡ false) × IsPlain bytes
 
 -- the fields of a line without quotes are the parts between commas
 abbrev pub PlainIsSplit : Type 0
-PlainIsSplit = (line : List ℕ) → 0 < length line → IsPlain line → fields_in line ≡ slice_split (λ byte. byte == 44) line
+PlainIsSplit =
+    (line : List ℕ) → 0 < length line → IsPlain line
+    → fields_in line ≡ slice_split (λ byte. byte == 44) line
 
 -- a field as a line writes it: its text, or this between two quotes
 pub record Written : Type 0 where
@@ -45,7 +49,9 @@ texts_of fields = map (λ field. field.text) fields
 
 -- the fields of a line of such fields are their texts
 abbrev pub SimpleIsRead : Type 0
-SimpleIsRead = (fields : List Written) → AllSimple fields → 0 < length (line_of fields) → fields_in (line_of fields) ≡ texts_of fields
+SimpleIsRead =
+    (fields : List Written) → AllSimple fields → 0 < length (line_of fields)
+    → fields_in (line_of fields) ≡ texts_of fields
 
 -- any other line needs `csv`
 abbrev pub NeedsCsv : List ℕ → Type 0

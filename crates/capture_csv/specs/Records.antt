@@ -1,5 +1,6 @@
 -- The records of a CSV file: the fields of its lines, without the spaces round them.
-use Rattle.std.specs.Prelude.{ℕ, ◌==◌, ◌||◌, nat_eq, Bool, true, if◌then◌else◌, List, [], ◌∷◌, ◌++◌, map, reverse}
+use Rattle.std.specs.Prelude.{ℕ, ◌==◌, ◌||◌, nat_eq, Bool, true, if◌then◌else◌, List, [], ◌∷◌, ◌++◌}
+use Rattle.std.specs.Prelude.{map, reverse}
 use Rattle.std.specs.List.{starts_with}
 use Rattle.text_parts.specs.Places.{Placed}
 use Rattle.byte_feed.specs.Lines.{mark}
@@ -18,7 +19,8 @@ abbrev pub without_marks : List ℕ → List ℕ
 without_marks [] = []
 without_marks (x ∷ []) = x ∷ []
 without_marks (x ∷ y ∷ []) = x ∷ y ∷ []
-without_marks (x ∷ y ∷ z ∷ rest) = if starts_with nat_eq (x ∷ y ∷ z ∷ []) mark then without_marks rest else x ∷ y ∷ z ∷ rest
+without_marks (x ∷ y ∷ z ∷ rest) =
+    if starts_with nat_eq (x ∷ y ∷ z ∷ []) mark then without_marks rest else x ∷ y ∷ z ∷ rest
 
 -- a line of spaces and tabs, and one that begins with `;` or `#` behind them, is no record
 abbrev pub is_passed : List ℕ → Bool

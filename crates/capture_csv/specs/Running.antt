@@ -1,5 +1,6 @@
 -- What the reader of a body stands for, and what its answers mean.
-use Rattle.std.specs.Prelude.{ℕ, ◌≡◌, ◌+◌, ◌-◌, ◌*◌, Bool, true, false, List, [], ◌∷◌, ◌++◌, length, map, replicate, Option, Some, None, Result, Ok, Err}
+use Rattle.std.specs.Prelude.{ℕ, ◌≡◌, ◌+◌, ◌-◌, ◌*◌, Bool, true, false, List, [], ◌∷◌, ◌++◌, length}
+use Rattle.std.specs.Prelude.{map, replicate, Option, Some, None, Result, Ok, Err}
 use Rattle.la_base.specs.declared.names.NoMemory.{NoMemory}
 use Rattle.la_base.specs.declared.samples.Rate.{Rate}
 use Rattle.la_base.specs.declared.samples.Run.{Run}
@@ -43,7 +44,8 @@ first_time_in (field ∷ fields) = time_in (trimmed field)
 abbrev pub FoundIs : CsvMode → List (List ℕ) → List Bool → Found → Type 0
 FoundIs Rows fields levels found = LevelsRead 1 fields levels found.bad
 FoundIs Times [] levels found = (found.time ≡ None) × LevelsRead 2 [] levels found.bad
-FoundIs Times (field ∷ fields) levels found = (found.time ≡ time_in field) × LevelsRead 2 fields levels found.bad
+FoundIs Times (field ∷ fields) levels found =
+    (found.time ≡ time_in field) × LevelsRead 2 fields levels found.bad
 
 abbrev pub mode_in : Body → CsvMode
 mode_in body = body.mode
@@ -67,14 +69,17 @@ at_in body = at_of body.span
 -- the levels of the last record and their word, where there is one
 abbrev pub Keeps : List ℕ → List Bool → ℕ → List Taken → Type 0
 Keeps pins levels word [] = Unit {0}
-Keeps pins levels word (taken ∷ rest) = (levels ≡ levels_now taken.levels rest) × (word ≡ word_of pins (levels_now taken.levels rest))
+Keeps pins levels word (taken ∷ rest) =
+    (levels ≡ levels_now taken.levels rest) × (word ≡ word_of pins (levels_now taken.levels rest))
 
 -- the first time and the last one
 abbrev pub SpanIs : Option Span → List Taken → Type 0
 SpanIs None [] = Unit {0}
 SpanIs None (taken ∷ rest) = ⊥
 SpanIs (Some span) [] = ⊥
-SpanIs (Some span) (taken ∷ rest) = (span.start ≡ taken.time) × (span.last ≡ last_time taken.time rest) × TimesTo span.last (taken ∷ rest)
+SpanIs (Some span) (taken ∷ rest) =
+    (span.start ≡ taken.time) × (span.last ≡ last_time taken.time rest)
+    × TimesTo span.last (taken ∷ rest)
 
 abbrev pub Spans : CsvMode → Option Span → List Taken → Type 0
 Spans Rows span taken = Unit {0}
@@ -86,14 +91,20 @@ words_of pins taken = map (λ taken. word_of pins taken.levels) taken
 -- the samples given: those of all records, or of all but the last
 abbrev pub GaveRows : List ℕ → Bool → List Taken → List ℕ → Type 0
 GaveRows pins false taken given = given ≡ words_of pins taken
-GaveRows pins true taken given = (before : List Taken) × (last : Taken) × (taken ≡ before ++ last ∷ []) × (given ≡ words_of pins before)
+GaveRows pins true taken given =
+    (before : List Taken) × (last : Taken) × (taken ≡ before ++ last ∷ [])
+    × (given ≡ words_of pins before)
 
 abbrev pub Gave : CsvMode → Rate → List ℕ → Bool → List Taken → List ℕ → Type 0
 Gave Rows rate pins held taken given = GaveRows pins held taken given
-Gave Times rate pins held taken given = (held ≡ false) × (given ≡ timed_words rate.num rate.den pins taken Open)
+Gave Times rate pins held taken given =
+    (held ≡ false) × (given ≡ timed_words rate.num rate.den pins taken Open)
 
--- these records have no fault, the levels and times are theirs, and the samples are those before the last record's
-pub record BodyAt (mode : CsvMode) (rate : Rate) (want : ℕ) (pins : List ℕ) (levels : List Bool) (word : ℕ) (span : Option Span) (held : Bool) (records : List Record) (given : List ℕ) : Type 0 where
+-- these records have no fault, the levels and times are theirs, and the samples are those before
+-- the last record's
+pub record BodyAt (mode : CsvMode) (rate : Rate) (want : ℕ) (pins : List ℕ) (levels : List Bool)
+    (word : ℕ) (span : Option Span) (held : Bool) (records : List Record)
+    (given : List ℕ) : Type 0 where
   pub taken : List Taken
   pub read : read_front (record_says mode rate.num rate.den want) [] records ≡ (taken, None)
   pub keeps : Keeps pins levels word taken
@@ -101,13 +112,18 @@ pub record BodyAt (mode : CsvMode) (rate : Rate) (want : ℕ) (pins : List ℕ) 
   pub gave : Gave mode rate pins held taken given
 
 abbrev pub BodyStands : Body → List Record → List ℕ → Type 0
-BodyStands body records given = BodyAt body.mode body.rate body.want (pins_in body) body.levels.items body.word body.span body.held records given
+BodyStands body records given =
+    BodyAt body.mode body.rate body.want
+    (pins_in body) body.levels.items body.word body.span body.held records given
 
 -- the records up to a fault, and the samples before it
-pub record BodyFaulty (body : Body) (records : List Record) (given : List ℕ) (fault : CaptureFault) : Type 0 where
+pub record BodyFaulty (body : Body) (records : List Record) (given : List ℕ)
+    (fault : CaptureFault) : Type 0 where
   pub taken : List Taken
-  pub read : read_front (record_says body.mode body.rate.num body.rate.den body.want) [] records ≡ (taken, Some fault)
-  pub gave : given ≡ settled_by body.mode body.rate.num body.rate.den (pins_in body) taken (Faulty fault)
+  pub read : read_front (record_says body.mode body.rate.num body.rate.den body.want) [] records
+      ≡ (taken, Some fault)
+  pub gave : given
+      ≡ settled_by body.mode body.rate.num body.rate.den (pins_in body) taken (Faulty fault)
 
 -- what the reading of a record answers, behind records and samples given
 abbrev pub FieldsAnswer : Body → List Record → List ℕ → Result (Option Run) CaptureFault → Type 0
@@ -121,10 +137,14 @@ pub record SameBody (old new : Body) : Type 0 where
   pub want : new.want ≡ old.want
   pub pins : pins_in new ≡ pins_in old
 
--- what was found of the fields is taken behind the records before, whatever the levels were then: `old` has those that were found
+-- what was found of the fields is taken behind the records before, whatever the levels were then:
+-- `old` has those that were found
 abbrev pub TakenSays : Body → Body → ℕ → Found → Result (Option Run) CaptureFault → Type 0
-TakenSays old new line found result = (levels : List Bool) (fields : List (List ℕ)) (records : List Record) (given : List ℕ) → length fields ≡ want_in old → FoundIs (mode_in old) fields old.levels.items found
-    → BodyAt old.mode old.rate old.want (pins_in old) levels old.word old.span old.held records given → held_in old ≡ false → FieldsAnswer new (records ++ (line, fields) ∷ []) given result
+TakenSays old new line found result =
+    (levels : List Bool) (fields : List (List ℕ)) (records : List Record) (given : List ℕ)
+    → length fields ≡ want_in old → FoundIs (mode_in old) fields old.levels.items found
+    → BodyAt old.mode old.rate old.want (pins_in old) levels old.word old.span old.held records
+    given → held_in old ≡ false → FieldsAnswer new (records ++ (line, fields) ∷ []) given result
 
 -- how many samples are given by a record with a time; none by one that is a sample: it is held
 abbrev pub TakenCounts : Body → Body → Result (Option Run) CaptureFault → Type 0
@@ -136,10 +156,13 @@ abbrev pub row_of : ℕ → List ℕ → Record
 row_of line text = (line, map trimmed (fields_in text))
 
 abbrev pub LineSays : Body → Body → ℕ → List ℕ → Result (Option Run) CaptureFault → Type 0
-LineSays old new line text result = (records : List Record) (given : List ℕ) → BodyStands old records given → held_in old ≡ false → FieldsAnswer new (records ++ row_of line text ∷ []) given result
+LineSays old new line text result =
+    (records : List Record) (given : List ℕ) → BodyStands old records given → held_in old ≡ false
+    → FieldsAnswer new (records ++ row_of line text ∷ []) given result
 
 -- what the reading of a line answers: it takes memory only where the line needs `csv`
-abbrev pub RecordSays : Body → Body → ℕ → List ℕ → Result (Result (Option Run) CaptureFault) NoMemory → Type 0
+abbrev pub RecordSays : Body → Body → ℕ → List ℕ
+    → Result (Result (Option Run) CaptureFault) NoMemory → Type 0
 RecordSays old new line text (Ok said) = LineSays old new line text said
 RecordSays old new line text (Err none) = (new ≡ old) × NeedsCsv text
 
@@ -149,12 +172,19 @@ RowLen body true len = len ≡ 4 * length body.levels.items - 1
 RowLen body false len = len ≡ 2 * length body.levels.items - 1
 
 abbrev pub Flushes : Body → Body → Option Run → Type 0
-Flushes old new result = (records : List Record) (given : List ℕ) → BodyStands old records given → BodyStands new records (given ++ run_samples result)
+Flushes old new result =
+    (records : List Record) (given : List ℕ) → BodyStands old records given
+    → BodyStands new records (given ++ run_samples result)
 
 -- at a clean end, where no record is held, these are the last samples
 abbrev pub EndSays : Body → Option Run → Type 0
-EndSays body result = (records : List Record) (given : List ℕ) → BodyStands body records given → held_in body ≡ false
-    → (taken : List Taken) × (read_front (record_says body.mode body.rate.num body.rate.den body.want) [] records ≡ (taken, None)) × (settled_by body.mode body.rate.num body.rate.den (pins_in body) taken Clean ≡ given ++ run_samples result)
+EndSays body result =
+    (records : List Record) (given : List ℕ) → BodyStands body records given → held_in body ≡ false
+    → (taken : List Taken)
+    × (read_front (record_says body.mode body.rate.num body.rate.den body.want) [] records
+    ≡ (taken, None))
+    × (settled_by body.mode body.rate.num body.rate.den (pins_in body) taken Clean
+    ≡ given ++ run_samples result)
 
 pub record NewBody (mode : CsvMode) (rate : Rate) (want : ℕ) (body : Body) : Type 0 where
   pub stands : BodyStands body [] []

@@ -1,6 +1,8 @@
 -- What the reader finds in lines whose fields are each plain or one quoted text.
-use Rattle.std.specs.Prelude.{ℕ, ◌≡◌, ◌<◌, ◌≤◌, ◌==◌, Bool, true, false, List, [], ◌∷◌, ◌++◌, drop, length, slice_index, Option, Some, None}
-use Rattle.capture_csv.specs.Plain.{AllSimple, IsSimple, NeedsCsv, Written, line_of, texts_of, written}
+use Rattle.std.specs.Prelude.{ℕ, ◌≡◌, ◌<◌, ◌≤◌, ◌==◌, Bool, true, false, List, [], ◌∷◌, ◌++◌, drop}
+use Rattle.std.specs.Prelude.{length, slice_index, Option, Some, None}
+use Rattle.capture_csv.specs.Plain.{AllSimple, IsSimple, NeedsCsv, Written, line_of, texts_of}
+use Rattle.capture_csv.specs.Plain.{written}
 
 -- so many bytes at the front aren't this one
 abbrev pub AllBefore : ℕ → List ℕ → ℕ → Type 0
@@ -36,7 +38,8 @@ EndsAt text at false = IsBehind (drop at text) → ⊥
 
 -- how many bytes this field takes
 abbrev pub FirstLen : List ℕ → ℕ → Type 0
-FirstLen text len = (field : Written) (after : List ℕ) → BeginsWith text field after → len ≡ length (written field)
+FirstLen text len =
+    (field : Written) (after : List ℕ) → BeginsWith text field after → len ≡ length (written field)
 
 -- the same, or a line doesn't begin so
 abbrev pub LenIs : List ℕ → Option ℕ → Type 0

@@ -1,5 +1,8 @@
--- The times of a CSV file, in picoseconds. They are counted from 10^10 seconds before 0, so that none is negative.
-use Rattle.std.specs.Prelude.{ℕ, ℤ, pos, ◌-ℤ◌, ◌+◌, ◌-◌, ◌*◌, ◌/◌, ◌^◌, ◌==◌, ◌&&◌, nat_le, if◌then◌else◌, List, [], ◌∷◌, ◌++◌, take, drop, replicate, Option, Some, None}
+-- The times of a CSV file, in picoseconds. They are counted from 10^10 seconds before 0, so that
+-- none is negative.
+use Rattle.std.specs.Prelude.{ℕ, ℤ, pos, ◌-ℤ◌, ◌+◌, ◌-◌, ◌*◌, ◌/◌, ◌^◌, ◌==◌, ◌&&◌, nat_le}
+use Rattle.std.specs.Prelude.{if◌then◌else◌, List, [], ◌∷◌, ◌++◌, take, drop, replicate, Option}
+use Rattle.std.specs.Prelude.{Some, None}
 use Rattle.std.specs.List.{prefix_len}
 use Rattle.std.specs.Char.{is_ascii_digit}
 use Rattle.text_parts.specs.Numbers.{is_number, number_after}
@@ -23,7 +26,8 @@ picos_of decimals = number_after 0 (take 12 (twelve decimals))
 -- what stands behind the whole seconds: nothing, or a point and decimals
 abbrev pub part_of : List ℕ → Option ℕ
 part_of [] = Some 0
-part_of (byte ∷ decimals) = if (byte == 46) && is_number decimals then Some (picos_of decimals) else None
+part_of (byte ∷ decimals) =
+    if (byte == 46) && is_number decimals then Some (picos_of decimals) else None
 
 abbrev pub with_seconds : ℕ → Option ℕ → Option ℕ
 with_seconds seconds None = None
@@ -33,7 +37,8 @@ with_seconds seconds (Some picos) = Some (seconds * 10 ^ 12 + picos)
 abbrev pub amount_of : List ℕ → Option ℕ
 amount_of text =
     let digits = prefix_len is_ascii_digit text in
-    if nat_le 1 digits && nat_le digits 10 then with_seconds (number_after 0 (take digits text)) (part_of (drop digits text)) else None
+    if nat_le 1 digits && nat_le digits 10 then with_seconds (number_after 0 (take digits text))
+    (part_of (drop digits text)) else None
 
 abbrev pub before_zero : Option ℕ → Option ℕ
 before_zero None = None

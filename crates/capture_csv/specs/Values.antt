@@ -1,5 +1,6 @@
 -- What the reader finds in a line, and what its fields say.
-use Rattle.std.specs.Prelude.{ℕ, ◌≡◌, ◌==◌, Bool, false, if◌then◌else◌, List, get_or, Option, Some, None, Ok, Err}
+use Rattle.std.specs.Prelude.{ℕ, ◌≡◌, ◌==◌, Bool, false, if◌then◌else◌, List, get_or, Option, Some}
+use Rattle.std.specs.Prelude.{None, Ok, Err}
 use Rattle.la_io.specs.declared.fault.CaptureFault.TheVariants.{Field}
 use Rattle.capture_csv.specs.Csv.{level_of, levels_of}
 
@@ -14,7 +15,8 @@ LevelIs field None = (line column : ℕ) → level_of line column field ≡ Err 
 -- the levels of fields, the first of which stands in this column; or the column of the first fault
 abbrev pub LevelsRead : ℕ → List (List ℕ) → List Bool → Option ℕ → Type 0
 LevelsRead column fields levels None = (line : ℕ) → levels_of line column fields ≡ Ok levels
-LevelsRead column fields levels (Some bad) = (line : ℕ) → levels_of line column fields ≡ Err (Field line bad)
+LevelsRead column fields levels (Some bad) =
+    (line : ℕ) → levels_of line column fields ≡ Err (Field line bad)
 
 -- the level of a channel, as a number
 abbrev pub level_bit : List Bool → ℕ → ℕ

@@ -43,13 +43,17 @@ pub struct Body {
 
 impl Body {
     ghost use Rattle.std.specs.Bool.{MatchBool};
-    ghost use Rattle.std.specs.Prelude.{ℕ, Bool, List, [], Ok, false, None, Some, IfOk, IfErr, IfSome, true, map};
+    ghost use Rattle.std.specs.Prelude.{ℕ, Bool, List, [], Ok, false, None, Some, IfOk, IfErr};
+    ghost use Rattle.std.specs.Prelude.{IfSome, true, map};
     ghost use Rattle.csv.specs.Reading.{strip_bom};
     ghost use Rattle.csv.specs.Records.{fields_of};
     ghost use Rattle.capture_csv.specs.Records.{Record, trimmed};
     ghost use Rattle.capture_csv.specs.Digits.{AreDigits, digits_of};
     ghost use Rattle.capture_csv.specs.Simple.{HasFields, IsSimpleLine};
-    ghost use Rattle.capture_csv.specs.Running.{BodyStands, EndSays, Flushes, FoundIs, LineSays, NewBody, RecordSays, RowLen, SameBody, SameButLevels, TakenCounts, TakenSays, at_in, held_in, mode_in, pins_in, rate_in, want_in};
+    ghost use Rattle.capture_csv.specs.Running.{BodyStands, EndSays, Flushes, FoundIs, LineSays};
+    ghost use Rattle.capture_csv.specs.Running.{NewBody, RecordSays, RowLen, SameBody};
+    ghost use Rattle.capture_csv.specs.Running.{SameButLevels, TakenCounts, TakenSays, at_in};
+    ghost use Rattle.capture_csv.specs.Running.{held_in, mode_in, pins_in, rate_in, want_in};
     ghost use Rattle.la_base.specs.declared.modes.CsvMode.TheVariants.{Rows, Times};
     ghost use Rattle.capture_csv.specs.declared.span.Found.{Found};
 
@@ -79,7 +83,9 @@ impl Body {
     fn find_simple(&mut self, text: &[u8]) -> Found
         requires some { 0 < length text.now }
         requires fields { HasFields text.now (want_in self.old) }
-        ensures found { (fields : List (List ℕ)) → IsSimpleLine text.now fields → length fields ≡ want_in self.old → FoundIs (mode_in self.old) (map trimmed fields) self.new.levels.items result }
+        ensures found { (fields : List (List ℕ)) → IsSimpleLine text.now fields
+            → length fields ≡ want_in self.old
+            → FoundIs (mode_in self.old) (map trimmed fields) self.new.levels.items result }
         ensures early { IfSome result.time (λ time. time < 2 * 10 ^ 22) }
         ensures form { SameButLevels self.old self.new }
     {
@@ -105,7 +111,8 @@ impl Body {
     // What the fields of a record say that `csv` read.
     fn find_csv(&mut self, row: &ByteRecord) -> Found
         requires { length (fields_of row.now) ≡ want_in self.old }
-        ensures found { FoundIs (mode_in self.old) (map trimmed (fields_of row.now)) self.new.levels.items result }
+        ensures found { FoundIs (mode_in self.old)
+            (map trimmed (fields_of row.now)) self.new.levels.items result }
         ensures early { IfSome result.time (λ time. time < 2 * 10 ^ 22) }
         ensures form { SameButLevels self.old self.new }
     {
@@ -164,7 +171,8 @@ impl Body {
     #[inline(always)]
     fn put_row(&mut self)
         requires { mode_in self.old ≡ Rows }
-        ensures says { (line : ℕ) (found : Found) → found.bad ≡ None → TakenSays self.old self.new line found (Ok None) }
+        ensures says { (line : ℕ) (found : Found) → found.bad ≡ None
+            → TakenSays self.old self.new line found (Ok None) }
         ensures held { held_in self.new ≡ true }
         ensures at { at_in self.new ≡ at_in self.old }
         ensures form { SameBody self.old self.new }
@@ -242,7 +250,8 @@ impl Body {
         ensures same { IfErr result (λ _. self.new ≡ self.old) }
         ensures form { SameBody self.old self.new }
         ensures counts { IfOk result (λ said. TakenCounts self.old self.new said) }
-        ensures rows { IfOk result (λ said. IfOk said (λ run. IfSome run (λ _. mode_in self.old ≡ Times))) }
+        ensures rows { IfOk result
+            (λ said. IfOk said (λ run. IfSome run (λ _. mode_in self.old ≡ Times))) }
     {
         let row = match fields_of_line(self.alloc, text) {
             Ok(row) => row,
@@ -255,9 +264,9 @@ impl Body {
         Ok(self.take(line, found))
     }
 
-    /// Reads the record of a line: `text` is what stands in it behind byte order marks. A record with a
-    /// time gives the samples before it; one that is a sample is held. A fault gives none. A line takes
-    /// memory only where one of its fields is neither plain nor one quoted text.
+    /// Reads the record of a line: `text` is what stands in it behind byte order marks. A record
+    /// with a time gives the samples before it; one that is a sample is held. A fault gives none. A
+    /// line takes memory only where one of its fields is neither plain nor one quoted text.
     #[inline(always)]
     pub fn record(
         &mut self,
@@ -270,7 +279,8 @@ impl Body {
         ensures says { RecordSays self.old self.new line text.now result }
         ensures form { SameBody self.old self.new }
         ensures counts { IfOk result (λ said. TakenCounts self.old self.new said) }
-        ensures rows { IfOk result (λ said. IfOk said (λ run. IfSome run (λ _. mode_in self.old ≡ Times))) }
+        ensures rows { IfOk result
+            (λ said. IfOk said (λ run. IfSome run (λ _. mode_in self.old ≡ Times))) }
     {
         match field_count(text) {
             Some(have) => Ok(self.simple_record(line, text, have)),
@@ -278,8 +288,8 @@ impl Body {
         }
     }
 
-    /// How many bytes a line has that is a digit for each channel, with a comma between two, and with each
-    /// digit between quotes or none.
+    /// How many bytes a line has that is a digit for each channel, with a comma between two, and
+    /// with each digit between quotes or none.
     #[inline(always)]
     pub fn row_len(&self, quoted: bool) -> usize
         ensures { RowLen self.now quoted result }
@@ -291,9 +301,11 @@ impl Body {
     // Reads such a line: the levels are those of its digits. `false` comes for any other line.
     #[inline(always)]
     fn put_line(&mut self, text: &[u8], quoted: bool) -> bool
-        ensures put { result ≡ true → (0 < length self.new.levels.items) × (text.now ≡ digits_of quoted self.new.levels.items) }
+        ensures put { result ≡ true → (0 < length self.new.levels.items)
+            × (text.now ≡ digits_of quoted self.new.levels.items) }
         ensures kept { result ≡ false → self.new ≡ self.old }
-        ensures other { result ≡ false → AreDigits quoted text.now (length self.old.levels.items) → ⊥ }
+        ensures other { result ≡ false → AreDigits quoted text.now (length self.old.levels.items)
+            → ⊥ }
         ensures form { SameButLevels self.old self.new }
     {
         if quoted {
@@ -310,13 +322,15 @@ impl Body {
         true
     }
 
-    /// Reads the record of such a line where a record is a sample: it is held. `false` comes for any other
-    /// line, and nothing changes then.
+    /// Reads the record of such a line where a record is a sample: it is held. `false` comes for
+    /// any other line, and nothing changes then.
     #[inline(always)]
     pub fn row(&mut self, text: &[u8], quoted: bool) -> bool
         requires { mode_in self.old ≡ Rows }
-        ensures says { result ≡ true → (line : ℕ) → LineSays self.old self.new line text.now (Ok None) }
-        ensures digits { result ≡ true → (levels : List Bool) × (0 < length levels) × (text.now ≡ digits_of quoted levels) }
+        ensures says { result ≡ true → (line : ℕ)
+            → LineSays self.old self.new line text.now (Ok None) }
+        ensures digits { result ≡ true
+            → (levels : List Bool) × (0 < length levels) × (text.now ≡ digits_of quoted levels) }
         ensures held { result ≡ true → held_in self.new ≡ true }
         ensures kept { result ≡ false → self.new ≡ self.old }
         ensures other { result ≡ false → AreDigits quoted text.now (want_in self.old) → ⊥ }
@@ -394,7 +408,8 @@ impl Body {
 
     /// Bit j of each sample is channel `pins[j]` from now on. No sample was given yet.
     pub fn select(&mut self, pins: Pins)
-        ensures stands { (records : List Record) → BodyStands self.old records [] → BodyStands self.new records [] }
+        ensures stands { (records : List Record) → BodyStands self.old records []
+            → BodyStands self.new records [] }
         ensures pins { pins_in self.new ≡ pins.items }
         ensures mode { mode_in self.new ≡ mode_in self.old }
         ensures rate { rate_in self.new ≡ rate_in self.old }

@@ -8,8 +8,8 @@ use csv::{ByteRecord, ReaderBuilder};
 use la_base::NoMemory;
 use std::alloc::Global;
 
-/// The fields of a line that has no byte order mark before it. Each error is want of memory: the line is
-/// in memory, and it is the first that the reader of `csv` sees.
+/// The fields of a line that has no byte order mark before it. Each error is want of memory: the
+/// line is in memory, and it is the first that the reader of `csv` sees.
 pub fn fields_of_line(alloc: Global, line: &[u8]) -> Result<ByteRecord, NoMemory>
     requires { strip_bom line.now ≡ line.now }
     ensures { IfOk result (λ row. fields_of row ≡ fields_in line.now) }

@@ -1,10 +1,10 @@
 //! CSV captures: what their bytes give, and their reader.
 //!
-//! `specs/Records.antt` says which lines are records and which fields they have, `specs/Times.antt` what
-//! time a field tells, and `specs/Csv.antt` what a file gives: a head, the settled samples and an ending.
-//! `specs/Fields.antt` takes the fields of a line from the definition of `csv`; by `specs/Plain.antt` they
-//! are read without it where each is plain or one quoted text, and `specs/Reader.antt` says what the
-//! answers of the reader mean.
+//! `specs/Records.antt` says which lines are records and which fields they have, `specs/Times.antt`
+//! what time a field tells, and `specs/Csv.antt` what a file gives: a head, the settled samples and
+//! an ending. `specs/Fields.antt` takes the fields of a line from the definition of `csv`; by
+//! `specs/Plain.antt` they are read without it where each is plain or one quoted text, and
+//! `specs/Reader.antt` says what the answers of the reader mean.
 #![tactic(auto)]
 
 mod body;

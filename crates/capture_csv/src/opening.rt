@@ -1,5 +1,6 @@
 // How a capture is opened: its first record.
-ghost use Rattle.std.specs.Prelude.{◌≡◌, ◌+◌, ◌-◌, ◌<◌, ◌≤◌, ◌^◌, ◌++◌, ◌∷◌, [], length, map, drop, get_or, codes, false, IfOk, IfSome, OnOk};
+ghost use Rattle.std.specs.Prelude.{◌≡◌, ◌+◌, ◌-◌, ◌<◌, ◌≤◌, ◌^◌, ◌++◌, ◌∷◌, [], length, map, drop};
+ghost use Rattle.std.specs.Prelude.{get_or, codes, false, IfOk, IfSome, OnOk};
 ghost use Rattle.std.specs.Fmt.{decimal};
 ghost use Rattle.csv.specs.Reading.{strip_bom};
 ghost use Rattle.csv.specs.Records.{fields_of};
@@ -22,13 +23,15 @@ use la_io::{CaptureError, Source};
 use line_text::LineBuf;
 use std::alloc::Global;
 
-/// Reads to the line of the first record and answers its number, or `None` where there is no record.
+/// Reads to the line of the first record and answers its number, or `None` where there is no
+/// record.
 pub fn first_line<S: Source>(lines: &mut Lines, source: &mut S) -> Result<Option<u64>, CaptureError>
     requires { is_spent lines.old ≡ false }
     ensures reads { FirstReads lines.old lines.new (S.left source.old) (S.left source.new) result }
     ensures fresh { IfOk result (λ _. is_spent lines.new ≡ false) }
     ensures counted { IfOk result (λ line. IfSome line (λ _. 1 ≤ number_of lines.new)) }
-    ensures some { IfOk result (λ line. IfSome line (λ _. is_passed (without_marks (text_of lines.new)) ≡ false)) }
+    ensures some { IfOk result
+        (λ line. IfSome line (λ _. is_passed (without_marks (text_of lines.new)) ≡ false)) }
     ensures cause { CaptureCause (S.faults source.old) (S.faults source.new) result }
 {
     'head: loop {
@@ -70,7 +73,8 @@ fn plain_names(alloc: Global, channels: usize) -> Result<Names, NoMemory>
 fn push_name(names: &mut Names, row: &ByteRecord, place: usize) -> Result<(), NoMemory>
     requires room { length names.old < 4096 }
     requires within { place < length (fields_of row.now) }
-    ensures { OnOk result (names.new ≡ names.old ++ trimmed (get_or (fields_of row.now) place []) ∷ []) }
+    ensures { OnOk result
+        (names.new ≡ names.old ++ trimmed (get_or (fields_of row.now) place []) ∷ []) }
 {
     match row.get(place) {
         Some(field) => names.push(trimmed(field)),
@@ -99,7 +103,8 @@ pub fn names_of(
     header: bool,
 ) -> Result<Names, NoMemory>
     requires { length (fields_of row.now) - skips mode ≤ 4096 }
-    ensures { IfOk result (λ names. names ≡ names_by mode header (map trimmed (fields_of row.now))) }
+    ensures { IfOk result
+        (λ names. names ≡ names_by mode header (map trimmed (fields_of row.now))) }
 {
     let first = skipped(mode);
     if header {

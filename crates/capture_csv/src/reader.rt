@@ -30,21 +30,26 @@ pub struct CsvReader {
 }
 
 impl CsvReader {
-    ghost use Rattle.std.specs.Prelude.{◌≢◌, ◌<◌, ◌+◌, ◌^◌, ℕ, List, [], length, slice_index, Err, IfOk, IfSome, None};
+    ghost use Rattle.std.specs.Prelude.{◌≢◌, ◌<◌, ◌+◌, ◌^◌, ℕ, List, [], length, slice_index, Err};
+    ghost use Rattle.std.specs.Prelude.{IfOk, IfSome, None};
     ghost use Rattle.la_io.specs.Capture.{Told};
     ghost use Rattle.byte_feed.specs.LineReader.{left_of, text_of};
     ghost use Rattle.capture_csv.specs.Opening.{IsNew, Makes, MakesEmpty, Opens};
     ghost use Rattle.capture_csv.specs.Records.{is_passed, without_marks};
     ghost use Rattle.capture_csv.specs.Running.{held_in, run_len};
     ghost use Rattle.la_io.specs.Reading.{run_samples, CaptureCause, stays_open};
-    ghost use Rattle.capture_csv.specs.Reader.{CsvStands, FlushedRun, GaveHeld, Gives, GoesHeld, LineAnswers, LineGoes, MoreGiven, Nexts, SameReader, Steps, WantsLater, WentOn, csv_given, csv_header, csv_lines, csv_mode, csv_names, csv_open, csv_pins, csv_rate};
+    ghost use Rattle.capture_csv.specs.Reader.{CsvStands, FlushedRun, GaveHeld, Gives, GoesHeld};
+    ghost use Rattle.capture_csv.specs.Reader.{LineAnswers, LineGoes, MoreGiven, Nexts, SameReader};
+    ghost use Rattle.capture_csv.specs.Reader.{Steps, WantsLater, WentOn, csv_given, csv_header};
+    ghost use Rattle.capture_csv.specs.Reader.{csv_lines, csv_mode, csv_names, csv_open, csv_pins};
+    ghost use Rattle.capture_csv.specs.Reader.{csv_rate};
     ghost use Rattle.la_base.specs.declared.modes.CsvMode.TheVariants.{Rows};
     ghost use Rattle.capture_csv.specs.declared.phase.Phase.TheVariants.{Running};
 
-    /// Reads the first record of a capture: where `header` holds it names the channels, else it is one of
-    /// the body. Samples are at this rate. `Fault` comes exactly where a line up to it is too long, where
-    /// it has too many channels, or where the bytes are too many, and `Read` where the source failed
-    /// before it.
+    /// Reads the first record of a capture: where `header` holds it names the channels, else it is
+    /// one of the body. Samples are at this rate. `Fault` comes exactly where a line up to it is
+    /// too long, where it has too many channels, or where the bytes are too many, and `Read` where
+    /// the source failed before it.
     pub fn open<S: Source>(
         alloc: Global,
         mode: CsvMode,
@@ -139,9 +144,11 @@ impl CsvReader {
 
     /// Bit j of each sample is channel `pins[j]` from now on. No sample was given yet.
     pub fn select(&mut self, pins: Pins)
-        requires within { (k : ℕ) → k < length pins.items → slice_index pins.items k < length (csv_names self.old) }
+        requires within { (k : ℕ) → k < length pins.items
+            → slice_index pins.items k < length (csv_names self.old) }
         requires fresh { (bytes : List ℕ) × (told : Told) × CsvStands self.old bytes told [] }
-        ensures stands { (bytes : List ℕ) (told : Told) → CsvStands self.old bytes told [] → CsvStands self.new bytes told [] }
+        ensures stands { (bytes : List ℕ) (told : Told) → CsvStands self.old bytes told []
+            → CsvStands self.new bytes told [] }
         ensures pins { csv_pins self.new ≡ pins.items }
         ensures mode { csv_mode self.new ≡ csv_mode self.old }
         ensures header { csv_header self.new ≡ csv_header self.old }
@@ -293,7 +300,8 @@ impl CsvReader {
         }
     }
 
-    // Takes one line that is held, where it is a record of digits alone, with quotes round each or none.
+    // Takes one line that is held, where it is a record of digits alone, with quotes round each or
+    // none.
     #[inline(always)]
     fn row_of(&mut self, quoted: bool) -> bool
         requires held { held_in self.old.body ≡ false }
@@ -361,8 +369,8 @@ impl CsvReader {
         self.flush()
     }
 
-    /// The next run of what is held, which are equal samples of lines of digits alone; `None` where no such
-    /// line is next. Nothing is read.
+    /// The next run of what is held, which are equal samples of lines of digits alone; `None` where
+    /// no such line is next. Nothing is read.
     #[inline(always)]
     pub fn held_run(&mut self) -> Option<Run>
         ensures given { GaveHeld self.old self.new (run_samples result) }
@@ -389,11 +397,11 @@ impl CsvReader {
         }
     }
 
-    /// The next run, or `None` at a clean end. After every answer but a run it is closed. `Fault` comes
-    /// exactly where the capture has one, and `Read` where the source failed, both after all samples that
-    /// came before. `NoMemory` comes only at a line that needs `csv`: one of its fields is neither
-    /// plain nor one quoted text. It is the line that was taken last, in this call; what was given are
-    /// the samples of the lines before it.
+    /// The next run, or `None` at a clean end. After every answer but a run it is closed. `Fault`
+    /// comes exactly where the capture has one, and `Read` where the source failed, both after all
+    /// samples that came before. `NoMemory` comes only at a line that needs `csv`: one of its
+    /// fields is neither plain nor one quoted text. It is the line that was taken last, in this
+    /// call; what was given are the samples of the lines before it.
     pub fn next<S: Source>(&mut self, source: &mut S) -> Result<Option<Run>, CaptureError>
         requires { csv_open self.old ≡ true }
         ensures next { Gives self.old self.new (S.left source.old) (S.left source.new) result }

@@ -2,7 +2,8 @@
 ghost use Rattle.std.specs.Prelude.{◌≡◌, ◌≤◌, ◌<◌, List, ℕ, Bool, length, slice_index, true, false};
 ghost use Rattle.std.specs.List.{count_by};
 ghost use Rattle.capture_csv.specs.Plain.{IsPlain, IsPlainByte, IsSimple, Written, written};
-ghost use Rattle.capture_csv.specs.Simple.{AllBefore, BeginsSimply, CountIs, EndsAt, FirstLen, IsField, IsQuoted, LenIs};
+ghost use Rattle.capture_csv.specs.Simple.{AllBefore, BeginsSimply, CountIs, EndsAt, FirstLen};
+ghost use Rattle.capture_csv.specs.Simple.{IsField, IsQuoted, LenIs};
 ghost use Rattle.capture_csv.specs.Values.{is_comma};
 
 // How many commas a line has.
@@ -87,7 +88,8 @@ fn ends_at(text: &[u8], at: usize) -> bool
     at == text.len() || text[at] == b','
 }
 
-// How many bytes the first field of any line takes: `None` where it is neither plain nor one quoted text.
+// How many bytes the first field of any line takes: `None` where it is neither plain nor one quoted
+// text.
 #[inline(always)]
 fn simple_len(text: &[u8]) -> Option<usize>
     ensures { LenIs text.now result }
@@ -121,7 +123,8 @@ pub fn text_in(field: &[u8]) -> &[u8]
     &field[1..field.len() - 1]
 }
 
-// How many fields a line has each of which is plain or one quoted text; `None` where one is neither.
+// How many fields a line has each of which is plain or one quoted text; `None` where one is
+// neither.
 #[inline(never)]
 fn count_each(text: &[u8]) -> Option<usize>
     requires { 0 < length text.now }

@@ -1,6 +1,7 @@
 // What stands round the text of a line and of its fields.
 ghost use Rattle.std.specs.Prelude.{◌≡◌, ◌≤◌, length, take, drop};
-ghost use Rattle.capture_csv.specs.Records.{is_passed, is_space, trim_back, trim_front, trimmed, without_marks};
+ghost use Rattle.capture_csv.specs.Records.{is_passed, is_space, trim_back, trim_front, trimmed};
+ghost use Rattle.capture_csv.specs.Records.{without_marks};
 
 // The byte order mark.
 const MARK: [u8; 3] = [239, 187, 191];

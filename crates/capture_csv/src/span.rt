@@ -12,8 +12,8 @@ pub struct Span {
     ghost few: { at < 2 ^ 60 },
 }
 
-/// What the fields of a record say, besides the levels: the time, where it tells one, and the column of
-/// the first field that is no level.
+/// What the fields of a record say, besides the levels: the time, where it tells one, and the
+/// column of the first field that is no level.
 #[derive(Clone, Copy, Debug, PartialEq, Eq)]
 pub struct Found {
     pub time: Option<u128>,

@@ -1,5 +1,6 @@
 // The values of a record.
-ghost use Rattle.std.specs.Prelude.{◌≡◌, ◌+◌, ◌<◌, ◌≤◌, ◌^◌, List, ℕ, [], length, drop, map, get_or};
+ghost use Rattle.std.specs.Prelude.{◌≡◌, ◌+◌, ◌<◌, ◌≤◌, ◌^◌, List, ℕ, [], length, drop, map};
+ghost use Rattle.std.specs.Prelude.{get_or};
 ghost use Rattle.csv.specs.Records.{fields_of};
 ghost use Rattle.capture_csv.specs.Records.{trimmed};
 ghost use Rattle.capture_csv.specs.Csv.{word_of};
@@ -28,14 +29,16 @@ fn level_in(field: &[u8]) -> Option<bool>
     }
 }
 
-/// The levels of the fields of a line, each plain or one quoted text, the first of which stands in this
-/// column; or the column of the first that is none.
+/// The levels of the fields of a line, each plain or one quoted text, the first of which stands in
+/// this column; or the column of the first that is none.
 #[inline(always)]
 pub fn simple_levels(text: &[u8], column: u32, levels: &mut [bool]) -> Option<u32>
     requires some { HasFields text.now (length levels.old) }
     requires few { column + length levels.old < 2 ^ 32 }
     ensures len { length levels.new ≡ length levels.old }
-    ensures levels { (fields : List (List ℕ)) → IsSimpleLine text.now fields → length fields ≡ length levels.old → LevelsRead column (map trimmed fields) levels.new result }
+    ensures levels { (fields : List (List ℕ)) → IsSimpleLine text.now fields
+        → length fields ≡ length levels.old
+        → LevelsRead column (map trimmed fields) levels.new result }
 {
     // Most lines are so, and are told by one look at each byte.
     if are_digits(text, levels.len()) {
@@ -76,7 +79,8 @@ pub fn csv_levels(row: &ByteRecord, first: usize, column: u32, levels: &mut [boo
     requires count { length levels.old ≡ length (drop first (fields_of row.now)) }
     requires few { column + length levels.old < 2 ^ 32 }
     ensures len { length levels.new ≡ length levels.old }
-    ensures levels { LevelsRead column (map trimmed (drop first (fields_of row.now))) levels.new result }
+    ensures levels { LevelsRead column
+        (map trimmed (drop first (fields_of row.now))) levels.new result }
 {
     for k in 0..levels.len() {
         match csv_level(row, first + k) {

@@ -3,7 +3,8 @@ ghost use Rattle.std.specs.Prelude.{◌≡◌, ◌≤◌, ◌<◌, ◌^◌};
 ghost use Rattle.capture_make.specs.Made.{draw, drawn, next_number};
 ghost use Rattle.capture_make.specs.Behind.{number_behind, sent_behind};
 
-/// What a transaction sends: two data bytes to an address, and a byte over the serial line beside it.
+/// What a transaction sends: two data bytes to an address, and a byte over the serial line beside
+/// it.
 #[derive(Clone, Copy, Debug, PartialEq, Eq)]
 pub struct Sent {
     /// The address of seven bits.

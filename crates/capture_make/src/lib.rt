@@ -1,4 +1,5 @@
-//! Made captures: transactions on an I2C bus beside bytes on a serial line, drawn from a seed, as a source of samples.
+//! Made captures: transactions on an I2C bus beside bytes on a serial line, drawn from a seed, as a
+//! source of samples.
 #![tactic(auto)]
 
 mod drawing;

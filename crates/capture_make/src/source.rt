@@ -1,5 +1,6 @@
 // A made capture as a source.
-ghost use Rattle.std.specs.Prelude.{◌≡◌, ◌≤◌, ◌<◌, ◌^◌, ◌++◌, [], Some, true, false, min, take, length};
+ghost use Rattle.std.specs.Prelude.{◌≡◌, ◌≤◌, ◌<◌, ◌^◌, ◌++◌, [], Some, true, false, min, take};
+ghost use Rattle.std.specs.Prelude.{length};
 ghost use Rattle.std.specs.Io.{ReadsAtMost};
 ghost use Rattle.std.specs.Io.KnownBytes.{ReadConsumes};
 ghost use Rattle.la_io.specs.Causes.{HasCause};
@@ -40,7 +41,8 @@ impl MadeSource {
         }
     }
 
-    // Whether samples of a transaction are left: where all that were kept were given, those of the next one are made.
+    // Whether samples of a transaction are left: where all that were kept were given, those of the
+    // next one are made.
     fn is_ready(&mut self) -> bool
         ensures left { left_in self.new ≡ left_in self.old }
         ensures some { result ≡ true → self.new.at < 120 }
@@ -60,7 +62,8 @@ impl MadeSource {
         true
     }
 
-    // Puts the samples that are left of a transaction at the front of a buffer, as many as it takes.
+    // Puts the samples that are left of a transaction at the front of a buffer, as many as it
+    // takes.
     fn give(&mut self, into: &mut [u8]) -> usize
         requires some { self.old.at < 120 }
         requires room { 0 < length into.old }
@@ -93,7 +96,8 @@ impl Source for MadeSource {
 
     fn read(&mut self, buf: &mut [u8]) -> Result<usize, Failed>
         ensures bound { ReadsAtMost result buf.new }
-        ensures bytes { ReadConsumes (Some (left_in self.old)) (Some (left_in self.new)) result buf.new }
+        ensures bytes { ReadConsumes (Some (left_in self.old))
+            (Some (left_in self.new)) result buf.new }
         ensures cause { HasCause 0 0 result }
     {
         let mut filled = 0;

@@ -17,8 +17,11 @@ AllAgree mask first bytes count = (k : ℕ) → k < count → Agree mask (slice_
 
 -- so many units at the front give the sample of the first, for all pins whose bits the mask has
 abbrev pub SameSamples : ℕ → ℕ → List ℕ → ℕ → Type 0
-SameSamples unit mask bytes count = (pins : List ℕ) → Covers mask pins → raw_samples unit pins (take (count * unit) bytes) ≡ replicate count (word_of pins (take unit bytes))
+SameSamples unit mask bytes count =
+    (pins : List ℕ) → Covers mask pins → raw_samples unit pins (take (count * unit) bytes)
+    ≡ replicate count (word_of pins (take unit bytes))
 
 -- a table of what the pins pick of each byte, times its worth
 abbrev pub OfBytes : ℕ → List ℕ → List ℕ → Type 0
-OfBytes worth table pins = (byte : ℕ) → byte < 256 → slice_index table byte ≡ picked pins (worth * byte)
+OfBytes worth table pins =
+    (byte : ℕ) → byte < 256 → slice_index table byte ≡ picked pins (worth * byte)

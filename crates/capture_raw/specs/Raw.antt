@@ -1,5 +1,6 @@
 -- Raw captures: units of bytes, the lowest byte first.
-use Rattle.std.specs.Prelude.{ℕ, ◌+◌, ◌*◌, ◌/◌, ◌%◌, ◌^◌, ◌==◌, nat_le, if◌then◌else◌, List, [], ◌∷◌, ◌++◌, length, map, take, codes}
+use Rattle.std.specs.Prelude.{ℕ, ◌+◌, ◌*◌, ◌/◌, ◌%◌, ◌^◌, ◌==◌, nat_le, if◌then◌else◌, List, []}
+use Rattle.std.specs.Prelude.{◌∷◌, ◌++◌, length, map, take, codes}
 use Rattle.std.specs.Int.{bit_at}
 use Rattle.std.specs.Fmt.{decimal}
 use Rattle.std.specs.List.{range_with_len}
@@ -36,12 +37,14 @@ raw_names channels = map (λ channel. codes "D" ++ decimal channel) (range_with_
 
 -- how less than 2^60 bytes end
 abbrev pub raw_rest : ℕ → ℕ → Told → Ending
-raw_rest unit count AtEnd = if count % unit == 0 then Clean else Faulty (ShortUnit (count / unit * unit))
+raw_rest unit count AtEnd =
+    if count % unit == 0 then Clean else Faulty (ShortUnit (count / unit * unit))
 raw_rest unit count Cut = Open
 
 -- how bytes end: a reader stops behind 2^60 of them, and asks for no end there
 abbrev pub raw_ending : ℕ → ℕ → Told → Ending
-raw_ending unit count told = if nat_le (2 ^ 60) count then Faulty Bytes else raw_rest unit count told
+raw_ending unit count told =
+    if nat_le (2 ^ 60) count then Faulty Bytes else raw_rest unit count told
 
 -- what the bytes of a raw capture give
 unfoldable pub raw_capture : ℕ → Rate → List ℕ → List ℕ → Told → Captured

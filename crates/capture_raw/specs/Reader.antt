@@ -1,17 +1,20 @@
 -- What a raw reader stands for, and what its answers mean.
-use Rattle.std.specs.Prelude.{ℕ, ◌≡◌, ◌-◌, ◌*◌, ◌≤◌, Bool, true, false, List, ◌++◌, length, take, drop, Option, Result, Ok, Err}
+use Rattle.std.specs.Prelude.{ℕ, ◌≡◌, ◌-◌, ◌*◌, ◌≤◌, Bool, true, false, List, ◌++◌, length, take}
+use Rattle.std.specs.Prelude.{drop, Option, Result, Ok, Err}
 use Rattle.std.specs.Io.KnownBytes.{Consumes, IsAtEnd}
 use Rattle.la_base.specs.Samples.{samples}
 use Rattle.la_base.specs.declared.samples.Rate.{Rate}
 use Rattle.la_base.specs.declared.samples.Run.{Run}
 use Rattle.la_io.specs.declared.outside.Failed.{Failed}
-use Rattle.la_io.specs.declared.fault.CaptureFault.TheVariants.{ShortUnit as ShortUnitFault, Bytes as BytesFault}
+use Rattle.la_io.specs.declared.fault.CaptureFault.TheVariants.{ShortUnit as ShortUnitFault}
+use Rattle.la_io.specs.declared.fault.CaptureFault.TheVariants.{Bytes as BytesFault}
 use Rattle.la_io.specs.Capture.{Told, AtEnd, Cut, Clean, Faulty, Open, Captured, Ends}
 use Rattle.la_io.specs.Intake.{Front}
 use Rattle.capture_raw.specs.Raw.{unit_len, raw_samples, raw_capture}
 use Rattle.capture_raw.specs.declared.reader.RawReader.{RawReader}
 use Rattle.capture_raw.specs.declared.step.RawStep.{RawStep}
-use Rattle.capture_raw.specs.declared.step.RawStep.TheVariants.{Run as GaveRun, End, ShortUnit, Bytes}
+use Rattle.capture_raw.specs.declared.step.RawStep.TheVariants.{Run as GaveRun, End, ShortUnit}
+use Rattle.capture_raw.specs.declared.step.RawStep.TheVariants.{Bytes}
 
 -- these bytes were taken and these samples given: what is held is what their units leave
 pub record StandsAt (unit : ℕ) (pins : List ℕ) (front : Front) (bytes given : List ℕ) : Type 0 where
@@ -59,15 +62,21 @@ raw_cap r bytes told = raw_capture (raw_channels r) (raw_rate r) (raw_pins r) by
 
 -- what an answer means, where these bytes were taken and these samples were given before it
 abbrev pub MeansAt : ℕ → Rate → List ℕ → Front → List ℕ → List ℕ → Result RawStep Failed → Type 0
-MeansAt channels rate pins front bytes given (Ok (GaveRun run)) = StandsAt (unit_len channels) pins front bytes (given ++ samples run)
-MeansAt channels rate pins front bytes given (Ok End) = Ends (raw_capture channels rate pins bytes AtEnd) given Clean
-MeansAt channels rate pins front bytes given (Ok (ShortUnit at)) = Ends (raw_capture channels rate pins bytes AtEnd) given (Faulty (ShortUnitFault at))
-MeansAt channels rate pins front bytes given (Ok Bytes) = (told : Told) → Ends (raw_capture channels rate pins bytes told) given (Faulty BytesFault)
-MeansAt channels rate pins front bytes given (Err failed) = Ends (raw_capture channels rate pins bytes Cut) given Open
+MeansAt channels rate pins front bytes given (Ok (GaveRun run)) =
+    StandsAt (unit_len channels) pins front bytes (given ++ samples run)
+MeansAt channels rate pins front bytes given (Ok End) =
+    Ends (raw_capture channels rate pins bytes AtEnd) given Clean
+MeansAt channels rate pins front bytes given (Ok (ShortUnit at)) =
+    Ends (raw_capture channels rate pins bytes AtEnd) given (Faulty (ShortUnitFault at))
+MeansAt channels rate pins front bytes given (Ok Bytes) =
+    (told : Told) → Ends (raw_capture channels rate pins bytes told) given (Faulty BytesFault)
+MeansAt channels rate pins front bytes given (Err failed) =
+    Ends (raw_capture channels rate pins bytes Cut) given Open
 
 -- the same, with the parts of the reader behind the answer
 abbrev pub Means : RawReader → List ℕ → List ℕ → Result RawStep Failed → Type 0
-Means r bytes given result = MeansAt (raw_channels r) (raw_rate r) (raw_pins r) r.held bytes given result
+Means r bytes given result =
+    MeansAt (raw_channels r) (raw_rate r) (raw_pins r) r.held bytes given result
 
 -- whether the reader is open behind an answer
 abbrev pub stays_open : Result RawStep Failed → Bool
@@ -94,11 +103,13 @@ IfRun (Ok Bytes) Said = Unit {0}
 IfRun (Err failed) Said = Unit {0}
 
 -- one call: the bytes that it took, and what its answer means behind them
-pub record Next (old new : RawReader) (left_old left_new : Option (List ℕ)) (result : Result RawStep Failed) : Type 0 where
+pub record Next (old new : RawReader) (left_old left_new : Option (List ℕ))
+    (result : Result RawStep Failed) : Type 0 where
   pub bytes : List ℕ
   pub consumed : Consumes left_old left_new bytes
   pub told : ToldEnd left_new result
-  pub means : (before given : List ℕ) → Stands old before given → Means new (before ++ bytes) given result
+  pub means : (before given : List ℕ) → Stands old before given
+      → Means new (before ++ bytes) given result
 
 -- channels, rate and pins stay
 pub record SameForm (old new : RawReader) : Type 0 where

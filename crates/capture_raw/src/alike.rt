@@ -1,5 +1,6 @@
 // Neighbouring units that give the same sample: they agree on the bits of a mask.
-ghost use Rattle.std.specs.Prelude.{◌≡◌, ◌<◌, ◌≤◌, ◌+◌, ◌*◌, drop, length, replicate, take, slice_index, true};
+ghost use Rattle.std.specs.Prelude.{◌≡◌, ◌<◌, ◌≤◌, ◌+◌, ◌*◌, drop, length, replicate, take};
+ghost use Rattle.std.specs.Prelude.{slice_index, true};
 ghost use Rattle.std.specs.Int.Bits.{bit_and, bit_xor};
 ghost use Rattle.capture_raw.specs.Masks.{Agree, AllAgree, SameSamples};
 ghost use Rattle.capture_raw.specs.Raw.{number};
@@ -34,8 +35,8 @@ pub fn alike_units(bytes: &[u8], unit: usize, mask: Word) -> usize
     alike_wide(bytes, unit, mask)
 }
 
-// How many units of one byte give the same sample. Most runs are the shortest that there are, and are seen
-// at once.
+// How many units of one byte give the same sample. Most runs are the shortest that there are, and
+// are seen at once.
 #[inline(always)]
 fn alike_bytes(bytes: &[u8], mask: u8) -> usize
     requires { 1 ≤ length bytes.now }
@@ -73,8 +74,8 @@ fn alike_near(bytes: &[u8], mask: u8) -> usize
     agreeing_far(bytes, first, mask, count)
 }
 
-// Goes on behind `known` bytes that agree with `first`, by blocks. It isn't inlined, since most runs
-// are short.
+// Goes on behind `known` bytes that agree with `first`, by blocks. It isn't inlined, since most
+// runs are short.
 #[inline(never)]
 fn agreeing_far(bytes: &[u8], first: u8, mask: u8, known: usize) -> usize
     requires within { known ≤ length bytes.now }
@@ -127,7 +128,8 @@ fn eight_of(byte: u8) -> u64
     u64::from_le_bytes([byte; 8])
 }
 
-// The bits in which eight bytes behind the first `done` differ from eight equal ones, of those of the masks.
+// The bits in which eight bytes behind the first `done` differ from eight equal ones, of those of
+// the masks.
 #[inline(always)]
 fn differing_at(bytes: &[u8], done: usize, firsts: u64, masks: u64) -> u64
     requires { done + 8 ≤ length bytes.now }
@@ -136,8 +138,8 @@ fn differing_at(bytes: &[u8], done: usize, firsts: u64, masks: u64) -> u64
     (word_at(bytes, done) ^ firsts) & masks
 }
 
-// Goes on behind `known` bytes that agree with `first`, by words of eight, two at a time, and not past `end`. It stops at
-// the first byte that doesn't agree, or where less than a word is left.
+// Goes on behind `known` bytes that agree with `first`, by words of eight, two at a time, and not
+// past `end`. It stops at the first byte that doesn't agree, or where less than a word is left.
 #[inline(always)]
 fn agreeing_words(bytes: &[u8], first: u8, mask: u8, known: usize, end: usize) -> usize
     requires order { known ≤ end }

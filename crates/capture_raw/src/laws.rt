@@ -1,5 +1,6 @@
 // Laws of raw captures, each on a function that does nothing.
-ghost use Rattle.capture_raw.specs.Laws.{LongerExtends, FaultStays, StandsFixes, GivenIsFront, SamplesAreLevels};
+ghost use Rattle.capture_raw.specs.Laws.{LongerExtends, FaultStays, StandsFixes, GivenIsFront};
+ghost use Rattle.capture_raw.specs.Laws.{SamplesAreLevels};
 
 /// The settled samples of bytes that are cut are the first of those of every longer input.
 pub fn longer_extends()
@@ -11,7 +12,8 @@ pub fn fault_stays()
     ensures { FaultStays }
 {}
 
-/// What a reader holds follows from its channels, the bytes that it took and the samples that it gave.
+/// What a reader holds follows from its channels, the bytes that it took and the samples that it
+/// gave.
 pub fn stands_fixes()
     ensures { StandsFixes }
 {}

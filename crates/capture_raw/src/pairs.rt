@@ -14,8 +14,8 @@ const BITS: u32 = 16;
 // How many units a word has.
 const UNITS: usize = 4;
 
-/// How many units of two bytes at the front give the same sample, for pins whose bits `mask` has. Most
-/// runs end within the first word.
+/// How many units of two bytes at the front give the same sample, for pins whose bits `mask` has.
+/// Most runs end within the first word.
 #[inline(always)]
 pub fn alike_pairs(bytes: &[u8], mask: Word) -> usize
     requires { 2 ≤ length bytes.now }
@@ -45,7 +45,8 @@ fn four_of(unit: u64) -> u64
     unit * 0x0001_0001_0001_0001
 }
 
-// Goes on behind the first word. It isn't inlined, so that its loop has the registers that it needs.
+// Goes on behind the first word. It isn't inlined, so that its loop has the registers that it
+// needs.
 #[inline(never)]
 fn more_words(bytes: &[u8], mask: Word, masks: u64, firsts: u64) -> usize
     requires whole { 8 ≤ length bytes.now }

@@ -43,12 +43,15 @@ pub struct RawReader {
 }
 
 impl RawReader {
-    ghost use Rattle.std.specs.Prelude.{◌≡◌, ◌+◌, ◌++◌, ◌-◌, ◌==◌, ◌^◌, if◌then◌else◌, List, [], None, IfSome, take, true};
+    ghost use Rattle.std.specs.Prelude.{◌≡◌, ◌+◌, ◌++◌, ◌-◌, ◌==◌, ◌^◌, if◌then◌else◌, List, []};
+    ghost use Rattle.std.specs.Prelude.{None, IfSome, take, true};
     ghost use Rattle.la_base.specs.Samples.{samples};
     ghost use Rattle.la_base.specs.Runs.{samples_of};
     ghost use Rattle.capture_raw.specs.Raw.{word_of};
     ghost use Rattle.la_io.specs.Causes.{HasCause};
-    ghost use Rattle.capture_raw.specs.Reader.{Stands, Next, LetsGo, SameForm, IfRun, stays_open, raw_channels, raw_rate, raw_pins, raw_open, raw_unit, raw_held, raw_given};
+    ghost use Rattle.capture_raw.specs.Reader.{Stands, Next, LetsGo, SameForm, IfRun, stays_open};
+    ghost use Rattle.capture_raw.specs.Reader.{raw_channels, raw_rate, raw_pins, raw_open};
+    ghost use Rattle.capture_raw.specs.Reader.{raw_unit, raw_held, raw_given};
 
     /// A reader of captures of so many channels, that has read nothing. Until `select` is called
     /// there are no pins, and each word is 0.
@@ -81,7 +84,8 @@ impl RawReader {
 
     /// Bit j of each sample is channel `pins[j]` from now on. No sample was given yet.
     pub fn select(&mut self, pins: Pins)
-        requires within { (k : ℕ) → k < length pins.items → slice_index pins.items k < raw_channels self.old }
+        requires within { (k : ℕ) → k < length pins.items
+            → slice_index pins.items k < raw_channels self.old }
         requires fresh { (bytes : List ℕ) × Stands self.old bytes [] }
         ensures stands { (bytes : List ℕ) → Stands self.old bytes [] → Stands self.new bytes [] }
         ensures pins { raw_pins self.new ≡ pins.items }
@@ -182,7 +186,8 @@ impl RawReader {
         }
     }
 
-    // As many runs of what is held as there is room for, for a unit that the caller may know as a number.
+    // As many runs of what is held as there is room for, for a unit that the caller may know as a
+    // number.
     #[inline(always)]
     fn runs_by(&mut self, unit: usize, into: &mut [Run]) -> usize
         requires unit { unit ≡ raw_unit self.old }
@@ -208,7 +213,8 @@ impl RawReader {
         count
     }
 
-    // The same for units of one byte. Each length has a loop of its own, so that it has its registers.
+    // The same for units of one byte. Each length has a loop of its own, so that it has its
+    // registers.
     #[inline(never)]
     fn byte_runs(&mut self, into: &mut [Run]) -> usize
         requires unit { 1 ≡ raw_unit self.old }
@@ -241,16 +247,19 @@ impl RawReader {
         self.runs_by(unit, into)
     }
 
-    /// The next run of what is held, as `next` gives it. `None` comes exactly where less than a unit is
-    /// held; then nothing changes. Nothing is read.
+    /// The next run of what is held, as `next` gives it. `None` comes exactly where less than a
+    /// unit is held; then nothing changes. Nothing is read.
     #[inline(always)]
     pub fn held_run(&mut self) -> Option<Run>
-        ensures given { IfSome result (λ run. (bytes given : List ℕ) → Stands self.old bytes given → Stands self.new bytes (given ++ samples run)) }
+        ensures given { IfSome result
+            (λ run. (bytes given : List ℕ) → Stands self.old bytes given
+            → Stands self.new bytes (given ++ samples run)) }
         ensures none { result ≡ None → length (raw_held self.old) < raw_unit self.old }
         ensures kept { result ≡ None → self.new ≡ self.old }
         ensures is_open { raw_open self.new ≡ raw_open self.old }
         ensures form { SameForm self.old self.new }
-        ensures progress { IfSome result (λ run. raw_given self.old + run.len ≤ raw_given self.new) }
+        ensures progress { IfSome result
+            (λ run. raw_given self.old + run.len ≤ raw_given self.new) }
         ensures few { raw_given self.new ≤ 2 ^ 60 }
     {
         let unit = self.unit();
@@ -260,15 +269,17 @@ impl RawReader {
         Some(self.run(unit))
     }
 
-    /// As many runs of what is held as there is room for, as `held_run` gives them, and how many. Nothing is
-    /// read.
+    /// As many runs of what is held as there is room for, as `held_run` gives them, and how many.
+    /// Nothing is read.
     pub fn held_runs(&mut self, into: &mut [Run]) -> usize
         ensures within { result ≤ length into.new }
-        ensures given { (bytes given : List ℕ) → Stands self.old bytes given → Stands self.new bytes (given ++ samples_of (take result into.new)) }
+        ensures given { (bytes given : List ℕ) → Stands self.old bytes given
+            → Stands self.new bytes (given ++ samples_of (take result into.new)) }
         ensures all { result < length into.new → length (raw_held self.new) < raw_unit self.old }
         ensures is_open { raw_open self.new ≡ raw_open self.old }
         ensures form { SameForm self.old self.new }
-        ensures progress { raw_given self.old + length (samples_of (take result into.new)) ≤ raw_given self.new }
+        ensures progress { raw_given self.old + length
+            (samples_of (take result into.new)) ≤ raw_given self.new }
         ensures few { raw_given self.new ≤ 2 ^ 60 }
     {
         let unit = self.unit();
@@ -329,7 +340,9 @@ impl RawReader {
 
     // How the bytes end, where less than a unit is held.
     fn at_end(&self) -> RawStep
-        ensures { result ≡ (if length (raw_held self.now) == 0 then RawStep.End else RawStep.ShortUnit (raw_given self.now)) }
+        ensures { result
+            ≡ (if length (raw_held self.now) == 0 then RawStep.End
+            else RawStep.ShortUnit (raw_given self.now)) }
     {
         let rest = self.held.bytes().len() as u64;
         if rest == 0 {

@@ -144,8 +144,8 @@ pub fn mask_of(pins: &[u32]) -> Word
     mask
 }
 
-/// The sample of each byte that stands alone at one place of a unit: `worth` is 1 for the lowest byte, and
-/// 256 for the one behind it.
+/// The sample of each byte that stands alone at one place of a unit: `worth` is 1 for the lowest
+/// byte, and 256 for the one behind it.
 pub fn samples_of_bytes(pins: &[u32], worth: Word) -> [Word; BYTES]
     requires few { length pins.now ≤ MOST_PINS }
     requires within { (k : ℕ) → k < length pins.now → slice_index pins.now k < MOST_PINS }

@@ -67,8 +67,8 @@ fn alike_on(bytes: &[u8], unit: usize, mask: Word, known: usize) -> usize
     more_units(bytes, unit, mask, count)
 }
 
-// Goes on behind `known` units that give the same sample, and not past `end`. It stops at a unit that
-// gives another one, or where too little is left to read a unit at once.
+// Goes on behind `known` units that give the same sample, and not past `end`. It stops at a unit
+// that gives another one, or where too little is left to read a unit at once.
 #[inline(always)]
 fn alike_within(bytes: &[u8], unit: usize, mask: Word, known: usize, end: usize) -> usize
     requires some { 1 ≤ known }

@@ -13,7 +13,8 @@ channel_at codes place = (code_at codes place.variable, place.bit)
 
 -- the bits of a variable, from the lowest on
 abbrev pub places_of : ℕ → ℕ → List Place
-places_of variable width = map (λ bit. record { variable = variable; bit = bit }) (range_with_len 0 width)
+places_of variable width =
+    map (λ bit. record { variable = variable; bit = bit }) (range_with_len 0 width)
 
 -- each is of one of so many variables
 abbrev pub Below : ℕ → List Place → Type 0

@@ -1,14 +1,18 @@
 -- What the bytes of a VCD capture give.
-use Rattle.std.specs.Prelude.{ℕ, ◌+◌, ◌-◌, ◌*◌, List, [], ◌∷◌, ◌++◌, map, get_or, Option, Some, None}
+use Rattle.std.specs.Prelude.{ℕ, ◌+◌, ◌-◌, ◌*◌, List, [], ◌∷◌, ◌++◌, map, get_or, Option, Some}
+use Rattle.std.specs.Prelude.{None}
 use Rattle.la_io.specs.declared.fault.CaptureFault.{CaptureFault}
 use Rattle.la_io.specs.declared.fault.CaptureFault.TheVariants.{NoTimescale, NoDefinitions}
-use Rattle.la_io.specs.Capture.{Told, Head, Good, Bad, Unread, Ending, Clean, Faulty, Open, Captured}
+use Rattle.la_io.specs.Capture.{Told, Head, Good, Bad, Unread, Ending, Clean, Faulty, Open}
+use Rattle.la_io.specs.Capture.{Captured}
 use Rattle.text_parts.specs.Places.{Placed}
 use Rattle.byte_feed.specs.Tokens.{tokens_of}
 use Rattle.text_parts.specs.Reading.{read_front}
 use Rattle.byte_feed.specs.Parts.{Fed}
-use Rattle.capture_vcd.specs.Header.{Cut, Declared, Scale, Declares, Nothing, channels_of, declared_by, header_from}
-use Rattle.capture_vcd.specs.Body.{Channel, Event, Statement, Wrong, event_of, first_time, last_time, samples_before, samples_to, statements, words_from}
+use Rattle.capture_vcd.specs.Header.{Cut, Declared, Scale, Declares, Nothing, channels_of}
+use Rattle.capture_vcd.specs.Header.{declared_by, header_from}
+use Rattle.capture_vcd.specs.Body.{Channel, Event, Statement, Wrong, event_of, first_time}
+use Rattle.capture_vcd.specs.Body.{last_time, samples_before, samples_to, statements, words_from}
 
 -- the last time scale
 abbrev pub scale_in : Option (ℕ × ℕ) → List Declared → Option (ℕ × ℕ)
@@ -42,7 +46,8 @@ whole_head down names (Some scale) = Good names scale.1 (scale.0 * down)
 abbrev pub head_in : ℕ → Ending → Option (List Placed) → List Declared → Option CaptureFault → Head
 head_in down how body declared (Some fault) = Bad fault
 head_in down how None declared None = cut_head how
-head_in down how (Some tokens) declared None = whole_head down (channels_of declared) (scale_in None declared)
+head_in down how (Some tokens) declared None =
+    whole_head down (channels_of declared) (scale_in None declared)
 
 -- what the header's sections declare up to the first fault, and that fault
 abbrev pub declared_in : Cut → List Declared × Option CaptureFault
@@ -52,7 +57,8 @@ declared_in cut = read_front declared_by [] cut.sections
 abbrev pub head_by : ℕ → Ending → Cut → List Declared × Option CaptureFault → Head
 head_by down how cut read = head_in down how cut.body read.0 read.1
 
--- the statements of a body: a value that lacks its second token counts as one where the file ends clean there
+-- the statements of a body: a value that lacks its second token counts as one where the file ends
+-- clean there
 abbrev pub statements_at : Ending → List Placed → List Statement
 statements_at Clean tokens = statements (λ at. Wrong at ∷ []) tokens
 statements_at (Faulty fault) tokens = statements (λ at. []) tokens
@@ -63,7 +69,8 @@ abbrev pub body_ending : Ending → Option CaptureFault → Ending
 body_ending how (Some fault) = Faulty fault
 body_ending how None = how
 
--- how many samples are settled from the first time to the last: at a clean end those with a time up to the last one, else those with a time before it
+-- how many samples are settled from the first time to the last: at a clean end those with a time up
+-- to the last one, else those with a time before it
 abbrev pub count_by : Ending → ℕ → ℕ → ℕ
 count_by Clean span down = samples_to span down
 count_by (Faulty fault) span down = samples_before span down
@@ -72,13 +79,16 @@ count_by Open span down = samples_before span down
 abbrev pub settled_by : ℕ → List Channel → List Event → Ending → Option ℕ → Option ℕ → List ℕ
 settled_by down channels events ending None last = []
 settled_by down channels events ending (Some start) None = []
-settled_by down channels events ending (Some start) (Some last) = words_from channels events start down (count_by ending (last - start) down)
+settled_by down channels events ending (Some start) (Some last) =
+    words_from channels events start down (count_by ending (last - start) down)
 
 -- what a body gives
 abbrev pub body_by : ℕ → Head → List Channel → Ending → List Event × Option CaptureFault → Captured
 body_by down head channels how read = record {
   head = head;
-  settled = settled_by down channels read.0 (body_ending how read.1) (first_time read.0) (last_time None read.0);
+  settled =
+      settled_by down channels read.0 (body_ending how read.1) (first_time read.0)
+      (last_time None read.0);
   ending = body_ending how read.1;
 }
 
@@ -93,10 +103,13 @@ body_tokens (Some tokens) = tokens
 
 -- what a file gives by its head
 abbrev pub capture_by : ℕ → List ℕ → Ending → Option (List Placed) → List Declared → Head → Captured
-capture_by down pins how body declared (Bad fault) = record { head = Bad fault; settled = []; ending = Faulty fault }
-capture_by down pins how body declared Unread = record { head = Unread; settled = []; ending = Open }
+capture_by down pins how body declared (Bad fault) =
+    record { head = Bad fault; settled = []; ending = Faulty fault }
+capture_by down pins how body declared Unread =
+    record { head = Unread; settled = []; ending = Open }
 capture_by down pins how body declared (Good names num den) =
-    body_by down (Good names num den) (chosen (bits_in declared) pins) how (read_front event_of [] (statements_at how (body_tokens body)))
+    body_by down (Good names num den) (chosen (bits_in declared) pins) how
+    (read_front event_of [] (statements_at how (body_tokens body)))
 
 -- what tokens give: the head, and the samples of the body
 abbrev pub tokens_give : ℕ → List ℕ → Fed → Captured

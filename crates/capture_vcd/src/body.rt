@@ -38,8 +38,8 @@ pub struct Span {
     ghost few: { last < 2 ^ 60 },
 }
 
-/// What was read of the body of a VCD file. Samples are held back while no channel that is selected changes:
-/// all of them have the word of the levels.
+/// What was read of the body of a VCD file. Samples are held back while no channel that is selected
+/// changes: all of them have the word of the levels.
 #[derive(Drop)]
 pub struct Body {
     // the code of each variable
@@ -73,7 +73,10 @@ fn samples_before(span: u64, down: u64) -> u64
 impl Body {
     ghost use Rattle.std.specs.Prelude.{ℕ, [], ◌∷◌, None, IfOk, false};
     ghost use Rattle.text_parts.specs.Places.{Placed};
-    ghost use Rattle.capture_vcd.specs.Running.{BodyStands, Changes, Counts, RunCounts, Flushes, IsChange, channels_in, down_in, given_in, all_in, SameForm, TokenGives, EndGives, Reaches, hanging_of, pending_in};
+    ghost use Rattle.capture_vcd.specs.Running.{BodyStands, Changes, Counts, RunCounts, Flushes};
+    ghost use Rattle.capture_vcd.specs.Running.{IsChange, channels_in, down_in, given_in, all_in};
+    ghost use Rattle.capture_vcd.specs.Running.{SameForm, TokenGives, EndGives, Reaches};
+    ghost use Rattle.capture_vcd.specs.Running.{hanging_of, pending_in};
     ghost use Rattle.capture_vcd.specs.declared.body.Pending.TheVariants.{Free, Value};
 
     /// Nothing was read, and no channel is selected.
@@ -216,7 +219,8 @@ impl Body {
     #[inline(always)]
     fn change(&mut self, first: u8, code: &[u8]) -> Option<Run>
         requires { pending_in self.old ≡ Free }
-        ensures gives { (token : Placed) → IsChange token first code.now → Changes self.old self.new token result }
+        ensures gives { (token : Placed) → IsChange token first code.now
+            → Changes self.old self.new token result }
         ensures form { SameForm self.old self.new }
         ensures counts { RunCounts (given_in self.old) (given_in self.new) result }
     {
@@ -268,8 +272,8 @@ impl Body {
         }
     }
 
-    /// Reads one more token. What may change a channel gives the samples that are held back. A fault gives
-    /// none, and leaves them held back.
+    /// Reads one more token. What may change a channel gives the samples that are held back. A
+    /// fault gives none, and leaves them held back.
     #[inline(always)]
     pub fn token(&mut self, at: u64, text: &[u8]) -> Result<Option<Run>, CaptureFault>
         ensures gives { TokenGives self.old self.new (at, text.now) result }
@@ -310,8 +314,8 @@ impl Body {
         }
     }
 
-    /// The tokens end clean: the samples that are held back, and the last one, where there is one at the
-    /// last time.
+    /// The tokens end clean: the samples that are held back, and the last one, where there is one
+    /// at the last time.
     pub fn end(&self) -> Result<Option<Run>, CaptureFault>
         ensures gives { EndGives self.now result }
         ensures counts { IfOk result (λ run. RunCounts (given_in self.now) (all_in self.now) run) }

@@ -1,5 +1,5 @@
-// The channels that are selected, chained by keys of their codes: a change looks only at those whose code
-// has the key of its own.
+// The channels that are selected, chained by keys of their codes: a change looks only at those
+// whose code has the key of its own.
 ghost use Rattle.std.specs.Prelude.{◌≡◌, ◌≤◌, ◌<◌, length, map, slice_index, slice_set};
 ghost use Rattle.capture_vcd.specs.Chains.{keys_of, key_of};
 ghost use Rattle.capture_vcd.specs.Slots.{channel_of, code_at};
@@ -13,16 +13,16 @@ const KEYS: usize = 256;
 // Ends a chain: it is the place of no channel.
 const NONE: u8 = 255;
 
-/// For each key the place of the first channel whose code has it, and for each channel that of the next
-/// one whose code has the same key.
+/// For each key the place of the first channel whose code has it, and for each channel that of the
+/// next one whose code has the same key.
 #[derive(Clone, Debug, Drop)]
 pub struct Chains {
     heads: [u8; KEYS],
     next: [u8; PLACES],
 }
 
-// A byte that tells most codes apart. Where codes are given out in order, some files change the first byte
-// from one to the next, and others the last.
+// A byte that tells most codes apart. Where codes are given out in order, some files change the
+// first byte from one to the next, and others the last.
 #[inline(always)]
 fn key_of(code: &[u8]) -> u8
     ensures { result ≡ key_of code.now }
@@ -85,20 +85,23 @@ impl Chains {
         Chains { heads, next }
     }
 
-    /// The place of the first channel whose code has the key of this one; where there is none, a place
-    /// behind all channels.
+    /// The place of the first channel whose code has the key of this one; where there is none, a
+    /// place behind all channels.
     #[inline(always)]
     pub fn first(&self, code: &[u8]) -> usize
-        ensures { (channels : List Channel) → Linked self.now channels → Leads (keys_of channels) (key_of code.now) 0 result }
+        ensures { (channels : List Channel) → Linked self.now channels
+            → Leads (keys_of channels) (key_of code.now) 0 result }
     {
         usize::from(self.heads[usize::from(key_of(code))])
     }
 
-    /// The place of the next channel whose code has the key of this one's, or one behind all channels.
+    /// The place of the next channel whose code has the key of this one's, or one behind all
+    /// channels.
     #[inline(always)]
     pub fn behind(&self, place: usize) -> usize
         requires { place < PLACES }
-        ensures { (channels : List Channel) → Linked self.now channels → place < length channels → Leads (keys_of channels) (slice_index (keys_of channels) place) (place + 1) result }
+        ensures { (channels : List Channel) → Linked self.now channels → place < length channels
+            → Leads (keys_of channels) (slice_index (keys_of channels) place) (place + 1) result }
     {
         usize::from(self.next[place])
     }

@@ -1,6 +1,10 @@
 // The header of a VCD file, token by token.
 ghost use Rattle.std.specs.Prelude.{◌≡◌, ◌≢◌, ◌+◌, ◌≤◌, [], length, map, Err, OnOk};
-ghost use Rattle.capture_vcd.specs.declared.section.Kind.TheVariants.{Outside as OfOutside, Passed as OfPassed, Definitions as OfDefinitions, Scale as OfScale, Variable as OfVariable};
+ghost use Rattle.capture_vcd.specs.declared.section.Kind.TheVariants.{Outside as OfOutside};
+ghost use Rattle.capture_vcd.specs.declared.section.Kind.TheVariants.{Passed as OfPassed};
+ghost use Rattle.capture_vcd.specs.declared.section.Kind.TheVariants.{Definitions as OfDefinitions};
+ghost use Rattle.capture_vcd.specs.declared.section.Kind.TheVariants.{Scale as OfScale};
+ghost use Rattle.capture_vcd.specs.declared.section.Kind.TheVariants.{Variable as OfVariable};
 ghost use Rattle.capture_vcd.specs.Gathered.{placed};
 ghost use Rattle.capture_vcd.specs.Keeping.{IsNamed, IsShort, KeepsFew};
 
@@ -21,8 +25,8 @@ pub struct Header {
     kind: Kind,
     at: u64,
     words: Vec<Word>,
-    // what was declared: the names of the channels and where they stand, the codes of the variables,
-    // the last time scale
+    // what was declared: the names of the channels and where they stand, the codes of the
+    // variables, the last time scale
     pub names: Names,
     pub places: Vec<Place>,
     pub codes: Vec<Vec<u8>>,

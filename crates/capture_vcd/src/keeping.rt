@@ -20,7 +20,8 @@ fn front(text: &[u8], most: usize) -> &[u8]
 
 // Adds a word.
 fn add(alloc: Global, words: &mut Vec<Word>, at: u64, text: &[u8]) -> Result<(), NoMemory>
-    ensures items { OnOk result (map placed words.new.items ≡ map placed words.old.items ++ (at, text.now) ∷ []) }
+    ensures items { OnOk result
+        (map placed words.new.items ≡ map placed words.old.items ++ (at, text.now) ∷ []) }
     ensures stays { OnErr result (words.new.items ≡ words.old.items) }
 {
     words.push(Word {
@@ -38,7 +39,8 @@ pub fn keep_scale(
     text: &[u8],
 ) -> Result<(), NoMemory>
     requires { IsShort words.old.items }
-    ensures items { OnOk result (map placed words.new.items ≡ scale_step (map placed words.old.items) (at, text.now)) }
+    ensures items { OnOk result
+        (map placed words.new.items ≡ scale_step (map placed words.old.items) (at, text.now)) }
     ensures short { IsShort words.new.items }
 {
     if words.is_empty() {
@@ -70,7 +72,8 @@ pub fn keep_variable(
     text: &[u8],
 ) -> Result<(), NoMemory>
     requires { IsNamed (map placed words.old.items) }
-    ensures items { OnOk result (map placed words.new.items ≡ variable_step (map placed words.old.items) (at, text.now)) }
+    ensures items { OnOk result
+        (map placed words.new.items ≡ variable_step (map placed words.old.items) (at, text.now)) }
     ensures named { IsNamed (map placed words.new.items) }
 {
     if words.len() < 4 {

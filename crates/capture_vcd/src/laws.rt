@@ -4,8 +4,8 @@ ghost use Rattle.capture_vcd.specs.Reader.{GivenIsFront};
 ghost use Rattle.capture_vcd.specs.Stretches.{StretchIsRun};
 ghost use Rattle.capture_vcd.specs.Worked.{Faults, WorkedFiles, Sparse};
 
-/// Worked files, whose samples and endings the definition computes: vectors, values of x, times that
-/// fall, samples between changes, sections that are passed over.
+/// Worked files, whose samples and endings the definition computes: vectors, values of x, times
+/// that fall, samples between changes, sections that are passed over.
 pub fn worked_files_hold()
     ensures { WorkedFiles }
 {}

@@ -1,7 +1,7 @@
 //! VCD captures, by clause 18 of IEEE 1364-2005: what a file gives, and its reader.
 //!
-//! `specs/Header.antt` says what a header declares, `specs/Body.antt` which times and changes a body
-//! tells, and `specs/Vcd.antt` what a file gives: a head, the settled samples and an ending.
+//! `specs/Header.antt` says what a header declares, `specs/Body.antt` which times and changes a
+//! body tells, and `specs/Vcd.antt` what a file gives: a head, the settled samples and an ending.
 #![tactic(auto)]
 
 mod bits;

@@ -15,7 +15,8 @@ fn head_token<S: Source>(
     source: &mut S,
 ) -> Result<bool, CaptureError>
     requires { is_spent tokens.old ≡ false }
-    ensures reads { HeadReads tokens.old tokens.new header.old header.new (S.left source.old) (S.left source.new) result }
+    ensures reads { HeadReads tokens.old tokens.new header.old header.new (S.left source.old)
+        (S.left source.new) result }
     ensures on { HeadOn tokens.old tokens.new result }
     ensures small { HoldsFew header.new }
     ensures cause { CaptureCause (S.faults source.old) (S.faults source.new) result }
@@ -34,7 +35,8 @@ pub fn read_header<S: Source>(
     source: &mut S,
 ) -> Result<bool, CaptureError>
     requires { is_spent tokens.old ≡ false }
-    ensures reads { HeadReads tokens.old tokens.new header.old header.new (S.left source.old) (S.left source.new) result }
+    ensures reads { HeadReads tokens.old tokens.new header.old header.new (S.left source.old)
+        (S.left source.new) result }
     ensures whole { IfOk result (λ done. done ≡ true) }
     ensures fresh { IfOk result (λ _. is_spent tokens.new ≡ false) }
     ensures small { HoldsFew header.new }

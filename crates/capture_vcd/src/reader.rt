@@ -43,16 +43,21 @@ pub struct VcdReader {
 }
 
 impl VcdReader {
-    ghost use Rattle.std.specs.Prelude.{◌≢◌, ◌≤◌, ◌<◌, ◌+◌, ◌^◌, ℕ, List, [], length, slice_index, Err, IfOk, None};
+    ghost use Rattle.std.specs.Prelude.{◌≢◌, ◌≤◌, ◌<◌, ◌+◌, ◌^◌, ℕ, List, [], length, slice_index};
+    ghost use Rattle.std.specs.Prelude.{Err, IfOk, None};
     ghost use Rattle.la_io.specs.Capture.{Told};
     ghost use Rattle.capture_vcd.specs.Running.{RunCounts, held_in};
     ghost use Rattle.la_io.specs.Reading.{run_samples, CaptureCause, stays_open};
     ghost use Rattle.capture_vcd.specs.declared.reader.Phase.TheVariants.{Running};
-    ghost use Rattle.capture_vcd.specs.Reader.{GaveHeld, HoldsNothing, IsNew, Opens, VcdStands, pins_in, vcd_down, Gives, MoreGiven, SameReader, vcd_given, vcd_names, vcd_open, vcd_rate};
-    ghost use Rattle.capture_vcd.specs.Stepping.{Flushed, HeldSteps, HeldWent, run_of, Makes, is_going, Nexts, Steps, WentOn};
+    ghost use Rattle.capture_vcd.specs.Reader.{GaveHeld, HoldsNothing, IsNew, Opens, VcdStands};
+    ghost use Rattle.capture_vcd.specs.Reader.{pins_in, vcd_down, Gives, MoreGiven, SameReader};
+    ghost use Rattle.capture_vcd.specs.Reader.{vcd_given, vcd_names, vcd_open, vcd_rate};
+    ghost use Rattle.capture_vcd.specs.Stepping.{Flushed, HeldSteps, HeldWent, run_of, Makes};
+    ghost use Rattle.capture_vcd.specs.Stepping.{is_going, Nexts, Steps, WentOn};
 
-    /// Reads the header of a capture of which each sample stands for `down` units of time. `Fault` comes
-    /// exactly where the header has one, `Read` where the source failed before the header was whole.
+    /// Reads the header of a capture of which each sample stands for `down` units of time. `Fault`
+    /// comes exactly where the header has one, `Read` where the source failed before the header was
+    /// whole.
     pub fn open<S: Source>(
         alloc: Global,
         down: u64,
@@ -77,9 +82,11 @@ impl VcdReader {
 
     /// Bit j of each sample is channel `pins[j]` from now on. No sample was given yet.
     pub fn select(&mut self, pins: Pins)
-        requires within { (k : ℕ) → k < length pins.items → slice_index pins.items k < length (vcd_names self.old) }
+        requires within { (k : ℕ) → k < length pins.items
+            → slice_index pins.items k < length (vcd_names self.old) }
         requires fresh { (bytes : List ℕ) × (told : Told) × VcdStands self.old bytes told [] }
-        ensures stands { (bytes : List ℕ) (told : Told) → VcdStands self.old bytes told [] → VcdStands self.new bytes told [] }
+        ensures stands { (bytes : List ℕ) (told : Told) → VcdStands self.old bytes told []
+            → VcdStands self.new bytes told [] }
         ensures pins { pins_in self.new ≡ pins.items }
         ensures names { vcd_names self.new ≡ vcd_names self.old }
         ensures rate { vcd_rate self.new ≡ vcd_rate self.old }
@@ -153,8 +160,8 @@ impl VcdReader {
         }
     }
 
-    // One token of those that are held. `Over` comes where none is left, or a fault, and no samples are
-    // held back.
+    // One token of those that are held. `Over` comes where none is left, or a fault, and no samples
+    // are held back.
     #[inline(always)]
     fn held_step(&mut self) -> Step
         requires running { self.old.phase ≡ Running }
@@ -184,8 +191,9 @@ impl VcdReader {
         }
     }
 
-    /// The next run of what is held, as `next` gives it, where a run was given before. `None` comes where
-    /// no token with a blank behind it is held, and no samples are held back. Nothing is read.
+    /// The next run of what is held, as `next` gives it, where a run was given before. `None` comes
+    /// where no token with a blank behind it is held, and no samples are held back. Nothing is
+    /// read.
     #[inline(always)]
     pub fn held_run(&mut self) -> Option<Run>
         ensures given { GaveHeld self.old self.new (run_samples result) }
@@ -328,9 +336,9 @@ impl VcdReader {
         }
     }
 
-    /// The next run, or `None` at a clean end. It reads only where no token with a blank behind it is
-    /// held. After every answer but a run it is closed. `Fault` comes exactly where the capture has
-    /// one, and `Read` where the source failed, both after all samples that came before.
+    /// The next run, or `None` at a clean end. It reads only where no token with a blank behind it
+    /// is held. After every answer but a run it is closed. `Fault` comes exactly where the capture
+    /// has one, and `Read` where the source failed, both after all samples that came before.
     pub fn next<S: Source>(&mut self, source: &mut S) -> Result<Option<Run>, CaptureError>
         requires { vcd_open self.old ≡ true }
         ensures next { Gives self.old self.new (S.left source.old) (S.left source.new) result }

@@ -1,7 +1,9 @@
 // The sections of a header, and what their words declare.
 ghost use Rattle.std.specs.Prelude.{◌≡◌, ◌≤◌, ◌&&◌, nat_le, map, IfOk, IfSome};
-ghost use Rattle.capture_vcd.specs.Header.{a_second, first_at, has_no_channel, is_code, joined, scale_by, scale_of};
-ghost use Rattle.capture_vcd.specs.Gathered.{Opens, VariableGives, WidthGives, per_second, placed, scale_said};
+ghost use Rattle.capture_vcd.specs.Header.{a_second, first_at, has_no_channel, is_code, joined};
+ghost use Rattle.capture_vcd.specs.Header.{scale_by, scale_of};
+ghost use Rattle.capture_vcd.specs.Gathered.{Opens, VariableGives, WidthGives, per_second, placed};
+ghost use Rattle.capture_vcd.specs.Gathered.{scale_said};
 
 use crate::scale::Scale;
 use crate::tokens::number_of;

@@ -4,7 +4,8 @@ ghost use Rattle.std.specs.Int.{bit_at};
 ghost use Rattle.la_base.specs.Naming.{same_name};
 ghost use Rattle.capture_vcd.specs.Following.{is_one, level_bit, word_bits};
 ghost use Rattle.capture_vcd.specs.Linked.{Linked};
-ghost use Rattle.capture_vcd.specs.Slots.{assigned, changed, channel_of, code_at, level_of, valued, with_level};
+ghost use Rattle.capture_vcd.specs.Slots.{assigned, changed, channel_of, code_at, level_of, valued};
+ghost use Rattle.capture_vcd.specs.Slots.{with_level};
 
 use crate::chains::Chains;
 use la_base::{MOST_PINS, Word};

@@ -1,5 +1,6 @@
 // What a token says that belongs to nothing before it.
-ghost use Rattle.std.specs.Prelude.{◌≡◌, ◌+◌, ◌*◌, ◌-◌, ◌^◌, ◌≤◌, ◌<◌, ◌&&◌, ◌||◌, ◌==◌, not, length, min};
+ghost use Rattle.std.specs.Prelude.{◌≡◌, ◌+◌, ◌*◌, ◌-◌, ◌^◌, ◌≤◌, ◌<◌, ◌&&◌, ◌||◌, ◌==◌, not};
+ghost use Rattle.std.specs.Prelude.{length, min};
 ghost use Rattle.std.specs.List.{list_all};
 ghost use Rattle.text_parts.specs.Numbers.{is_number, number_after};
 ghost use Rattle.capture_vcd.specs.Body.{first_is, is_digit};
@@ -108,7 +109,8 @@ fn is_scalar(first: u8, rest: &[u8]) -> bool
 
 // A value of digits, at least one.
 fn is_vector(first: u8, rest: &[u8]) -> bool
-    ensures { result ≡ (first_is first 98 66 && not (length rest.now == 0) && list_all is_digit rest.now) }
+    ensures { result
+        ≡ (first_is first 98 66 && not (length rest.now == 0) && list_all is_digit rest.now) }
 {
     (first == b'b' || first == b'B') && !rest.is_empty() && all_digits(rest)
 }

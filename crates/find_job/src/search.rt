@@ -23,7 +23,8 @@ pub fn find<S: Source, K: Sink>(
 ) -> FindEnd
     requires { is_open_of capture.old ≡ true }
     // What the end says of the bytes that were taken and of what was written.
-    ensures finds { Finds capture.old (cond_alts cond) (S.left source.old) (S.left source.new) (K.written sink.old) (K.written sink.new) result }
+    ensures finds { Finds capture.old (cond_alts cond) (S.left source.old) (S.left source.new)
+        (K.written sink.old) (K.written sink.new) result }
     // Read comes only where the source failed.
     ensures read { ReadCause (S.faults source.old) (S.faults source.new) result }
     // Write comes exactly where the sink failed.
@@ -58,7 +59,8 @@ pub fn find_buffered<S: Source, K: Sink>(
     sink: &mut K,
 ) -> FindEnd
     requires { is_open_of capture.old ≡ true }
-    ensures finds { Finds capture.old (cond_alts cond) (S.left source.old) (S.left source.new) (K.written sink.old) (K.written sink.new) result }
+    ensures finds { Finds capture.old (cond_alts cond) (S.left source.old) (S.left source.new)
+        (K.written sink.old) (K.written sink.new) result }
     ensures read { ReadCause (S.faults source.old) (S.faults source.new) result }
     ensures write { WriteCause (K.faults sink.old) (K.faults sink.new) result }
     ensures memory { TakesNoMemory (form_of capture.old) → result ≢ FindEnd.NoMemory }

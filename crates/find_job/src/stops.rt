@@ -22,8 +22,10 @@ fn write_stops<K: Sink>(
     sink: &mut K,
 ) -> Result<(), Failed>
     requires { consumed_by waiter.old + run.len ≤ 2 ^ 60 }
-    ensures written { (list : List ℕ) (stops : List Stop) → Waits waiter.old list → Chain list (alts_of waiter.old) 0 stops (wait_from waiter.old)
-        → Written waiter.new waiter.old (samples run) list stops (K.written sink.old) (K.written sink.new) result }
+    ensures written { (list : List ℕ) (stops : List Stop) → Waits waiter.old list
+        → Chain list (alts_of waiter.old) 0 stops (wait_from waiter.old)
+        → Written waiter.new waiter.old (samples run) list stops (K.written sink.old)
+        (K.written sink.new) result }
     ensures consumed { OnOk result (consumed_by waiter.new ≡ consumed_by waiter.old + run.len) }
     ensures alts { alts_of waiter.new ≡ alts_of waiter.old }
     ensures cause { HasCause (K.faults sink.old) (K.faults sink.new) result }
@@ -62,8 +64,10 @@ fn write_run<K: Sink>(
     sink: &mut K,
 ) -> Result<(), Failed>
     requires { consumed_by waiter.old + run.len ≤ 2 ^ 60 }
-    ensures written { (list : List ℕ) (stops : List Stop) → Waits waiter.old list → Chain list (alts_of waiter.old) 0 stops (wait_from waiter.old)
-        → Written waiter.new waiter.old (samples run) list stops (K.written sink.old) (K.written sink.new) result }
+    ensures written { (list : List ℕ) (stops : List Stop) → Waits waiter.old list
+        → Chain list (alts_of waiter.old) 0 stops (wait_from waiter.old)
+        → Written waiter.new waiter.old (samples run) list stops (K.written sink.old)
+        (K.written sink.new) result }
     ensures consumed { OnOk result (consumed_by waiter.new ≡ consumed_by waiter.old + run.len) }
     ensures alts { alts_of waiter.new ≡ alts_of waiter.old }
     ensures cause { HasCause (K.faults sink.old) (K.faults sink.new) result }
@@ -76,8 +80,8 @@ fn write_run<K: Sink>(
     write_stops(waiter, run, line, sink)
 }
 
-// Writes the line of each stop in runs by the masks of what is waited for. It isn't inlined, so that the walk has its
-// registers.
+// Writes the line of each stop in runs by the masks of what is waited for. It isn't inlined, so
+// that the walk has its registers.
 #[inline(never)]
 fn write_exact<K: Sink>(
     waiter: &mut Waiter,
@@ -88,9 +92,12 @@ fn write_exact<K: Sink>(
     requires room { consumed_by waiter.old + length (samples_of runs.now) ≤ 2 ^ 60 }
     requires exact { IsExact (alts_of waiter.old) }
     requires some { consumed_by waiter.old ≢ 0 }
-    ensures written { (list : List ℕ) (stops : List Stop) → Waits waiter.old list → Chain list (alts_of waiter.old) 0 stops (wait_from waiter.old)
-        → Written waiter.new waiter.old (samples_of runs.now) list stops (K.written sink.old) (K.written sink.new) result }
-    ensures consumed { OnOk result (consumed_by waiter.new ≡ consumed_by waiter.old + length (samples_of runs.now)) }
+    ensures written { (list : List ℕ) (stops : List Stop) → Waits waiter.old list
+        → Chain list (alts_of waiter.old) 0 stops (wait_from waiter.old)
+        → Written waiter.new waiter.old (samples_of runs.now) list stops (K.written sink.old)
+        (K.written sink.new) result }
+    ensures consumed { OnOk result
+        (consumed_by waiter.new ≡ consumed_by waiter.old + length (samples_of runs.now)) }
     ensures alts { alts_of waiter.new ≡ alts_of waiter.old }
     ensures cause { HasCause (K.faults sink.old) (K.faults sink.new) result }
     ensures goes_on { K.goes_on sink.old sink.new }
@@ -122,9 +129,12 @@ pub fn write_runs<K: Sink>(
     sink: &mut K,
 ) -> Result<(), Failed>
     requires { consumed_by waiter.old + length (samples_of runs.now) ≤ 2 ^ 60 }
-    ensures written { (list : List ℕ) (stops : List Stop) → Waits waiter.old list → Chain list (alts_of waiter.old) 0 stops (wait_from waiter.old)
-        → Written waiter.new waiter.old (samples_of runs.now) list stops (K.written sink.old) (K.written sink.new) result }
-    ensures consumed { OnOk result (consumed_by waiter.new ≡ consumed_by waiter.old + length (samples_of runs.now)) }
+    ensures written { (list : List ℕ) (stops : List Stop) → Waits waiter.old list
+        → Chain list (alts_of waiter.old) 0 stops (wait_from waiter.old)
+        → Written waiter.new waiter.old (samples_of runs.now) list stops (K.written sink.old)
+        (K.written sink.new) result }
+    ensures consumed { OnOk result
+        (consumed_by waiter.new ≡ consumed_by waiter.old + length (samples_of runs.now)) }
     ensures alts { alts_of waiter.new ≡ alts_of waiter.old }
     ensures cause { HasCause (K.faults sink.old) (K.faults sink.new) result }
     ensures goes_on { K.goes_on sink.old sink.new }

@@ -1,5 +1,6 @@
 -- How a channel is found by a reference.
-use Rattle.std.specs.Prelude.{ℕ, Bool, List, length, Option, Some, None, nat_le, nat_lt, ◌&&◌, if◌then◌else◌, nat_eq}
+use Rattle.std.specs.Prelude.{ℕ, Bool, List, length, Option, Some, None, nat_le, nat_lt, ◌&&◌}
+use Rattle.std.specs.Prelude.{if◌then◌else◌, nat_eq}
 use Rattle.std.specs.List.{position, list_all}
 use Rattle.std.specs.Cmp.Lexicographic.{pointwise}
 use Rattle.std.specs.Char.{is_ascii_digit}
@@ -29,4 +30,6 @@ or_else None other = other
 
 -- the least channel of that name, else the channel of that number
 abbrev pub find_channel : List (List ℕ) → List ℕ → Option ℕ
-find_channel names reference = or_else (position (λ name. same_name name reference) names) (below (length names) (number_of reference))
+find_channel names reference =
+    or_else (position (λ name. same_name name reference) names)
+    (below (length names) (number_of reference))

@@ -1,5 +1,6 @@
 -- Samples, and the runs that stand for them.
-use Rattle.std.specs.Prelude.{ℕ, zero, suc, Bool, List, replicate, ◌==◌, slice_index, Option, Some, None}
+use Rattle.std.specs.Prelude.{ℕ, zero, suc, Bool, List, replicate, ◌==◌, slice_index, Option, Some}
+use Rattle.std.specs.Prelude.{None}
 use Rattle.std.specs.Int.{bit_at}
 use Rattle.la_base.specs.declared.samples.Run.{Run}
 

@@ -1,4 +1,5 @@
-//! Samples and their runs, packets, notes and channel names of logic captures, and how tables are read.
+//! Samples and their runs, packets, notes and channel names of logic captures, and how tables are
+//! read.
 #![tactic(auto)]
 
 mod kinds;

@@ -1,5 +1,6 @@
 // The names of channels.
-ghost use Rattle.std.specs.Prelude.{◌≡◌, ◌<◌, ◌≤◌, ◌^◌, ◌++◌, [], ◌∷◌, List, ℕ, length, map, vec_len, OnOk, OnErr, IfSome};
+ghost use Rattle.std.specs.Prelude.{◌≡◌, ◌<◌, ◌≤◌, ◌^◌, ◌++◌, [], ◌∷◌, List, ℕ, length, map};
+ghost use Rattle.std.specs.Prelude.{vec_len, OnOk, OnErr, IfSome};
 ghost use Rattle.std.specs.List.{position};
 ghost use Rattle.la_base.specs.Naming.{find_channel, number_of, below, same_name};
 
@@ -25,8 +26,8 @@ impl<T: Drop> From<AllocFailed<T>> for NoMemory {
 /// The most channels that a capture declares.
 pub const MOST_NAMES: usize = 4096;
 
-/// The names of a capture's channels, each a list of bytes, from channel 0 on: at most `MOST_NAMES`.
-/// Contracts see them as the list of these lists.
+/// The names of a capture's channels, each a list of bytes, from channel 0 on: at most
+/// `MOST_NAMES`. Contracts see them as the list of these lists.
 #[derive(Drop)]
 pub struct Names {
     alloc: Global,
@@ -52,7 +53,8 @@ impl Names {
         }
     }
 
-    /// Adds the name of the next channel. It fails where there is no memory, and then changes nothing.
+    /// Adds the name of the next channel. It fails where there is no memory, and then changes
+    /// nothing.
     pub fn push(&mut self, name: &[u8]) -> Result<(), NoMemory>
         requires { length self.old < 4096 }
         ensures ok { OnOk result (self.new ≡ self.old ++ name.now ∷ []) }

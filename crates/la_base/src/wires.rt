@@ -22,8 +22,8 @@ pub enum Wire {
     Nothing,
 }
 
-/// What a packet is. The first part of a name says the protocol; `Ow` is the link of 1-Wire and `Net`
-/// its network.
+/// What a packet is. The first part of a name says the protocol; `Ow` is the link of 1-Wire and
+/// `Net` its network.
 #[derive(Clone, Copy, Debug, PartialEq, Eq)]
 pub enum PacketKind {
     I2cStart,
@@ -69,8 +69,8 @@ pub struct Note {
     ghost in_order: { start ≤ end },
 }
 
-/// A byte of binary data: a class of its decoder, and the samples from number `start` to number `end`,
-/// both counted.
+/// A byte of binary data: a class of its decoder, and the samples from number `start` to number
+/// `end`, both counted.
 #[derive(Clone, Copy, Debug, PartialEq, Eq)]
 pub struct Piece {
     pub class: u16,

@@ -1,5 +1,5 @@
-//! The program `ldecode` over any streams: what its words ask for, its help and its version, and the exit
-//! status.
+//! The program `ldecode` over any streams: what its words ask for, its help and its version, and
+//! the exit status.
 #![tactic(auto)]
 
 mod help;

@@ -7,7 +7,8 @@ ghost use Rattle.ldecode.specs.Headline.{stream};
 ghost use Rattle.ldecode_program.specs.Help.{IsHelp};
 ghost use Rattle.ldecode_program.specs.Programs.{Does, MadeWritten, TextWritten};
 ghost use Rattle.ldecode_program.specs.Requests.{requested};
-ghost use Rattle.ldecode_program.specs.declared.help.TheConstants.{DECODERS, EXAMPLES, USAGE, VERSION};
+ghost use Rattle.ldecode_program.specs.declared.help.TheConstants.{DECODERS, EXAMPLES, USAGE};
+ghost use Rattle.ldecode_program.specs.declared.help.TheConstants.{VERSION};
 
 use crate::help::{VERSION, help_text};
 use crate::request::{Request, request_of};
@@ -27,7 +28,8 @@ fn tell<K: Sink>(text: &str, sink: &mut K) -> u8
 
 // Writes the help, and answers the exit status.
 fn tell_help<K: Sink>(alloc: Global, sink: &mut K) -> u8
-    ensures { MadeWritten (IsHelp USAGE.now DECODERS.now EXAMPLES.now OPTIONS KINDS) (stream K.written K.faults sink.old sink.new) result }
+    ensures { MadeWritten (IsHelp USAGE.now DECODERS.now EXAMPLES.now OPTIONS KINDS)
+        (stream K.written K.faults sink.old sink.new) result }
 {
     match help_text(alloc) {
         Ok(text) => tell(text.as_str(), sink),
@@ -35,9 +37,9 @@ fn tell_help<K: Sink>(alloc: Global, sink: &mut K) -> u8
     }
 }
 
-/// Does what the words ask for, and answers the exit status of the program: the help or the version on
-/// the sink, where the first word asks for it, with the status of a run that wrote it; else a run of
-/// the words over these streams.
+/// Does what the words ask for, and answers the exit status of the program: the help or the version
+/// on the sink, where the first word asks for it, with the status of a run that wrote it; else a
+/// run of the words over these streams.
 pub fn program<S: Source, K: Sink, E: Sink>(
     alloc: Global,
     words: &[String],
@@ -45,8 +47,11 @@ pub fn program<S: Source, K: Sink, E: Sink>(
     sink: &mut K,
     notices: &mut E,
 ) -> u8
-    ensures { Does (requested (map string_bytes words.now)) (IsHelp USAGE.now DECODERS.now EXAMPLES.now OPTIONS KINDS) VERSION.now (map string_bytes words.now)
-        (stream S.left S.faults source.old source.new) (stream K.written K.faults sink.old sink.new) (stream E.written E.faults notices.old notices.new)
+    ensures { Does (requested (map string_bytes words.now))
+        (IsHelp USAGE.now DECODERS.now EXAMPLES.now OPTIONS KINDS) VERSION.now
+        (map string_bytes words.now)
+        (stream S.left S.faults source.old source.new) (stream K.written K.faults sink.old sink.new)
+        (stream E.written E.faults notices.old notices.new)
         (source.new ≡ source.old) (notices.new ≡ notices.old) result }
 {
     match request_of(words) {

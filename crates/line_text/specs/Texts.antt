@@ -1,5 +1,6 @@
 -- Numbers as text.
-use Rattle.std.specs.Prelude.{ℕ, ◌-◌, Bool, true, List, [], ◌∷◌, ◌++◌, length, replicate, if◌then◌else◌}
+use Rattle.std.specs.Prelude.{ℕ, ◌-◌, Bool, true, List, [], ◌∷◌, ◌++◌, length, replicate}
+use Rattle.std.specs.Prelude.{if◌then◌else◌}
 use Rattle.std.specs.Fmt.{decimal, digits}
 
 -- a text behind as many `0` as it lacks of a width
@@ -16,4 +17,5 @@ sign negative = if negative then 45 ∷ [] else []
 
 -- a sign, a whole number, a point, and a part of that many digits
 abbrev pub fixed : Bool → ℕ → ℕ → ℕ → List ℕ
-fixed negative whole part width = sign negative ++ decimal whole ++ 46 ∷ [] ++ padded width (decimal part)
+fixed negative whole part width =
+    sign negative ++ decimal whole ++ 46 ∷ [] ++ padded width (decimal part)

@@ -6,9 +6,9 @@ use crate::ShortText;
 use itoa::Buffer;
 use std::marker::Model;
 
-/// A number and its text in decimal, with no leading zero. Contracts see the number. The text is kept, so
-/// that of a number which differs from the one before in its last two digits alone, or its last four, these
-/// are made anew.
+/// A number and its text in decimal, with no leading zero. Contracts see the number. The text is
+/// kept, so that of a number which differs from the one before in its last two digits alone, or its
+/// last four, these are made anew.
 #[derive(Drop)]
 pub struct Decimal {
     digits: ShortText,
@@ -24,7 +24,12 @@ impl Model for Decimal {
 
     ghost view = { λ s. s.number };
 
-    ghost invariant = { λ s. record { digits : s.digits ≡ decimal s.number; hundreds : s.hundreds ≡ s.number / 100 * 100; myriads : s.myriads ≡ s.number / 10000 * 10000 } };
+    ghost invariant = { λ s.
+        record {
+          digits : s.digits ≡ decimal s.number;
+          hundreds : s.hundreds ≡ s.number / 100 * 100;
+          myriads : s.myriads ≡ s.number / 10000 * 10000;
+        } };
 }
 
 impl Decimal {

@@ -75,8 +75,8 @@ impl LineBuf {
         self.len += 1;
     }
 
-    /// Appends a number in decimal, with no leading zero, where there is room for any: it has at most 20
-    /// digits.
+    /// Appends a number in decimal, with no leading zero, where there is room for any: it has at
+    /// most 20 digits.
     #[tactic(auto, using(crate::proofs::Widths::decimal_room))]
     pub fn push_number(&mut self, n: u64)
         requires { length self.old ≤ 236 }
@@ -121,8 +121,8 @@ impl LineBuf {
         self.push_padded(&places[start..], digits);
     }
 
-    /// Appends a label, and a number in upper case hexadecimal with leading zeros up to `digits` digits, where
-    /// there is room for any.
+    /// Appends a label, and a number in upper case hexadecimal with leading zeros up to `digits`
+    /// digits, where there is room for any.
     #[tactic(auto, using(crate::proofs::Widths::hex_room))]
     #[inline(never)]
     pub fn push_labelled(&mut self, label: &[u8], n: u64, digits: u32)
@@ -142,7 +142,8 @@ impl LineBuf {
         requires part { part < 10 ^ digits }
         requires room { length self.old + length (fixed negative whole part digits) ≤ 256 }
         ensures text { self.new ≡ self.old ++ fixed negative whole part digits }
-        ensures grows { length self.new ≡ length self.old + length (fixed negative whole part digits) }
+        ensures grows { length self.new
+            ≡ length self.old + length (fixed negative whole part digits) }
     {
         if negative {
             self.push_bytes(b"-");

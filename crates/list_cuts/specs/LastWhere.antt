@@ -1,5 +1,6 @@
 -- The last place of a list at which something holds.
-use Rattle.std.specs.Prelude.{ℕ, suc, ◌≡◌, ◌<◌, Bool, true, false, cond, List, [], ◌∷◌, Option, Some, None, slice_get}
+use Rattle.std.specs.Prelude.{ℕ, suc, ◌≡◌, ◌<◌, Bool, true, false, cond, List, [], ◌∷◌, Option}
+use Rattle.std.specs.Prelude.{Some, None, slice_get}
 
 -- the place behind the head, else the head's own where it passes
 abbrev pub later_place : Option ℕ → Bool → Option ℕ
@@ -22,7 +23,8 @@ last_that test [] = None
 last_that test (x ∷ xs) = later_one (last_that test xs) (test x) x
 
 -- at a place stands an element that passes, and none behind it does
-pub record StandsLast {X : Type 0} (test : X → Bool) (list : List X) (place : ℕ) (element : X) : Type 0 where
+pub record StandsLast {X : Type 0} (test : X → Bool) (list : List X) (place : ℕ)
+    (element : X) : Type 0 where
   pub stands : slice_get list place ≡ Some element
   pub passes : test element ≡ true
   pub behind : (k : ℕ) (other : X) → place < k → slice_get list k ≡ Some other → test other ≡ false

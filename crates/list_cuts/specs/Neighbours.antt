@@ -2,9 +2,11 @@
 use Rattle.std.specs.Prelude.{ℕ, ◌≡◌, ◌+◌, ◌≤◌, List, [], ◌∷◌, ◌++◌, Option, Some, None}
 
 -- what elements give, the first of which stands at place k and follows `before`
-abbrev pub neighbours_from : {X E : Type 0} → (ℕ → Option X → X → List E) → ℕ → Option X → List X → List E
+abbrev pub neighbours_from : {X E : Type 0} → (ℕ → Option X → X → List E) → ℕ → Option X → List X
+    → List E
 neighbours_from f k before [] = []
-neighbours_from f k before (now ∷ later) = f k before now ++ neighbours_from f (k + 1) (Some now) later
+neighbours_from f k before (now ∷ later) =
+    f k before now ++ neighbours_from f (k + 1) (Some now) later
 
 -- what f gives at each place, from the element before it (none at place 0) and the element there
 abbrev pub at_neighbours : {X E : Type 0} → (ℕ → Option X → X → List E) → List X → List E

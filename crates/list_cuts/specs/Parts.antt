@@ -1,5 +1,6 @@
 -- A list cut at marks.
-use Rattle.std.specs.Prelude.{ℕ, ◌≡◌, Bool, true, false, cond, ◌||◌, List, [], ◌∷◌, ◌++◌, Option, Some, None, slice_get}
+use Rattle.std.specs.Prelude.{ℕ, ◌≡◌, Bool, true, false, cond, ◌||◌, List, [], ◌∷◌, ◌++◌, Option}
+use Rattle.std.specs.Prelude.{Some, None, slice_get}
 
 -- what stands before the first mark
 abbrev pub before_mark : {X : Type 0} → (X → Bool) → List X → List X
@@ -40,7 +41,9 @@ cuts begins ends x = begins x || ends x
 -- the parts that begin at a beginning, each up to the next beginning or end
 abbrev pub parts_between : {X : Type 0} → (X → Bool) → (X → Bool) → List X → List (Part X)
 parts_between begins ends [] = []
-parts_between begins ends (x ∷ xs) = cond (begins x) (part_from (cuts begins ends) x xs ∷ parts_between begins ends xs) (parts_between begins ends xs)
+parts_between begins ends (x ∷ xs) =
+    cond (begins x) (part_from (cuts begins ends) x xs ∷ parts_between begins ends xs)
+    (parts_between begins ends xs)
 
 -- the last of some lists with y behind it
 abbrev pub grow_last : {X : Type 0} → List (List X) → X → List (List X)

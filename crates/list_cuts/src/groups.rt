@@ -4,7 +4,8 @@ ghost use Rattle.list_cuts.specs.Groups.{groups, after_groups};
 
 use std::alloc::{AllocError, Global};
 
-/// The whole groups of `size` items, in order; what they leave is in none. There is no group of no item.
+/// The whole groups of `size` items, in order; what they leave is in none. There is no group of no
+/// item.
 pub fn groups_of<T: Copy>(alloc: Global, size: usize, list: &[T]) -> Result<Vec<Vec<T>>, AllocError>
     ensures { IfOk result (λ lists. map (λ group. group.items) lists.items ≡ groups size list.now) }
 {
@@ -21,7 +22,8 @@ pub fn groups_of<T: Copy>(alloc: Global, size: usize, list: &[T]) -> Result<Vec<
     Ok(lists)
 }
 
-/// What the whole groups of `size` items leave: fewer items than a group has. Groups of no item leave the whole list.
+/// What the whole groups of `size` items leave: fewer items than a group has. Groups of no item
+/// leave the whole list.
 pub fn after_groups_of<T: Copy>(size: usize, list: &[T]) -> &[T]
     ensures { result.now ≡ after_groups size list.now }
 {

@@ -1,8 +1,10 @@
 // Laws of the cuts of a list, each on a function that does nothing.
 ghost use Rattle.std.specs.Prelude.{ℕ, ◌<◌, List, Bool, Option};
-ghost use Rattle.list_cuts.specs.Laws.{Along, Bits, Groups, LastWhere, Neighbours, Parts, PartsBetween, Places};
+ghost use Rattle.list_cuts.specs.Laws.{Along, Bits, Groups, LastWhere, Neighbours, Parts};
+ghost use Rattle.list_cuts.specs.Laws.{PartsBetween, Places};
 
-/// The groups of a list are its items in order, with less than a group left; one more item ends a group or is left.
+/// The groups of a list are its items in order, with less than a group left; one more item ends a
+/// group or is left.
 pub fn group_laws<T>()
     ensures { (n : ℕ) → 0 < n → Groups T n }
 {}
@@ -17,12 +19,14 @@ pub fn part_laws<T>()
     ensures { (mark : T → Bool) → Parts T mark }
 {}
 
-/// One more item begins a part of its own, or ends the last one, or joins it where nothing has ended it.
+/// One more item begins a part of its own, or ends the last one, or joins it where nothing has
+/// ended it.
 pub fn between_laws<T>()
     ensures { (begins ends : T → Bool) → PartsBetween T begins ends }
 {}
 
-/// The last place that passes is a place that passes, behind which none does; one more item is it or changes nothing.
+/// The last place that passes is a place that passes, behind which none does; one more item is it
+/// or changes nothing.
 pub fn last_laws<T>()
     ensures { (test : T → Bool) → LastWhere T test }
 {}

@@ -1,7 +1,8 @@
-//! Whole lists, cut: what neighbours give, parts between marks, groups of a size, and the last place at which
-//! something holds. Each is a short definition over the whole list, a law for one more element, and a plain program
-//! that computes it on small lists and that faster ones are compared with. Beside them stand definitions with laws
-//! alone: what items give with all those before them, the numbers that bits make up, and first and last places.
+//! Whole lists, cut: what neighbours give, parts between marks, groups of a size, and the last
+//! place at which something holds. Each is a short definition over the whole list, a law for one
+//! more element, and a plain program that computes it on small lists and that faster ones are
+//! compared with. Beside them stand definitions with laws alone: what items give with all those
+//! before them, the numbers that bits make up, and first and last places.
 #![tactic(auto)]
 
 mod groups;

@@ -17,7 +17,8 @@ pub trait Gives<T, E> {
         now: T,
         events: &mut Vec<E>,
     ) -> Result<(), AllocError>
-        ensures { OnOk result (events.new.items ≡ events.old.items ++ gives self.now place before now) };
+        ensures { OnOk result
+            (events.new.items ≡ events.old.items ++ gives self.now place before now) };
 }
 
 /// What the items of a list give, in order.

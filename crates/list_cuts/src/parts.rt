@@ -35,13 +35,15 @@ fn headed<T: Copy>(alloc: Global, head: T, others: &[T]) -> Result<Vec<T>, Alloc
     Ok(items)
 }
 
-/// The parts that begin at a mark, each up to the next; what stands before the first mark is in none.
+/// The parts that begin at a mark, each up to the next; what stands before the first mark is in
+/// none.
 pub fn parts_of<T: Copy, M: Test<T>>(
     alloc: Global,
     mark: &M,
     list: &[T],
 ) -> Result<Vec<Vec<T>>, AllocError>
-    ensures { IfOk result (λ lists. map (λ part. part.items) lists.items ≡ parts (M.passes mark.now) list.now) }
+    ensures { IfOk result
+        (λ lists. map (λ part. part.items) lists.items ≡ parts (M.passes mark.now) list.now) }
 {
     let mut lists = Vec::new(alloc);
     for (place, item) in list.iter().enumerate() {
@@ -59,7 +61,8 @@ fn up_to<'a, T: Copy, B: Test<T>, E: Test<T>>(
     ends: &E,
     list: &'a [T],
 ) -> (&'a [T], Option<T>)
-    ensures front { result.0.now ≡ before_mark (cuts (B.passes begins.now) (E.passes ends.now)) list.now }
+    ensures front { result.0.now
+        ≡ before_mark (cuts (B.passes begins.now) (E.passes ends.now)) list.now }
     ensures mark { result.1 ≡ first_mark (cuts (B.passes begins.now) (E.passes ends.now)) list.now }
 {
     for (place, item) in list.iter().enumerate() {
@@ -73,15 +76,17 @@ fn up_to<'a, T: Copy, B: Test<T>, E: Test<T>>(
     (list, None)
 }
 
-/// The parts that begin at a beginning, each up to the next beginning or end; what stands between an end and the
-/// next beginning is in none.
+/// The parts that begin at a beginning, each up to the next beginning or end; what stands between
+/// an end and the next beginning is in none.
 pub fn parts_between<T: Copy, B: Test<T>, E: Test<T>>(
     alloc: Global,
     begins: &B,
     ends: &E,
     list: &[T],
 ) -> Result<Vec<Part<T>>, AllocError>
-    ensures { IfOk result (λ lists. map kept lists.items ≡ parts_between (B.passes begins.now) (E.passes ends.now) list.now) }
+    ensures { IfOk result
+        (λ lists. map kept lists.items
+        ≡ parts_between (B.passes begins.now) (E.passes ends.now) list.now) }
 {
     let mut lists = Vec::new(alloc);
     for (place, item) in list.iter().enumerate() {

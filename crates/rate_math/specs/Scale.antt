@@ -13,7 +13,8 @@ in_second Ns = 10 ^ 9
 in_second Ps = 10 ^ 12
 in_second Fs = 10 ^ 15
 
--- the rate is the unit's over the product; there is none exactly where the product is no number of 64 bits
+-- the rate is the unit's over the product; there is none exactly where the product is no number of
+-- 64 bits
 abbrev pub IsScale : ℕ → TimeUnit → ℕ → Option Rate → Type 0
 IsScale count unit down (Some rate) = (rate.num ≡ in_second unit) × (rate.den ≡ count * down)
 IsScale count unit down None = 2 ^ 64 ≤ count * down

@@ -4,8 +4,8 @@ ghost use Rattle.rate_math.specs.Counts.{point, samples_of_bits};
 
 use la_base::Rate;
 
-/// Where `sp` hundredths of bit `i` lie, in whole samples behind the start of bit 0, at `baud` bits a second:
-/// floor((100 * i + sp) * num / (100 * baud * den)).
+/// Where `sp` hundredths of bit `i` lie, in whole samples behind the start of bit 0, at `baud` bits
+/// a second: floor((100 * i + sp) * num / (100 * baud * den)).
 pub fn point(rate: Rate, baud: u64, sp: u64, i: u64) -> u64
     requires rate { rate.num ≤ 10 ^ 15 }
     requires baud { (1 ≤ baud) × (baud ≤ 10 ^ 7) }
@@ -16,7 +16,8 @@ pub fn point(rate: Rate, baud: u64, sp: u64, i: u64) -> u64
     (100 * i + sp) * rate.num / (100 * baud) / rate.den
 }
 
-/// How many whole samples `count` bits have, at `baud` bits a second: floor(count * num / (baud * den)).
+/// How many whole samples `count` bits have, at `baud` bits a second: floor(count * num / (baud *
+/// den)).
 pub fn samples_of_bits(rate: Rate, baud: u64, count: u64) -> u64
     requires rate { rate.num ≤ 10 ^ 15 }
     requires baud { (1 ≤ baud) × (baud ≤ 10 ^ 7) }

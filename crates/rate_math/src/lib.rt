@@ -1,5 +1,5 @@
-//! Counts of samples from rates and times, exact: at which sample a part of a bit is, how many samples some bits or
-//! a time have, and the rate of a timescale. No sum or product loses a digit.
+//! Counts of samples from rates and times, exact: at which sample a part of a bit is, how many
+//! samples some bits or a time have, and the rate of a timescale. No sum or product loses a digit.
 #![tactic(auto)]
 
 mod bits;

@@ -35,8 +35,8 @@ impl TimeUnit {
 
 ghost use Rattle.rate_math.specs.Scale.{IsScale};
 
-/// The rate of samples each of which stands for `down` steps of `count` units. `None` comes exactly where
-/// `count * down` isn't below 2^64.
+/// The rate of samples each of which stands for `down` steps of `count` units. `None` comes exactly
+/// where `count * down` isn't below 2^64.
 pub fn timescale(count: u64, unit: TimeUnit, down: u64) -> Option<Rate>
     requires count { 1 ≤ count }
     requires down { 1 ≤ down }

@@ -1,5 +1,6 @@
 -- The stack that words make, or the first fault.
-use Rattle.std.specs.Prelude.{ℕ, ◌+◌, ◌==◌, Bool, true, List, [], length, min, slice_get, Option, Some, None, Result, Ok, Err, if◌then◌else◌, codes}
+use Rattle.std.specs.Prelude.{ℕ, ◌+◌, ◌==◌, Bool, true, List, [], length, min, slice_get, Option}
+use Rattle.std.specs.Prelude.{Some, None, Result, Ok, Err, if◌then◌else◌, codes}
 use Rattle.std.specs.List.{before_first, after_first, list_any}
 use Rattle.std.specs.Str.{bytes_eq}
 use Rattle.text_parts.specs.Chains.{WordText}
@@ -12,7 +13,8 @@ use Rattle.stack_spec.specs.Instances.{Instance, place_named}
 use Rattle.stack_spec.specs.Options.{is_colon, fault}
 use Rattle.stack_spec.specs.Chains.{instances_of}
 
--- a stack: its instances; the places of those that are shown, none for all; the instance and class whose binary data is wanted
+-- a stack: its instances; the places of those that are shown, none for all; the instance and class
+-- whose binary data is wanted
 pub record Accepted : Type 0 where
   pub instances : List Instance
   pub shown : Option (List ℕ)
@@ -41,10 +43,13 @@ abbrev pub some_of : {X : Type 0} → Result X StackFault → Result (Option X) 
 some_of (Ok x) = Ok (Some x)
 some_of (Err fault) = Err fault
 
--- the instances that are shown: all where no word says which, or the word is `all`; else those whose names stand between commas
+-- the instances that are shown: all where no word says which, or the word is `all`; else those
+-- whose names stand between commas
 abbrev pub shown_of : List Instance → Option WordText → Result (Option (List ℕ)) StackFault
 shown_of instances None = Ok None
-shown_of instances (Some show) = if bytes_eq show.text (codes "all") then Ok None else some_of (names_of instances show.word show.text)
+shown_of instances (Some show) =
+    if bytes_eq show.text (codes "all") then Ok None
+    else some_of (names_of instances show.word show.text)
 
 -- the class of this name that an instance has
 abbrev pub class_in : Option Instance → Text → Option ℕ
@@ -57,11 +62,16 @@ class_place text = min (length (before_first is_colon text) + 1) (length text)
 
 -- the class that a text names of the instance at a place
 abbrev pub class_at : List Instance → ℕ → Text → ℕ → Result (ℕ × ℕ) StackFault
-class_at instances word text place = then_read (known word (class_place text) (class_in (slice_get instances place) (after_first is_colon text))) (λ class. Ok (place, class))
+class_at instances word text place =
+    then_read
+    (known word (class_place text)
+    (class_in (slice_get instances place) (after_first is_colon text))) (λ class. Ok (place, class))
 
 -- an instance and one of its classes, by their names with `:` between them
 abbrev pub class_of_name : List Instance → ℕ → Text → Result (ℕ × ℕ) StackFault
-class_of_name instances word text = then_read (known word 0 (place_named instances (before_first is_colon text))) (class_at instances word text)
+class_of_name instances word text =
+    then_read (known word 0 (place_named instances (before_first is_colon text)))
+    (class_at instances word text)
 
 -- the binary data that is wanted, if any is
 abbrev pub binary_of : List Instance → Option WordText → Result (Option (ℕ × ℕ)) StackFault

@@ -1,5 +1,6 @@
 -- A stack that is bound to channels, or the first fault.
-use Rattle.std.specs.Prelude.{ℕ, ◌-◌, ◌==◌, nat_lt, List, [], ◌∷◌, ◌++◌, length, map, replicate, Option, Some, None, Result, Ok, Err, if◌then◌else◌}
+use Rattle.std.specs.Prelude.{ℕ, ◌-◌, ◌==◌, nat_lt, List, [], ◌∷◌, ◌++◌, length, map, replicate}
+use Rattle.std.specs.Prelude.{Option, Some, None, Result, Ok, Err, if◌then◌else◌}
 use Rattle.std.specs.List.{position_or_len, enumerate_from, flat_map}
 use Rattle.la_base.specs.Naming.{find_channel}
 use Rattle.la_base.specs.declared.samples.Rate.{Rate}
@@ -13,7 +14,8 @@ use Rattle.wait_cond.specs.declared.faults.BindWhy.TheVariants as why
 use Rattle.stack_spec.specs.declared.faults.BindFault.{BindFault}
 use Rattle.stack_spec.specs.Instances.{Value, Channel, Number, Instance, given_at}
 
--- what a row of an instance's options is bound to: nothing, where it isn't given; a number; a channel with its bit
+-- what a row of an instance's options is bound to: nothing, where it isn't given; a number; a
+-- channel with its bit
 pub data RowBound : Type 0 where
   Absent : RowBound
   Plain : ℕ → RowBound
@@ -46,21 +48,28 @@ bit_of pins channel = position_or_len (λ pin. pin == channel) pins
 -- the channel that was found, if one was, at its bit: there are no more than `most` pins
 abbrev pub on_channel : ℕ → List ℕ → Option ℕ → Result RowBound BindWhy
 on_channel most pins None = Err why.Unknown
-on_channel most pins (Some channel) = if nat_lt (bit_of pins channel) most then Ok (On channel (bit_of pins channel)) else Err why.TooMany
+on_channel most pins (Some channel) =
+    if nat_lt (bit_of pins channel) most then Ok (On channel (bit_of pins channel))
+    else Err why.TooMany
 
 -- what a row is given, bound behind these pins
 abbrev pub bind_value : ℕ → List (List ℕ) → List ℕ → Option Value → Result RowBound BindWhy
 bind_value most names pins None = Ok Absent
 bind_value most names pins (Some (Number number)) = Ok (Plain number)
-bind_value most names pins (Some (Channel reference)) = on_channel most pins (find_channel names reference)
+bind_value most names pins (Some (Channel reference)) =
+    on_channel most pins (find_channel names reference)
 
 -- a row with what it is given, behind those before it
-abbrev pub row_at : ℕ → List (List ℕ) → List ℕ → ℕ → List RowBound → ℕ × Option Value → Result RowBound BindFault
-row_at most names pins entry before part = at_item entry part.0 (bind_value most names (with_channels pins (channels before)) part.1)
+abbrev pub row_at : ℕ → List (List ℕ) → List ℕ → ℕ → List RowBound → ℕ × Option Value
+    → Result RowBound BindFault
+row_at most names pins entry before part =
+    at_item entry part.0 (bind_value most names (with_channels pins (channels before)) part.1)
 
 -- the rows of an instance's kind, each with what it is given
 abbrev pub given_rows : Instance → List (ℕ × Option Value)
-given_rows instance = map (λ p. (p.0, given_at instance.options p.0)) (enumerate_from 0 (kind_row instance.kind).options)
+given_rows instance =
+    map (λ p. (p.0, given_at instance.options p.0))
+    (enumerate_from 0 (kind_row instance.kind).options)
 
 -- the value of an option: for a channel its bit
 abbrev pub value_of : RowBound → Option ℕ
@@ -87,7 +96,8 @@ pins_of instances = with_channels [] (flat_map (λ instance. instance.uses) inst
 
 -- the setup of an instance whose rows are bound
 abbrev pub setup_of : Rate → Instance → List RowBound → Setup
-setup_of rate instance rows = record { kind = instance.kind; values = record { given = values_of rows }; rate = rate }
+setup_of rate instance rows =
+    record { kind = instance.kind; values = record { given = values_of rows }; rate = rate }
 
 -- an instance whose rows are bound: Rate where the rate is too low for it
 abbrev pub opened_at : Rate → ℕ → Instance → List RowBound → Result BoundInstance BindFault
@@ -97,16 +107,22 @@ opened_at rate entry instance rows =
 
 -- the rows of an instance behind these pins
 abbrev pub rows_bound : ℕ → List (List ℕ) → List ℕ → ℕ → Instance → Result (List RowBound) BindFault
-rows_bound most names pins entry instance = read_parts (row_at most names pins entry) [] (given_rows instance)
+rows_bound most names pins entry instance =
+    read_parts (row_at most names pins entry) [] (given_rows instance)
 
 -- an instance behind these pins: its rows in their order, then its rate
-abbrev pub instance_bound : ℕ → List (List ℕ) → Rate → List ℕ → ℕ → Instance → Result BoundInstance BindFault
-instance_bound most names rate pins entry instance = then_read (rows_bound most names pins entry instance) (opened_at rate entry instance)
+abbrev pub instance_bound : ℕ → List (List ℕ) → Rate → List ℕ → ℕ → Instance
+    → Result BoundInstance BindFault
+instance_bound most names rate pins entry instance =
+    then_read (rows_bound most names pins entry instance) (opened_at rate entry instance)
 
 -- an instance with its number, behind those before it
-abbrev pub bound_at : ℕ → List (List ℕ) → Rate → List BoundInstance → ℕ × Instance → Result BoundInstance BindFault
+abbrev pub bound_at : ℕ → List (List ℕ) → Rate → List BoundInstance → ℕ × Instance
+    → Result BoundInstance BindFault
 bound_at most names rate before part = instance_bound most names rate (pins_of before) part.0 part.1
 
 -- all instances in their order, or the first fault
-abbrev pub bound_of : ℕ → List (List ℕ) → Rate → List Instance → Result (List BoundInstance) BindFault
-bound_of most names rate instances = read_parts (bound_at most names rate) [] (enumerate_from 0 instances)
+abbrev pub bound_of : ℕ → List (List ℕ) → Rate → List Instance
+    → Result (List BoundInstance) BindFault
+bound_of most names rate instances =
+    read_parts (bound_at most names rate) [] (enumerate_from 0 instances)

@@ -1,5 +1,7 @@
 -- Instances of decoders, their names, and what they stand on.
-use Rattle.std.specs.Prelude.{ℕ, ◌+◌, ◌==◌, ◌&&◌, Bool, false, List, ◌++◌, length, slice_get, nat_le, Option, Some, None, option_map, if◌then◌else◌, codes, count_by}
+use Rattle.std.specs.Prelude.{ℕ, ◌+◌, ◌==◌, ◌&&◌, Bool, false, List, ◌++◌, length, slice_get}
+use Rattle.std.specs.Prelude.{nat_le, Option, Some, None, option_map, if◌then◌else◌, codes}
+use Rattle.std.specs.Prelude.{count_by}
 use Rattle.std.specs.Fmt.{decimal}
 use Rattle.std.specs.List.{find, list_all, position}
 use Rattle.std.specs.Str.{bytes_eq}
@@ -13,7 +15,8 @@ use Rattle.decoder_set.specs.declared.kinds.Kind.{Kind}
 use Rattle.stack_spec.specs.declared.faults.StackWhy.{StackWhy}
 use Rattle.stack_spec.specs.declared.faults.StackWhy.TheVariants as why
 
--- what an option is given: the reference of a channel, or a number, which for a choice is the place of a word
+-- what an option is given: the reference of a channel, or a number, which for a choice is the place
+-- of a word
 pub data Value : Type 0 where
   Channel : Text → Value
   Number : ℕ → Value
@@ -23,7 +26,8 @@ pub record Given : Type 0 where
   pub row : ℕ
   pub value : Value
 
--- a decoder in a stack: its kind, its number among those of the kind, the options that are given, and its parent's place
+-- a decoder in a stack: its kind, its number among those of the kind, the options that are given,
+-- and its parent's place
 pub record Instance : Type 0 where
   pub kind : Kind
   pub number : ℕ
@@ -73,10 +77,13 @@ number_given rows options row = number_by (slice_get rows row) (number_in (given
 abbrev pub has_numbers : List OptionRow → List Given → List Asked → Bool
 has_numbers rows options asked = list_all (λ a. number_given rows options a.row == a.number) asked
 
--- a kind stands on an instance, if there is one: it wants the wire that this gives, and the numbers that its options have
+-- a kind stands on an instance, if there is one: it wants the wire that this gives, and the numbers
+-- that its options have
 abbrev pub stands_on : Option Instance → Kind → Bool
 stands_on None kind = false
-stands_on (Some parent) kind = same_wire (kind_row parent.kind).output (kind_row kind).input && has_numbers (kind_row parent.kind).options parent.options (kind_row kind).parent
+stands_on (Some parent) kind =
+    same_wire (kind_row parent.kind).output (kind_row kind).input && has_numbers
+    (kind_row parent.kind).options parent.options (kind_row kind).parent
 
 -- the most instances of a stack
 abbrev pub most_instances : ℕ
@@ -86,7 +93,11 @@ most_instances = 24
 abbrev pub unless_full : List Instance → Option StackWhy → Option StackWhy
 unless_full before next = if nat_le most_instances (length before) then Some why.Many else next
 
--- why a kind can't stand here: at the head of a chain it reads samples; there are no more than `most_instances`; it stands on what it wants
+-- why a kind can't stand here: at the head of a chain it reads samples; there are no more than
+-- `most_instances`; it stands on what it wants
 abbrev pub why_not : List Instance → Option ℕ → Kind → Option StackWhy
-why_not before None kind = if same_wire Logic (kind_row kind).input then unless_full before None else Some why.NoParent
-why_not before (Some parent) kind = unless_full before (if stands_on (slice_get before parent) kind then None else Some why.Mismatch)
+why_not before None kind =
+    if same_wire Logic (kind_row kind).input then unless_full before None else Some why.NoParent
+why_not before (Some parent) kind =
+    unless_full before
+    (if stands_on (slice_get before parent) kind then None else Some why.Mismatch)

@@ -25,7 +25,13 @@ given_of option = record { row = option.row; value = meaning_of option.value }
 
 -- an instance in the code
 abbrev pub instance_of : code.Instance → Instance
-instance_of instance = record { kind = instance.kind; number = instance.number; options = map given_of instance.options.items; parent = instance.parent }
+instance_of instance =
+    record {
+      kind = instance.kind;
+      number = instance.number;
+      options = map given_of instance.options.items;
+      parent = instance.parent;
+    }
 
 -- the fault that an error tells; want of memory tells none
 abbrev pub fault_in : StackError → Option StackFault

@@ -1,6 +1,8 @@
 -- The options of an instance.
-use Rattle.std.specs.Prelude.{ℕ, ◌+◌, ◌==◌, ◌||◌, ◌&&◌, Bool, false, not, List, [], length, Option, Some, None, is_some, Result, Ok, Err, if◌then◌else◌}
-use Rattle.std.specs.List.{position, position_or_len, before_first, after_first, slice_split, list_all, enumerate_from, find}
+use Rattle.std.specs.Prelude.{ℕ, ◌+◌, ◌==◌, ◌||◌, ◌&&◌, Bool, false, not, List, [], length, Option}
+use Rattle.std.specs.Prelude.{Some, None, is_some, Result, Ok, Err, if◌then◌else◌}
+use Rattle.std.specs.List.{position, position_or_len, before_first, after_first, slice_split}
+use Rattle.std.specs.List.{list_all, enumerate_from, find}
 use Rattle.std.specs.Str.{bytes_eq}
 use Rattle.text_parts.specs.Numbers.{number_in}
 use Rattle.text_parts.specs.Places.{Placed, placed_from}
@@ -47,7 +49,8 @@ chosen None = Err why.Value
 abbrev pub read_channel : Text → Result Value StackWhy
 read_channel text = if length text == 0 then Err why.Value else Ok (value.Channel text)
 
--- the value that a text gives an option: a reference of a channel, which isn't empty; a number in range; one of the words
+-- the value that a text gives an option: a reference of a channel, which isn't empty; a number in
+-- range; one of the words
 abbrev pub value_of : Form → Text → Result Value StackWhy
 value_of (Pin required) text = read_channel text
 value_of (Number least most usual) text = numeric (number_in least most text)
@@ -64,18 +67,21 @@ with_row row (Err why) = Err why
 
 -- a value for a row that wasn't given one before
 abbrev pub row_at : List Given → ℕ → Form → Text → Result Given StackWhy
-row_at before row form text = if is_some (given_at before row) then Err why.Repeat else with_row row (value_of form text)
+row_at before row form text =
+    if is_some (given_at before row) then Err why.Repeat else with_row row (value_of form text)
 
 -- a value for the option that was found, if one was
 abbrev pub named_at : List Given → Option (ℕ × OptionRow) → Text → Result Given StackWhy
 named_at before None text = Err why.Unknown
 named_at before (Some p) text = row_at before p.0 p.1.form text
 
--- an option, behind those before it: it has an `=`, a name that the kind has and that wasn't given before, and a good value
+-- an option, behind those before it: it has an `=`, a name that the kind has and that wasn't given
+-- before, and a good value
 abbrev pub option_of : List OptionRow → List Given → Text → Result Given StackWhy
 option_of rows before text =
     if position_or_len is_equals text == length text then Err why.Value
-    else named_at before (option_named rows (before_first is_equals text)) (after_first is_equals text)
+    else named_at before (option_named rows (before_first is_equals text))
+    (after_first is_equals text)
 
 -- an option at its place
 abbrev pub option_at : List OptionRow → ℕ → List Given → Placed → Result Given StackFault
@@ -83,13 +89,15 @@ option_at rows word before part = at_place word part.0 (option_of rows before pa
 
 -- options between colons, from a place of a word on
 abbrev pub option_list : List OptionRow → ℕ → ℕ → Text → Result (List Given) StackFault
-option_list rows word at text = read_parts (option_at rows word) [] (placed_from at (slice_split is_colon text))
+option_list rows word at text =
+    read_parts (option_at rows word) [] (placed_from at (slice_split is_colon text))
 
 -- the options of an instance that begins at a place: those behind its first `:`, if it has one
 abbrev pub options_behind : List OptionRow → ℕ → ℕ → Text → Result (List Given) StackFault
 options_behind rows word at text =
     if position_or_len is_colon text == length text then Ok []
-    else option_list rows word (at + length (before_first is_colon text) + 1) (after_first is_colon text)
+    else option_list rows word (at + length (before_first is_colon text) + 1)
+    (after_first is_colon text)
 
 -- whether an option has to be given
 abbrev pub needs : Form → Bool
@@ -99,16 +107,22 @@ needs (Choice words) = false
 
 -- all that has to be given is
 abbrev pub have_all : List OptionRow → List Given → Bool
-have_all rows given = list_all (λ p. not (needs p.1.form) || is_some (given_at given p.0)) (enumerate_from 0 rows)
+have_all rows given =
+    list_all (λ p. not (needs p.1.form) || is_some (given_at given p.0)) (enumerate_from 0 rows)
 
 -- a channel that is required isn't given, or none of a group of which one is
 abbrev pub is_missing : List OptionRow → List (List ℕ) → List Given → Bool
-is_missing rows groups given = not (have_all rows given && has_groups (λ row. is_some (given_at given row)) groups)
+is_missing rows groups given =
+    not (have_all rows given && has_groups (λ row. is_some (given_at given row)) groups)
 
 -- options, none of which is missing
-abbrev pub unless_missing : List OptionRow → List (List ℕ) → ℕ → ℕ → List Given → Result (List Given) StackFault
-unless_missing rows groups word at given = if is_missing rows groups given then fault word at why.Missing else Ok given
+abbrev pub unless_missing : List OptionRow → List (List ℕ) → ℕ → ℕ → List Given
+    → Result (List Given) StackFault
+unless_missing rows groups word at given =
+    if is_missing rows groups given then fault word at why.Missing else Ok given
 
--- the options of an instance that begins at a place, in their order, none of which is missing; or the first fault
+-- the options of an instance that begins at a place, in their order, none of which is missing; or
+-- the first fault
 abbrev pub options_at : List OptionRow → List (List ℕ) → ℕ → Placed → Result (List Given) StackFault
-options_at rows groups word part = then_read (options_behind rows word part.0 part.1) (unless_missing rows groups word part.0)
+options_at rows groups word part =
+    then_read (options_behind rows word part.0 part.1) (unless_missing rows groups word part.0)

@@ -20,33 +20,46 @@ instance number scl sda = record {
   parent = None;
 }
 
--- two buses, and a chain that names the first and adds nothing; the second is shown, and data read on the first is wanted
+-- two buses, and a chain that names the first and adds nothing; the second is shown, and data read
+-- on the first is wanted
 pub two_buses_and_a_name :
-    stack_of (word 2 (codes "i2c:scl=D0:sda=D1") ∷ word 3 (codes "i2c:scl=A:sda=7") ∷ word 5 (codes "i2c-1") ∷ [])
+    stack_of (word 2 (codes "i2c:scl=D0:sda=D1") ∷ word 3 (codes "i2c:scl=A:sda=7")
+    ∷ word 5 (codes "i2c-1") ∷ [])
     (Some (word 6 (codes "i2c-2"))) (Some (word 8 (codes "i2c-1:read")))
-    ≡ Ok (record { instances = instance 1 (codes "D0") (codes "D1") ∷ instance 2 (codes "A") (codes "7") ∷ []; shown = Some (1 ∷ []); binary = Some (0, 1) })
+    ≡ Ok (record {
+      instances = instance 1 (codes "D0") (codes "D1")
+          ∷ instance 2 (codes "A") (codes "7") ∷ [];
+      shown = Some (1 ∷ []);
+      binary = Some (0, 1);
+    })
 unfolding digits
 two_buses_and_a_name = refl
 
 pub missing : stack_of (word 3 (codes "i2c:scl=D0") ∷ []) None None ≡ fault 3 0 why.Missing
 missing = refl
 
-pub no_second_instance_on_the_first : stack_of (word 0 (codes "i2c:scl=D0:sda=D1,i2c:x") ∷ []) None None ≡ fault 0 18 why.Mismatch
+pub no_second_instance_on_the_first : stack_of
+    (word 0 (codes "i2c:scl=D0:sda=D1,i2c:x") ∷ []) None None ≡ fault 0 18 why.Mismatch
 no_second_instance_on_the_first = refl
 
-pub an_empty_instance : stack_of (word 0 (codes "i2c:scl=D0:sda=D1,") ∷ []) None None ≡ fault 0 18 why.Unknown
+pub an_empty_instance : stack_of (word 0 (codes "i2c:scl=D0:sda=D1,") ∷ []) None None
+    ≡ fault 0 18 why.Unknown
 an_empty_instance = refl
 
-pub a_name_that_is_not_there : stack_of (word 0 (codes "i2c:scl=D0:sda=D1") ∷ word 1 (codes "i2c-2") ∷ []) None None ≡ fault 1 0 why.NoParent
+pub a_name_that_is_not_there : stack_of
+    (word 0 (codes "i2c:scl=D0:sda=D1") ∷ word 1 (codes "i2c-2") ∷ []) None None
+    ≡ fault 1 0 why.NoParent
 unfolding digits
 a_name_that_is_not_there = refl
 
-pub an_option_twice : stack_of (word 0 (codes "i2c:scl=D0:scl=D1") ∷ []) None None ≡ fault 0 11 why.Repeat
+pub an_option_twice : stack_of (word 0 (codes "i2c:scl=D0:scl=D1") ∷ []) None None
+    ≡ fault 0 11 why.Repeat
 an_option_twice = refl
 
 pub an_empty_option : stack_of (word 0 (codes "i2c:") ∷ []) None None ≡ fault 0 4 why.Value
 an_empty_option = refl
 
-pub a_class_without_a_name : stack_of (word 0 (codes "i2c:scl=D0:sda=D1") ∷ []) None (Some (word 4 (codes "i2c-1"))) ≡ fault 4 5 why.Unknown
+pub a_class_without_a_name : stack_of (word 0 (codes "i2c:scl=D0:sda=D1") ∷ []) None
+    (Some (word 4 (codes "i2c-1"))) ≡ fault 4 5 why.Unknown
 unfolding digits
 a_class_without_a_name = refl

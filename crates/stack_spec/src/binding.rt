@@ -1,5 +1,6 @@
 // Binding the instances of a stack to channels.
-ghost use Rattle.std.specs.Prelude.{◌≡◌, ◌≤◌, ◌^◌, [], true, Some, length, map, option_map, IfOk, OnOk, vec_len};
+ghost use Rattle.std.specs.Prelude.{◌≡◌, ◌≤◌, ◌^◌, [], true, Some, length, map, option_map, IfOk};
+ghost use Rattle.std.specs.Prelude.{OnOk, vec_len};
 ghost use Rattle.std.specs.String.{string_bytes};
 ghost use Rattle.la_base.specs.declared.samples.TheConstants.{MOST_PINS};
 ghost use Rattle.la_base.specs.Naming.{find_channel};
@@ -22,7 +23,9 @@ use wait_cond::{BindWhy, place_of};
 // The bit of the channel that a reference names, which joins the pins if it isn't one.
 fn bind_channel(reference: &str, names: &Names, pins: &mut Pins) -> Result<Option<u64>, BindWhy>
     requires { ArePins MOST_PINS (length names.now) pins.old.items }
-    ensures step { RowStep (on_channel MOST_PINS pins.old.items (find_channel names.now reference.now)) pins.old.items pins.new.items result }
+    ensures step { RowStep
+        (on_channel MOST_PINS pins.old.items (find_channel names.now reference.now)) pins.old.items
+        pins.new.items result }
     ensures pins { ArePins MOST_PINS (length names.now) pins.new.items }
 {
     let Some(channel) = names.find(reference.as_bytes()) else {
@@ -41,7 +44,9 @@ fn bind_value(
     pins: &mut Pins,
 ) -> Result<Option<u64>, BindWhy>
     requires { ArePins MOST_PINS (length names.now) pins.old.items }
-    ensures step { RowStep (bind_value MOST_PINS names.now pins.old.items (option_map (λ v. meaning_of v.now) value.entry)) pins.old.items pins.new.items result }
+    ensures step { RowStep
+        (bind_value MOST_PINS names.now pins.old.items
+        (option_map (λ v. meaning_of v.now) value.entry)) pins.old.items pins.new.items result }
     ensures pins { ArePins MOST_PINS (length names.now) pins.new.items }
 {
     match value {
@@ -53,7 +58,9 @@ fn bind_value(
 // A value that is given, bound.
 fn bind_given(value: &GivenValue, names: &Names, pins: &mut Pins) -> Result<Option<u64>, BindWhy>
     requires { ArePins MOST_PINS (length names.now) pins.old.items }
-    ensures step { RowStep (bind_value MOST_PINS names.now pins.old.items (Some (meaning_of value.now))) pins.old.items pins.new.items result }
+    ensures step { RowStep
+        (bind_value MOST_PINS names.now pins.old.items (Some (meaning_of value.now))) pins.old.items
+        pins.new.items result }
     ensures pins { ArePins MOST_PINS (length names.now) pins.new.items }
 {
     match value {
@@ -70,7 +77,9 @@ fn bind_rows(
     pins: &mut Pins,
 ) -> Result<OptValues, BindFault>
     requires { ArePins MOST_PINS (length names.now) pins.old.items }
-    ensures step { RowsStep (rows_bound MOST_PINS names.now pins.old.items entry (instance_of instance.now)) pins.old.items pins.new.items result }
+    ensures step { RowsStep
+        (rows_bound MOST_PINS names.now pins.old.items entry (instance_of instance.now))
+        pins.old.items pins.new.items result }
     ensures pins { ArePins MOST_PINS (length names.now) pins.new.items }
 {
     let mut given = [None; MOST_OPTIONS];
@@ -99,8 +108,11 @@ fn bind_instance(
 ) -> Result<AnyDecoder, BindFault>
     requires pins { ArePins MOST_PINS (length names.now) pins.old.items }
     requires rate { rate.num ≤ 10 ^ 15 }
-    requires fit { options_fit (kind_row instance.now.kind) (map given_of instance.now.options.items) ≡ true }
-    ensures step { InstanceStep (instance_bound MOST_PINS names.now rate pins.old.items entry (instance_of instance.now)) pins.old.items pins.new.items result }
+    requires fit { options_fit (kind_row instance.now.kind)
+        (map given_of instance.now.options.items) ≡ true }
+    ensures step { InstanceStep
+        (instance_bound MOST_PINS names.now rate pins.old.items entry (instance_of instance.now))
+        pins.old.items pins.new.items result }
     ensures pins { ArePins MOST_PINS (length names.now) pins.new.items }
 {
     match bind_rows(instance, names, entry, pins) {
@@ -119,15 +131,17 @@ fn bind_instance(
 
 /// Binds a stack to the channels of these names, at a rate: a decoder for each instance, in their
 /// order, which has consumed nothing. Instances go in their order, and the channels of each in the
-/// order of its kind's options, which `item` counts from 0. `Unknown` comes where a channel isn't found
-/// by its reference, `TooMany` where it would be one pin more than `MOST_PINS`, `Rate` behind the
-/// channels of an instance where the rate is too low for it. A channel that is used again has the same
-/// pin. `NoMemory` comes only for want of memory.
+/// order of its kind's options, which `item` counts from 0. `Unknown` comes where a channel isn't
+/// found by its reference, `TooMany` where it would be one pin more than `MOST_PINS`, `Rate` behind
+/// the channels of an instance where the rate is too low for it. A channel that is used again has
+/// the same pin. `NoMemory` comes only for want of memory.
 pub fn bind(alloc: Global, stack: &Stack, names: &Names, rate: Rate) -> Result<Bound, BindError>
     requires { rate.num ≤ 10 ^ 15 }
     ensures binds { Binds MOST_PINS names.now rate (instances_in stack.now) result }
     ensures pins { IfOk result (λ bound. ArePins MOST_PINS (length names.now) bound.pins.items) }
-    ensures kinds { IfOk result (λ bound. map (λ decoder. (setup_of decoder).kind) bound.machines.items ≡ map (λ instance. instance.kind) (instances_in stack.now)) }
+    ensures kinds { IfOk result
+        (λ bound. map (λ decoder. (setup_of decoder).kind) bound.machines.items
+        ≡ map (λ instance. instance.kind) (instances_in stack.now)) }
     ensures forest { IfOk result (λ _. IsForest (instances_in stack.now)) }
 {
     let mut machines = Vec::new(alloc);

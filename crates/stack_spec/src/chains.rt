@@ -4,7 +4,8 @@ ghost use Rattle.std.specs.List.{list_any};
 ghost use Rattle.std.specs.String.{string_bytes};
 ghost use Rattle.text_parts.specs.Chains.{chain_of};
 ghost use Rattle.text_parts.specs.Reading.{Gives};
-ghost use Rattle.stack_spec.specs.Chains.{added_at, chain_by, head_at, is_dash, instance_at, instances_of, kind_text, part_at};
+ghost use Rattle.stack_spec.specs.Chains.{added_at, chain_by, head_at, is_dash, instance_at};
+ghost use Rattle.stack_spec.specs.Chains.{instances_of, kind_text, part_at};
 ghost use Rattle.stack_spec.specs.Meaning.{fault_in, instance_of};
 ghost use Rattle.stack_spec.specs.Steps.{ChainStep, PartStep};
 
@@ -46,7 +47,8 @@ fn read_instance(
 ) -> Result<Instance, StackError>
     requires place { at + length text.now + 1 < 2 ^ 32 }
     requires few { length before.now ≤ 24 }
-    ensures gives { Gives instance_of fault_in (instance_at (map instance_of before.now) parent word (at, text.now)) result }
+    ensures gives { Gives instance_of
+        fault_in (instance_at (map instance_of before.now) parent word (at, text.now)) result }
     ensures room { OnOk result (length before.now < 24) }
 {
     let Some(kind) = kind_of(kind_text(text).as_bytes()) else {
@@ -77,7 +79,9 @@ fn add_instance(
 ) -> Result<u32, StackError>
     requires place { at + length text.now + 1 < 2 ^ 32 }
     requires few { vec_len instances.old ≤ 24 }
-    ensures step { PartStep (added_at (map instance_of instances.old.items) parent word (at, text.now)) (map instance_of instances.old.items) (map instance_of instances.new.items) result }
+    ensures step { PartStep
+        (added_at (map instance_of instances.old.items) parent word (at, text.now))
+        (map instance_of instances.old.items) (map instance_of instances.new.items) result }
     ensures few { OnOk result (vec_len instances.new ≤ 24) }
 {
     let place = instances.len() as u32;
@@ -102,7 +106,8 @@ fn read_head(
 ) -> Result<u32, StackError>
     requires place { at + length text.now + 1 < 2 ^ 32 }
     requires few { vec_len instances.old ≤ 24 }
-    ensures step { PartStep (head_at (map instance_of instances.old.items) word (at, text.now)) (map instance_of instances.old.items) (map instance_of instances.new.items) result }
+    ensures step { PartStep (head_at (map instance_of instances.old.items) word (at, text.now))
+        (map instance_of instances.old.items) (map instance_of instances.new.items) result }
     ensures few { OnOk result (vec_len instances.new ≤ 24) }
 {
     if !has_dash(kind_text(text)) {
@@ -125,7 +130,9 @@ fn read_part(
 ) -> Result<u32, StackError>
     requires place { at + length text.now + 1 < 2 ^ 32 }
     requires few { vec_len instances.old ≤ 24 }
-    ensures step { PartStep (part_at (map instance_of instances.old.items) parent word (at, text.now)) (map instance_of instances.old.items) (map instance_of instances.new.items) result }
+    ensures step { PartStep
+        (part_at (map instance_of instances.old.items) parent word (at, text.now))
+        (map instance_of instances.old.items) (map instance_of instances.new.items) result }
     ensures few { OnOk result (vec_len instances.new ≤ 24) }
 {
     match parent {
@@ -143,7 +150,9 @@ fn read_chain(
 ) -> Result<(), StackError>
     requires short { length text.now ≤ 4096 }
     requires few { vec_len instances.old ≤ 24 }
-    ensures step { ChainStep (chain_by (map instance_of instances.old.items) (record { word = word; text = text.now })) (map instance_of instances.old.items) (map instance_of instances.new.items) result }
+    ensures step { ChainStep
+        (chain_by (map instance_of instances.old.items) (record { word = word; text = text.now }))
+        (map instance_of instances.old.items) (map instance_of instances.new.items) result }
     ensures few { OnOk result (vec_len instances.new ≤ 24) }
 {
     let mut parent = None;
@@ -161,7 +170,8 @@ fn read_chain(
 /// The instances of chains, or the first fault.
 pub fn read_chains(alloc: Global, chains: &[ChainWord]) -> Result<Vec<Instance>, StackError>
     requires { All (λ chain. length (string_bytes chain.text) ≤ 4096) chains.now }
-    ensures gives { Gives (λ v. map instance_of v.items) fault_in (instances_of (map chain_of chains.now)) result }
+    ensures gives { Gives
+        (λ v. map instance_of v.items) fault_in (instances_of (map chain_of chains.now)) result }
     ensures few { IfOk result (λ v. vec_len v ≤ 24) }
 {
     let mut instances = Vec::new(alloc);

@@ -14,7 +14,8 @@ pub fn fault(word: u32, at: u32, why: StackWhy) -> StackError
 
 /// What was refused, at a place of a word.
 pub fn refusal(word: u32, at: u32, refused: Refused) -> StackError
-    ensures { fault_in result ≡ option_map (λ why. record { word = word; at = at; why = why }) (why_in refused) }
+    ensures { fault_in result
+        ≡ option_map (λ why. record { word = word; at = at; why = why }) (why_in refused) }
 {
     match refused {
         Refused::Why(why) => fault(word, at, why),

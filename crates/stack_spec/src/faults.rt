@@ -17,7 +17,8 @@ pub enum StackWhy {
     /// An option is given twice.
     #[error("the option was given before")]
     Repeat,
-    /// A decoder of packets has nothing to stand on, or a head with a hyphen is no earlier instance.
+    /// A decoder of packets has nothing to stand on, or a head with a hyphen is no earlier
+    /// instance.
     #[error("there is nothing to stand on")]
     NoParent,
     /// A decoder stands on one that doesn't give what it wants.
@@ -49,9 +50,9 @@ pub enum StackError {
     NoMemory,
 }
 
-/// The first fault of binding, and why: an instance, counted from 0, and the row of one of its options
-/// in the table of its kind, or an alternative of a search and one of its terms. `Rate` is told with
-/// item 0.
+/// The first fault of binding, and why: an instance, counted from 0, and the row of one of its
+/// options in the table of its kind, or an alternative of a search and one of its terms. `Rate` is
+/// told with item 0.
 #[derive(Clone, Copy, Debug, PartialEq, Eq, Error)]
 #[error("entry {entry} item {item}: {why}")]
 pub struct BindFault {

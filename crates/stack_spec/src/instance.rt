@@ -2,8 +2,8 @@
 use crate::StackWhy;
 use decoder_set::Kind;
 
-/// What an option is given: the reference of a channel, or a number, which for a choice is the place
-/// of a word.
+/// What an option is given: the reference of a channel, or a number, which for a choice is the
+/// place of a word.
 #[derive(Debug, Drop)]
 pub enum GivenValue {
     Channel(String),
@@ -17,8 +17,8 @@ pub struct GivenOption {
     pub value: GivenValue,
 }
 
-/// A decoder in a stack: its kind, its number among those of the kind, the options that are given, and
-/// its parent's place.
+/// A decoder in a stack: its kind, its number among those of the kind, the options that are given,
+/// and its parent's place.
 #[derive(Debug, Drop)]
 pub struct Instance {
     pub kind: Kind,

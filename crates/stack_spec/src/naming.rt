@@ -23,7 +23,8 @@ fn is_named(instance: &Instance, name: &[u8]) -> bool
 
 // The place of the first instance of this name.
 fn position_named(instances: &[Instance], name: &[u8]) -> Option<usize>
-    ensures place { result ≡ position (λ instance. bytes_eq (name_of (instance_of instance)) name.now) instances.now }
+    ensures place { result
+        ≡ position (λ instance. bytes_eq (name_of (instance_of instance)) name.now) instances.now }
     ensures within { IfSome result (λ place. place < length instances.now) }
 {
     instances

@@ -1,12 +1,15 @@
 // Reading the options of an instance.
-ghost use Rattle.std.specs.Prelude.{◌≡◌, ◌==◌, ◌+◌, ◌<◌, ◌≤◌, ◌^◌, ◌||◌, not, length, map, option_map, is_some};
+ghost use Rattle.std.specs.Prelude.{◌≡◌, ◌==◌, ◌+◌, ◌<◌, ◌≤◌, ◌^◌, ◌||◌, not, length, map};
+ghost use Rattle.std.specs.Prelude.{option_map, is_some};
 ghost use Rattle.std.specs.List.{find, list_all, list_any, enumerate_from};
 ghost use Rattle.std.specs.Str.{bytes_eq};
 ghost use Rattle.text_parts.specs.Numbers.{number_in};
 ghost use Rattle.text_parts.specs.Reading.{Gives};
 ghost use Rattle.decoder_set.specs.Kinds.{Choice, form_of, opt_row};
 ghost use Rattle.stack_spec.specs.Instances.{given_at};
-ghost use Rattle.stack_spec.specs.Options.{is_missing, needs, numeric, option_list, option_at, option_named, option_of, options_at, options_behind, read_channel, row_at, value_of};
+ghost use Rattle.stack_spec.specs.Options.{is_missing, needs, numeric, option_list, option_at};
+ghost use Rattle.stack_spec.specs.Options.{option_named, option_of, options_at, options_behind};
+ghost use Rattle.stack_spec.specs.Options.{read_channel, row_at, value_of};
 ghost use Rattle.stack_spec.specs.Meaning.{fault_in, given_of, meaning_of, why_in};
 
 use crate::errors::{fault, refusal};
@@ -42,7 +45,8 @@ fn read_number(text: &str, least: u64, most: u64) -> Result<GivenValue, Refused>
 
 // One of some words, by its place.
 fn read_word(words: &[&str], text: &str) -> Result<GivenValue, Refused>
-    ensures { Gives meaning_of why_in (value_of (Choice (map (λ word. word.now) words.now)) text.now) result }
+    ensures { Gives meaning_of
+        why_in (value_of (Choice (map (λ word. word.now) words.now)) text.now) result }
 {
     match word_place(words, text.as_bytes()) {
         Some(place) => Ok(GivenValue::Number(place as u64)),
@@ -63,14 +67,16 @@ fn read_value(alloc: Global, form: OptForm, text: &str) -> Result<GivenValue, Re
 
 // What a row is given.
 fn given_for(options: &[GivenOption], row: usize) -> Option<&GivenOption>
-    ensures { option_map (λ given. given.now) result ≡ find (λ given. given.row == row) options.entry.now }
+    ensures { option_map (λ given. given.now) result
+        ≡ find (λ given. given.row == row) options.entry.now }
 {
     options.iter().find(|given| given.row == row)
 }
 
 /// The value that a row is given.
 pub fn value_at(options: &[GivenOption], row: usize) -> Option<&GivenValue>
-    ensures { option_map (λ value. meaning_of value.now) result ≡ given_at (map given_of options.entry.now) row }
+    ensures { option_map (λ value. meaning_of value.now) result
+        ≡ given_at (map given_of options.entry.now) row }
 {
     match given_for(options, row) {
         Some(given) => Some(&given.value),
@@ -87,7 +93,8 @@ fn is_given(options: &[GivenOption], row: usize) -> bool
 
 // The option of a name, with its row.
 fn option_named<'a>(rows: &'a [OptRow], name: &str) -> Option<(usize, &'a OptRow)>
-    ensures { option_map (λ p. (p.0, opt_row p.1.now)) result ≡ option_named (map opt_row rows.entry.now) name.now }
+    ensures { option_map (λ p. (p.0, opt_row p.1.now)) result
+        ≡ option_named (map opt_row rows.entry.now) name.now }
 {
     for (row, option) in rows.iter().enumerate() {
         if option.name.as_bytes() == name.as_bytes() {
@@ -105,7 +112,8 @@ fn read_row(
     form: OptForm,
     text: &str,
 ) -> Result<GivenOption, Refused>
-    ensures { Gives given_of why_in (row_at (map given_of before.now) row (form_of form) text.now) result }
+    ensures { Gives given_of why_in (row_at (map given_of before.now) row (form_of form) text.now)
+        result }
 {
     if is_given(before, row) {
         return Err(Refused::Why(StackWhy::Repeat));
@@ -123,7 +131,8 @@ fn read_named(
     before: &[GivenOption],
     text: &str,
 ) -> Result<GivenOption, Refused>
-    ensures { Gives given_of why_in (option_of (map opt_row rows.now) (map given_of before.now) text.now) result }
+    ensures { Gives given_of
+        why_in (option_of (map opt_row rows.now) (map given_of before.now) text.now) result }
 {
     let Some((name, value)) = text.split_once('=') else {
         return Err(Refused::Why(StackWhy::Value));
@@ -143,7 +152,9 @@ fn read_option(
     at: u32,
     text: &str,
 ) -> Result<GivenOption, StackError>
-    ensures { Gives given_of fault_in (option_at (map opt_row rows.now) word (map given_of before.now) (at, text.now)) result }
+    ensures { Gives given_of
+        fault_in (option_at (map opt_row rows.now) word (map given_of before.now) (at, text.now))
+        result }
 {
     match read_named(alloc, rows, before, text) {
         Ok(given) => Ok(given),
@@ -160,7 +171,8 @@ fn read_list(
     text: &str,
 ) -> Result<Vec<GivenOption>, StackError>
     requires { at + length text.now + 1 < 2 ^ 32 }
-    ensures { Gives (λ v. map given_of v.items) fault_in (option_list (map opt_row rows.now) word at text.now) result }
+    ensures { Gives (λ v. map given_of v.items)
+        fault_in (option_list (map opt_row rows.now) word at text.now) result }
 {
     let mut options = Vec::new(alloc);
     let mut at = at;
@@ -187,7 +199,8 @@ fn read_behind(
     text: &str,
 ) -> Result<Vec<GivenOption>, StackError>
     requires { at + length text.now + 1 < 2 ^ 32 }
-    ensures { Gives (λ v. map given_of v.items) fault_in (options_behind (map opt_row rows.now) word at text.now) result }
+    ensures { Gives (λ v. map given_of v.items)
+        fault_in (options_behind (map opt_row rows.now) word at text.now) result }
 {
     match text.split_once(':') {
         Some((kind, options)) => read_list(alloc, rows, word, place_behind(at, kind), options),
@@ -208,7 +221,9 @@ fn needs(form: OptForm) -> bool
 
 // Whether all rows have what they need.
 fn have_all(rows: &[OptRow], given: &[GivenOption]) -> bool
-    ensures { result ≡ list_all (λ p. not (needs (form_of p.1.form)) || is_some (given_at (map given_of given.now) p.0)) (enumerate_from 0 rows.now) }
+    ensures { result ≡ list_all
+        (λ p. not (needs (form_of p.1.form)) || is_some (given_at (map given_of given.now) p.0))
+        (enumerate_from 0 rows.now) }
 {
     rows.iter().enumerate().all(|(row, option)| !needs(option.form) || is_given(given, row))
 }
@@ -222,14 +237,17 @@ fn has_one(group: &[usize], given: &[GivenOption]) -> bool
 
 // Whether one of each group is given.
 fn has_groups(groups: &[&[usize]], given: &[GivenOption]) -> bool
-    ensures { result ≡ list_all (λ group. list_any (λ row. is_some (given_at (map given_of given.now) row)) group.now) groups.now }
+    ensures { result ≡ list_all
+        (λ group. list_any (λ row. is_some (given_at (map given_of given.now) row)) group.now)
+        groups.now }
 {
     groups.iter().all(|group| has_one(group, given))
 }
 
 // Whether a channel that is required isn't given, or none of a group.
 fn is_missing(rows: &[OptRow], groups: &[&[usize]], given: &[GivenOption]) -> bool
-    ensures { result ≡ is_missing (map opt_row rows.now) (map (λ group. group.now) groups.now) (map given_of given.now) }
+    ensures { result ≡ is_missing (map opt_row rows.now) (map (λ group. group.now) groups.now)
+        (map given_of given.now) }
 {
     if !have_all(rows, given) {
         return true;
@@ -237,8 +255,8 @@ fn is_missing(rows: &[OptRow], groups: &[&[usize]], given: &[GivenOption]) -> bo
     !has_groups(groups, given)
 }
 
-/// The options of an instance that begins at a place of a word, or their first fault. Of each group of
-/// rows at least one has to be given.
+/// The options of an instance that begins at a place of a word, or their first fault. Of each group
+/// of rows at least one has to be given.
 pub fn read_options(
     alloc: Global,
     rows: &[OptRow],
@@ -248,7 +266,9 @@ pub fn read_options(
     text: &str,
 ) -> Result<Vec<GivenOption>, StackError>
     requires { at + length text.now + 1 < 2 ^ 32 }
-    ensures { Gives (λ v. map given_of v.items) fault_in (options_at (map opt_row rows.now) (map (λ group. group.now) groups.now) word (at, text.now)) result }
+    ensures { Gives (λ v. map given_of v.items)
+        fault_in (options_at (map opt_row rows.now) (map (λ group. group.now) groups.now) word
+        (at, text.now)) result }
 {
     match read_behind(alloc, rows, word, at, text) {
         Ok(options) => {

@@ -1,5 +1,6 @@
 // Reading a stack, and what it holds.
-ghost use Rattle.std.specs.Prelude.{◌≡◌, ◌==◌, ◌<◌, ◌≤◌, All, IfOk, IfSome, Some, length, map, slice_get, option_map};
+ghost use Rattle.std.specs.Prelude.{◌≡◌, ◌==◌, ◌<◌, ◌≤◌, All, IfOk, IfSome, Some, length, map};
+ghost use Rattle.std.specs.Prelude.{slice_get, option_map};
 ghost use Rattle.std.specs.List.{list_any};
 ghost use Rattle.std.specs.String.{string_bytes};
 ghost use Rattle.text_parts.specs.Chains.{chain_of};
@@ -16,8 +17,8 @@ use decoder_set::Kind;
 use std::alloc::Global;
 use text_parts::ChainWord;
 
-/// The stack that chains name, or their first fault: chains from left to right, then the names to be
-/// shown, then the class of binary data. No `show` shows all. Each text has at most 4,096 bytes.
+/// The stack that chains name, or their first fault: chains from left to right, then the names to
+/// be shown, then the class of binary data. No `show` shows all. Each text has at most 4,096 bytes.
 /// `NoMemory` comes only for want of memory.
 pub fn read_stack(
     alloc: Global,
@@ -28,7 +29,10 @@ pub fn read_stack(
     requires chains { All (λ chain. length (string_bytes chain.text) ≤ 4096) chains.now }
     requires show { IfSome show (λ chain. length (string_bytes chain.now.text) ≤ 4096) }
     requires binary { IfSome binary (λ chain. length (string_bytes chain.now.text) ≤ 4096) }
-    ensures gives { Gives stack_meaning fault_in (stack_of (map chain_of chains.now) (option_map (λ chain. chain_of chain.now) show.entry) (option_map (λ chain. chain_of chain.now) binary.entry)) result }
+    ensures gives { Gives stack_meaning
+        fault_in (stack_of (map chain_of chains.now)
+        (option_map (λ chain. chain_of chain.now) show.entry)
+        (option_map (λ chain. chain_of chain.now) binary.entry)) result }
     ensures forest { IfOk result (λ stack. IsForest (instances_in stack)) }
 {
     let instances = match read_chains(alloc, chains) {
@@ -69,7 +73,8 @@ impl Stack {
     /// The kind of an instance.
     pub fn kind(&self, instance: u32) -> Kind
         requires { instance < length (instances_in self.now) }
-        ensures { option_map (λ i. i.kind) (slice_get (instances_in self.now) instance) ≡ Some result }
+        ensures { option_map (λ i. i.kind) (slice_get (instances_in self.now) instance)
+            ≡ Some result }
     {
         self.instances[instance as usize].kind
     }
@@ -77,7 +82,8 @@ impl Stack {
     /// The number of an instance among those of its kind, counted from 1.
     pub fn number(&self, instance: u32) -> u32
         requires { instance < length (instances_in self.now) }
-        ensures { option_map (λ i. i.number) (slice_get (instances_in self.now) instance) ≡ Some result }
+        ensures { option_map (λ i. i.number) (slice_get (instances_in self.now) instance)
+            ≡ Some result }
     {
         self.instances[instance as usize].number
     }

@@ -1,10 +1,12 @@
 // Reading which instances are shown, and whose binary data is wanted.
-ghost use Rattle.std.specs.Prelude.{◌≡◌, ◌<◌, ◌≤◌, [], length, map, slice_get, option_map, IfOk, IfSome};
+ghost use Rattle.std.specs.Prelude.{◌≡◌, ◌<◌, ◌≤◌, [], length, map, slice_get, option_map, IfOk};
+ghost use Rattle.std.specs.Prelude.{IfSome};
 ghost use Rattle.std.specs.List.{before_first, after_first};
 ghost use Rattle.std.specs.String.{string_bytes};
 ghost use Rattle.text_parts.specs.Chains.{chain_of};
 ghost use Rattle.text_parts.specs.Reading.{Gives};
-ghost use Rattle.stack_spec.specs.Accepting.{binary_of, class_in, class_of_name, names_of, shown_at, shown_of};
+ghost use Rattle.stack_spec.specs.Accepting.{binary_of, class_in, class_of_name, names_of};
+ghost use Rattle.stack_spec.specs.Accepting.{shown_at, shown_of};
 ghost use Rattle.stack_spec.specs.Meaning.{fault_in, instance_of};
 ghost use Rattle.stack_spec.specs.Options.{is_colon};
 
@@ -19,7 +21,8 @@ use text_parts::{ChainWord, place_behind};
 // The place of the instance of a name.
 fn read_name(instances: &[Instance], word: u32, at: u32, name: &str) -> Result<u32, StackError>
     requires { length instances.now ≤ 24 }
-    ensures { Gives (λ place. place) fault_in (shown_at (map instance_of instances.now) word [] (at, name.now)) result }
+    ensures { Gives (λ place. place)
+        fault_in (shown_at (map instance_of instances.now) word [] (at, name.now)) result }
 {
     match place_named(instances, name.as_bytes()) {
         Some(place) => Ok(place),
@@ -36,7 +39,8 @@ fn read_names(
 ) -> Result<Vec<u32>, StackError>
     requires few { length instances.now ≤ 24 }
     requires short { length text.now ≤ 4096 }
-    ensures { Gives (λ v. v.items) fault_in (names_of (map instance_of instances.now) word text.now) result }
+    ensures { Gives
+        (λ v. v.items) fault_in (names_of (map instance_of instances.now) word text.now) result }
 {
     let mut places = Vec::new(alloc);
     let mut at: u32 = 0;
@@ -62,7 +66,9 @@ pub fn read_shown(
 ) -> Result<Option<Vec<u32>>, StackError>
     requires few { length instances.now ≤ 24 }
     requires short { IfSome show (λ chain. length (string_bytes chain.now.text) ≤ 4096) }
-    ensures { Gives (option_map (λ v. v.items)) fault_in (shown_of (map instance_of instances.now) (option_map (λ chain. chain_of chain.now) show.entry)) result }
+    ensures { Gives (option_map (λ v. v.items))
+        fault_in (shown_of (map instance_of instances.now)
+        (option_map (λ chain. chain_of chain.now) show.entry)) result }
 {
     match show {
         None => Ok(None),
@@ -104,7 +110,8 @@ fn cut(text: &str) -> (&str, &str)
 fn read_class(instances: &[Instance], word: u32, text: &str) -> Result<(u32, u16), StackError>
     requires few { length instances.now ≤ 24 }
     requires short { length text.now ≤ 4096 }
-    ensures gives { Gives (λ p. (p.0, p.1)) fault_in (class_of_name (map instance_of instances.now) word text.now) result }
+    ensures gives { Gives (λ p. (p.0, p.1))
+        fault_in (class_of_name (map instance_of instances.now) word text.now) result }
     ensures within { IfOk result (λ p. p.0 < length instances.now) }
 {
     let (name, class) = cut(text);
@@ -125,7 +132,9 @@ pub fn read_binary(
 ) -> Result<Option<(u32, u16)>, StackError>
     requires few { length instances.now ≤ 24 }
     requires short { IfSome binary (λ chain. length (string_bytes chain.now.text) ≤ 4096) }
-    ensures gives { Gives (option_map (λ p. (p.0, p.1))) fault_in (binary_of (map instance_of instances.now) (option_map (λ chain. chain_of chain.now) binary.entry)) result }
+    ensures gives { Gives (option_map (λ p. (p.0, p.1)))
+        fault_in (binary_of (map instance_of instances.now)
+        (option_map (λ chain. chain_of chain.now) binary.entry)) result }
     ensures within { IfOk result (λ b. IfSome b (λ p. p.0 < length instances.now)) }
 {
     match binary {

@@ -6,8 +6,8 @@ ghost use Rattle.stack_spec.specs.Sound.{is_sound};
 
 use crate::instance::Instance;
 
-/// Decoders, each on samples or on an earlier one; which of them are shown, and whose binary data is
-/// wanted. Instances are numbered from 0 in the order of the words.
+/// Decoders, each on samples or on an earlier one; which of them are shown, and whose binary data
+/// is wanted. Instances are numbered from 0 in the order of the words.
 #[derive(Debug, Drop)]
 pub struct Stack {
     pub(crate) instances: Vec<Instance>,

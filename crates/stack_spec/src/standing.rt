@@ -1,7 +1,8 @@
 // What instances stand on.
 ghost use Rattle.std.specs.Prelude.{◌≡◌, ◌<◌, None, Some, map, option_map, slice_get, length};
 ghost use Rattle.decoder_set.specs.Kinds.{opt_row};
-ghost use Rattle.stack_spec.specs.Instances.{has_numbers, number_given, number_in, stands_on, why_not};
+ghost use Rattle.stack_spec.specs.Instances.{has_numbers, number_given, number_in, stands_on};
+ghost use Rattle.stack_spec.specs.Instances.{why_not};
 ghost use Rattle.stack_spec.specs.Meaning.{given_of, instance_of, meaning_of};
 
 use crate::StackWhy;

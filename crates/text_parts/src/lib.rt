@@ -1,8 +1,8 @@
 //! Reading a text part by part, to its first fault.
 //!
-//! `specs/Reading.antt` says what it means to read parts one after another, `specs/Places.antt` what
-//! the parts of a text are, and `specs/Numbers.antt` what a number is. The functions of this file are
-//! what holds of every such reading.
+//! `specs/Reading.antt` says what it means to read parts one after another, `specs/Places.antt`
+//! what the parts of a text are, and `specs/Numbers.antt` what a number is. The functions of this
+//! file are what holds of every such reading.
 #![tactic(auto)]
 
 ghost use Rattle.std.specs.Prelude.{◌≡◌, ◌+◌, ◌<◌, ◌≤◌, ◌^◌, length, ℕ, List, Result};

@@ -1,5 +1,7 @@
 -- What it means to bind the terms of an alternative to channels.
-use Rattle.std.specs.Prelude.{ℕ, ◌≡◌, ◌<◌, Bool, ◌==◌, nat_le, max, List, [], ◌∷◌, ◌++◌, length, slice_get, slice_index, Option, Some, None, Result, Ok, Err, if◌then◌else◌}
+use Rattle.std.specs.Prelude.{ℕ, ◌≡◌, ◌<◌, Bool, ◌==◌, nat_le, max, List, [], ◌∷◌, ◌++◌, length}
+use Rattle.std.specs.Prelude.{slice_get, slice_index, Option, Some, None, Result, Ok, Err}
+use Rattle.std.specs.Prelude.{if◌then◌else◌}
 use Rattle.std.specs.List.{list_any, enumerate_from}
 use Rattle.la_base.specs.Naming.{find_channel}
 use Rattle.text_parts.specs.Reading.{read_parts}
@@ -36,7 +38,9 @@ is_pin pins channel = list_any (λ pin. pin == channel) pins
 -- the channels that aren't pins, each once, in the order in which they are used first
 abbrev pub first_uses : List ℕ → List ℕ → List ℕ
 first_uses pins [] = []
-first_uses pins (channel ∷ channels) = if is_pin pins channel then first_uses pins channels else channel ∷ first_uses (pins ++ channel ∷ []) channels
+first_uses pins (channel ∷ channels) =
+    if is_pin pins channel then first_uses pins channels
+    else channel ∷ first_uses (pins ++ channel ∷ []) channels
 
 -- the pins, and behind them the new channels in the order of their first use
 abbrev pub pins_after : List ℕ → List Bound → List ℕ
@@ -44,7 +48,8 @@ pins_after pins bounds = pins ++ first_uses pins (channels bounds)
 
 -- no channel is a pin twice
 abbrev pub Distinct : List ℕ → Type 0
-Distinct pins = (i j channel : ℕ) → slice_get pins i ≡ Some channel → slice_get pins j ≡ Some channel → i ≡ j
+Distinct pins =
+    (i j channel : ℕ) → slice_get pins i ≡ Some channel → slice_get pins j ≡ Some channel → i ≡ j
 
 -- each pin is a channel below a count
 abbrev pub AllBelow : ℕ → List ℕ → Type 0
@@ -53,23 +58,29 @@ AllBelow count pins = (k : ℕ) → k < length pins → slice_index pins k < cou
 abbrev pub fault : ℕ → BindWhy → Result Bound ItemFault
 fault item why = Err (record { item = item; why = why })
 
--- a letter on the channel that was found, if one was, behind the terms before it: no more pins than `most`
+-- a letter on the channel that was found, if one was, behind the terms before it: no more pins than
+-- `most`
 abbrev pub on_channel : ℕ → List ℕ → List Bound → ℕ → Letter → Option ℕ → Result Bound ItemFault
 on_channel most pins before item letter None = fault item Unknown
-on_channel most pins before item letter (Some channel) = if nat_le (length (pins_after pins (before ++ On channel letter ∷ []))) most then Ok (On channel letter) else fault item TooMany
+on_channel most pins before item letter (Some channel) =
+    if nat_le (length (pins_after pins (before ++ On channel letter ∷ []))) most
+    then Ok (On channel letter) else fault item TooMany
 
 -- one term, behind those before it
 abbrev pub bound_as : ℕ → List (List ℕ) → List ℕ → List Bound → ℕ → Meaning → Result Bound ItemFault
-bound_as most names pins before item (Line reference letter) = on_channel most pins before item letter (find_channel names reference)
+bound_as most names pins before item (Line reference letter) =
+    on_channel most pins before item letter (find_channel names reference)
 bound_as most names pins before item (Skip number) = Ok (Skips number)
 
 -- a term with its place among the terms
-abbrev pub bind_term : ℕ → List (List ℕ) → List ℕ → List Bound → ℕ × Meaning → Result Bound ItemFault
+abbrev pub bind_term : ℕ → List (List ℕ) → List ℕ → List Bound → ℕ × Meaning
+    → Result Bound ItemFault
 bind_term most names pins before part = bound_as most names pins before part.0 part.1
 
 -- all terms are bound in their order, or the first fault; the items count all terms from 0
 abbrev pub bind_terms : ℕ → List (List ℕ) → List ℕ → List Meaning → Result (List Bound) ItemFault
-bind_terms most names pins terms = read_parts (bind_term most names pins) [] (enumerate_from 0 terms)
+bind_terms most names pins terms =
+    read_parts (bind_term most names pins) [] (enumerate_from 0 terms)
 
 -- the mask of a letter
 abbrev pub mask_of : Alt → Letter → ℕ
@@ -87,19 +98,24 @@ pub record Asked (pins : List ℕ) (bounds : List Bound) (letter : Letter) (line
   pub term : ℕ
   pub asks : slice_get bounds term ≡ Some (On channel letter)
 
--- an alternative that asks these terms of the pins: each mask has the lines of which some term asks its letter
+-- an alternative that asks these terms of the pins: each mask has the lines of which some term asks
+-- its letter
 pub record Asks (pins : List ℕ) (bounds : List Bound) (alt : Alt) : Type 0 where
   pub masks : (letter : Letter) → Which (mask_of alt letter) (Asked pins bounds letter)
   pub skip_is : alt.skip ≡ skip_of bounds
 
 -- the terms are bound to these pins and this alternative
-pub record IsBound (most : ℕ) (names : List (List ℕ)) (old new : List ℕ) (terms : List Meaning) (alt : Alt) : Type 0 where
+pub record IsBound (most : ℕ) (names : List (List ℕ)) (old new : List ℕ) (terms : List Meaning)
+    (alt : Alt) : Type 0 where
   pub bounds : List Bound
   pub read : bind_terms most names old terms ≡ Ok bounds
   pub pins : new ≡ pins_after old bounds
   pub asks : Asks new bounds alt
 
--- what an answer means: the terms are bound, or their first fault, which leaves the pins as they were
-abbrev pub Binds : ℕ → List (List ℕ) → List ℕ → List ℕ → List Meaning → Result Alt ItemFault → Type 0
+-- what an answer means: the terms are bound, or their first fault, which leaves the pins as they
+-- were
+abbrev pub Binds : ℕ → List (List ℕ) → List ℕ → List ℕ → List Meaning → Result Alt ItemFault
+    → Type 0
 Binds most names old new terms (Ok alt) = IsBound most names old new terms alt
-Binds most names old new terms (Err fault) = (bind_terms most names old terms ≡ Err fault) × (new ≡ old)
+Binds most names old new terms (Err fault) =
+    (bind_terms most names old terms ≡ Err fault) × (new ≡ old)

@@ -14,7 +14,8 @@ pub record IsExact (alts : List Alt) : Type 0 where
   pub few : length alts ≤ 2
   pub each : (i : ℕ) (alt : Alt) → slice_get alts i ≡ Some alt → SaysAll alt
 
--- what is kept beside the alternatives: the lines that they watch and that they ask to be high, their least skip, and their masks
+-- what is kept beside the alternatives: the lines that they watch and that they ask to be high,
+-- their least skip, and their masks
 pub record IsKept (alts : List Alt) (watched high skip : ℕ) (pair : Pair) : Type 0 where
   pub some : 1 ≤ length alts
   pub watches : watched ≢ 0 → Watches watched alts

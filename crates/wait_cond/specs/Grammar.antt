@@ -1,5 +1,6 @@
 -- The grammar of a condition's word: its terms, or its first fault by place.
-use Rattle.std.specs.Prelude.{ℕ, Bool, true, false, ◌+◌, ◌-◌, ◌^◌, ◌==◌, nat_le, List, [], length, Option, Some, None, Result, Ok, Err, if◌then◌else◌, codes}
+use Rattle.std.specs.Prelude.{ℕ, Bool, true, false, ◌+◌, ◌-◌, ◌^◌, ◌==◌, nat_le, List, [], length}
+use Rattle.std.specs.Prelude.{Option, Some, None, Result, Ok, Err, if◌then◌else◌, codes}
 use Rattle.std.specs.List.{list_any, before_first, after_first, position_or_len}
 use Rattle.std.specs.Str.{bytes_eq}
 use Rattle.text_parts.specs.Numbers.{number_in}
@@ -70,8 +71,10 @@ term_at before part = if nat_le most_terms (length before) then fault part.0 why
     else if length part.1 == 0 then fault part.0 why.Empty
     else if position_or_len is_equals part.1 == length part.1 then fault part.0 why.Term
     else if length (before_first is_equals part.1) == 0 then fault part.0 why.Term
-    else named_term before (before_first is_equals part.1) (part.0 + length (before_first is_equals part.1) + 1) (after_first is_equals part.1)
+    else named_term before (before_first is_equals part.1)
+    (part.0 + length (before_first is_equals part.1) + 1) (after_first is_equals part.1)
 
 -- the terms of a word between its commas, or its first fault; the word `any` has none
 abbrev pub terms_of : List ℕ → Result (List Meaning) CondFault
-terms_of word = if bytes_eq word (codes "any") then Ok [] else read_parts term_at [] (parts_between 44 word)
+terms_of word =
+    if bytes_eq word (codes "any") then Ok [] else read_parts term_at [] (parts_between 44 word)

@@ -15,7 +15,8 @@ Levels = ℕ → ℕ
 
 -- a sample has the levels of the channels that are its pins
 abbrev pub HasLevels : List ℕ → Levels → ℕ → Type 0
-HasLevels pins levels sample = (line channel : ℕ) → slice_get pins line ≡ Some channel → bit_at sample line ≡ levels channel
+HasLevels pins levels sample =
+    (line channel : ℕ) → slice_get pins line ≡ Some channel → bit_at sample line ≡ levels channel
 
 -- so has the sample before, if there is one
 abbrev pub HadLevels : List ℕ → Option Levels → Option ℕ → Type 0
@@ -40,19 +41,28 @@ LetterHolds before now channel High = now channel ≡ 1
 LetterHolds before now channel Rise = GoesUp before now channel
 LetterHolds before now channel Fall = GoesDown before now channel
 LetterHolds before now channel Edge = GoesUp before now channel ⊎ GoesDown before now channel
-LetterHolds before now channel Steady = (¬ GoesUp before now channel) × (¬ GoesDown before now channel)
+LetterHolds before now channel Steady =
+    (¬ GoesUp before now channel) × (¬ GoesDown before now channel)
 
--- a term holds at sample q in the wait from sample `from` on: its letter, of the channel of its reference; or so many samples lie between
+-- a term holds at sample q in the wait from sample `from` on: its letter, of the channel of its
+-- reference; or so many samples lie between
 abbrev pub TermHolds : List (List ℕ) → Option Levels → Levels → ℕ → ℕ → Meaning → Type 0
-TermHolds names before now from q (Line reference letter) = (channel : ℕ) × (find_channel names reference ≡ Some channel) × LetterHolds before now channel letter
+TermHolds names before now from q (Line reference letter) =
+    (channel : ℕ) × (find_channel names reference ≡ Some channel)
+    × LetterHolds before now channel letter
 TermHolds names before now from q (Skip number) = number ≢ 0 → from + number ≤ q + 1
 
 -- each term holds
 abbrev pub AllHold : List (List ℕ) → Option Levels → Levels → ℕ → ℕ → List Meaning → Type 0
-AllHold names before now from q terms = (i : ℕ) (term : Meaning) → slice_get terms i ≡ Some term → TermHolds names before now from q term
+AllHold names before now from q terms =
+    (i : ℕ) (term : Meaning) → slice_get terms i ≡ Some term
+    → TermHolds names before now from q term
 
 -- an alternative that terms are bound to is met exactly where each of the terms holds
 abbrev pub MetWhereTermsHold : Type 0
-MetWhereTermsHold = (most : ℕ) (names : List (List ℕ)) (old pins : List ℕ) (terms : List Meaning) (alt : Alt) → IsBound most names old pins terms alt
-    → (before : Option Levels) (now : Levels) (sample_before : Option ℕ) (sample from q : ℕ) → HadLevels pins before sample_before → HasLevels pins now sample
+MetWhereTermsHold =
+    (most : ℕ) (names : List (List ℕ)) (old pins : List ℕ) (terms : List Meaning) (alt : Alt)
+    → IsBound most names old pins terms alt
+    → (before : Option Levels) (now : Levels) (sample_before : Option ℕ) (sample from q : ℕ)
+    → HadLevels pins before sample_before → HasLevels pins now sample
     → MeetsAt alt sample_before sample from q ↔ AllHold names before now from q terms

@@ -1,5 +1,6 @@
 -- What alternatives ask, in masks of the lines that the lower half of a sample has.
-use Rattle.std.specs.Prelude.{ℕ, ◌≡◌, ◌≢◌, ◌^◌, ◌/◌, ◌%◌, ◌<◌, List, [], ◌∷◌, ◌⊎◌, bit_and, bit_or, bit_xor}
+use Rattle.std.specs.Prelude.{ℕ, ◌≡◌, ◌≢◌, ◌^◌, ◌/◌, ◌%◌, ◌<◌, List, [], ◌∷◌, ◌⊎◌, bit_and, bit_or}
+use Rattle.std.specs.Prelude.{bit_xor}
 use Rattle.wait_cond.specs.Watching.{edge_lines, high_lines, AskHigh}
 use Rattle.wait_cond.specs.declared.alt.Alt.{Alt}
 use Rattle.wait_cond.specs.declared.pair.Masks.{Masks}
@@ -9,7 +10,8 @@ use Rattle.wait_cond.specs.declared.pair.Pair.{Pair}
 abbrev pub low_lines : Alt → ℕ
 low_lines alt = bit_or alt.low alt.fall
 
--- the lines of which it asks a level, and those of which it asks that they change or that they don't
+-- the lines of which it asks a level, and those of which it asks that they change or that they
+-- don't
 abbrev pub level_lines : Alt → ℕ
 level_lines alt = bit_or (high_lines alt) (low_lines alt)
 
@@ -23,7 +25,8 @@ pub record OfAlt (masks : Masks) (alt : Alt) : Type 0 where
   pub edge : masks.edge ≡ edge_lines alt % 2 ^ 64
   pub asked : masks.asked ≡ change_lines alt % 2 ^ 64
 
--- the masks say all: there is no skip, an edge is asked, of no line two things that don't go together, and nothing of a line of the upper half
+-- the masks say all: there is no skip, an edge is asked, of no line two things that don't go
+-- together, and nothing of a line of the upper half
 pub record SaysAll (alt : Alt) : Type 0 where
   pub skip : alt.skip ≡ 0
   pub edge : edge_lines alt ≢ 0
@@ -33,11 +36,14 @@ pub record SaysAll (alt : Alt) : Type 0 where
 
 -- the lines that keep a sample from meeting an alternative
 abbrev pub missing : Masks → ℕ → ℕ → ℕ
-missing masks changed now = bit_or (bit_and (bit_xor now masks.want) masks.care) (bit_and (bit_xor changed masks.edge) masks.asked)
+missing masks changed now =
+    bit_or (bit_and (bit_xor now masks.want) masks.care)
+    (bit_and (bit_xor changed masks.edge) masks.asked)
 
 -- the same of whole samples
 abbrev pub missing_in : Masks → ℕ → ℕ → ℕ
-missing_in masks before now = missing masks (bit_xor (before % 2 ^ 64) (now % 2 ^ 64)) (now % 2 ^ 64)
+missing_in masks before now =
+    missing masks (bit_xor (before % 2 ^ 64) (now % 2 ^ 64)) (now % 2 ^ 64)
 
 -- a pair is one alternative, whose masks stand twice, or two
 pub record SaysOne (pair : Pair) (alts : List Alt) : Type 0 where

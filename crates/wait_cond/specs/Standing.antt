@@ -5,7 +5,8 @@ use Rattle.wait_cond.specs.declared.alt.Alt.{Alt}
 
 -- an alternative is met at sample q, where it and the one before have this value
 abbrev pub MetStanding : List Alt → ℕ → ℕ → ℕ → Type 0
-MetStanding alts value from q = (i : ℕ) × (alt : Alt) × (slice_get alts i ≡ Some alt) × MeetsAt alt (Some value) value from q
+MetStanding alts value from q =
+    (i : ℕ) × (alt : Alt) × (slice_get alts i ≡ Some alt) × MeetsAt alt (Some value) value from q
 
 -- the first sample from `begin` on and before `end` at which one is met, or `end`
 pub record FirstStanding (alts : List Alt) (value from begin end first : ℕ) : Type 0 where

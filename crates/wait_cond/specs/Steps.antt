@@ -1,5 +1,6 @@
 -- One step of binding: what a helper of it answers.
-use Rattle.std.specs.Prelude.{ℕ, ◌≡◌, ◌<◌, ◌≤◌, max, List, [], ◌∷◌, ◌++◌, length, slice_get, Option, Some, None, Result, Ok, Err, if◌then◌else◌, ◌⊎◌}
+use Rattle.std.specs.Prelude.{ℕ, ◌≡◌, ◌<◌, ◌≤◌, max, List, [], ◌∷◌, ◌++◌, length, slice_get, Option}
+use Rattle.std.specs.Prelude.{Some, None, Result, Ok, Err, if◌then◌else◌, ◌⊎◌}
 use Rattle.std.specs.Int.{bit_at}
 use Rattle.la_base.specs.Naming.{find_channel}
 use Rattle.wait_cond.specs.Binding.{is_pin, mask_of}
@@ -17,7 +18,8 @@ with_pin pins channel = if is_pin pins channel then pins else pins ++ channel �
 
 -- the place of a channel among the pins that it joined; or none where there is no place for it
 abbrev pub Placed : ℕ → List ℕ → List ℕ → ℕ → Option ℕ → Type 0
-Placed most old new channel (Some place) = (new ≡ with_pin old channel) × (slice_get new place ≡ Some channel) × (length new ≤ most)
+Placed most old new channel (Some place) =
+    (new ≡ with_pin old channel) × (slice_get new place ≡ Some channel) × (length new ≤ most)
 Placed most old new channel None = (new ≡ old) × (most < length (with_pin old channel))
 
 -- an alternative with another mask for a letter
@@ -40,7 +42,8 @@ pub record AsksMore (old new : Alt) (letter : Letter) (line : ℕ) : Type 0 wher
   pub set : new ≡ set_mask old letter mask
 
 -- a letter was asked of the channel that was found, if one was
-pub record OnPin (most : ℕ) (old_pins new_pins : List ℕ) (old new : Alt) (letter : Letter) (found : Option ℕ) : Type 0 where
+pub record OnPin (most : ℕ) (old_pins new_pins : List ℕ) (old new : Alt) (letter : Letter)
+    (found : Option ℕ) : Type 0 where
   pub channel : ℕ
   pub is : found ≡ Some channel
   pub pins : new_pins ≡ with_pin old_pins channel
@@ -50,10 +53,15 @@ pub record OnPin (most : ℕ) (old_pins new_pins : List ℕ) (old new : Alt) (le
   pub asks : AsksMore old new letter line
 
 -- what the step of a line answers
-abbrev pub LineStep : ℕ → List ℕ → List ℕ → Alt → Alt → Letter → Option ℕ → Result (Unit {0}) BindWhy → Type 0
-LineStep most old_pins new_pins old new letter found (Ok done) = OnPin most old_pins new_pins old new letter found
-LineStep most old_pins new_pins old new letter found (Err Unknown) = (new_pins ≡ old_pins) × (found ≡ None)
-LineStep most old_pins new_pins old new letter found (Err TooMany) = (new_pins ≡ old_pins) × (channel : ℕ) × (found ≡ Some channel) × (most < length (with_pin old_pins channel))
+abbrev pub LineStep : ℕ → List ℕ → List ℕ → Alt → Alt → Letter → Option ℕ
+    → Result (Unit {0}) BindWhy → Type 0
+LineStep most old_pins new_pins old new letter found (Ok done) =
+    OnPin most old_pins new_pins old new letter found
+LineStep most old_pins new_pins old new letter found (Err Unknown) =
+    (new_pins ≡ old_pins) × (found ≡ None)
+LineStep most old_pins new_pins old new letter found (Err TooMany) =
+    (new_pins ≡ old_pins) × (channel : ℕ) × (found ≡ Some channel)
+    × (most < length (with_pin old_pins channel))
 LineStep most old_pins new_pins old new letter found (Err Rate) = ⊥
 
 -- what the step of a skip does
@@ -62,7 +70,10 @@ pub record SkipStep (old_pins new_pins : List ℕ) (old new : Alt) (number : ℕ
   pub alt : new ≡ record old { skip = max old.skip number }
 
 -- what the step of a term answers
-abbrev pub TermStep : ℕ → List (List ℕ) → List ℕ → List ℕ → Alt → Alt → Meaning → Result (Unit {0}) BindWhy → Type 0
-TermStep most names old_pins new_pins old new (Line reference letter) result = LineStep most old_pins new_pins old new letter (find_channel names reference) result
-TermStep most names old_pins new_pins old new (Skip number) (Ok done) = SkipStep old_pins new_pins old new number
+abbrev pub TermStep : ℕ → List (List ℕ) → List ℕ → List ℕ → Alt → Alt → Meaning
+    → Result (Unit {0}) BindWhy → Type 0
+TermStep most names old_pins new_pins old new (Line reference letter) result =
+    LineStep most old_pins new_pins old new letter (find_channel names reference) result
+TermStep most names old_pins new_pins old new (Skip number) (Ok done) =
+    SkipStep old_pins new_pins old new number
 TermStep most names old_pins new_pins old new (Skip number) (Err why) = ⊥

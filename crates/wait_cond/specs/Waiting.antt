@@ -1,5 +1,6 @@
 -- What a waiter stands for.
-use Rattle.std.specs.Prelude.{ℕ, ◌≡◌, ◌≢◌, ◌+◌, ◌-◌, ◌≤◌, ◌<◌, List, [], ◌++◌, length, take, slice_index, Option, Some, None, IfSome}
+use Rattle.std.specs.Prelude.{ℕ, ◌≡◌, ◌≢◌, ◌+◌, ◌-◌, ◌≤◌, ◌<◌, List, [], ◌++◌, length, take}
+use Rattle.std.specs.Prelude.{slice_index, Option, Some, None, IfSome}
 use Rattle.la_base.specs.declared.samples.Run.{Run}
 use Rattle.la_base.specs.Samples.{samples}
 use Rattle.wait_cond.specs.Stops.{NoneMet, MetIn, IsStop}
@@ -37,27 +38,33 @@ Waits w list = WaitsAt w.cond w.consumed w.from w.last list
 
 -- a waiter may go on by so many samples, the last of which is then this one
 abbrev pub GoesOn : Waiter → ℕ → ℕ → List ℕ → Type 0
-GoesOn w count last more = (list : List ℕ) → Waits w list → WaitsAt w.cond (w.consumed + count) w.from last (list ++ more)
+GoesOn w count last more =
+    (list : List ℕ) → Waits w list → WaitsAt w.cond (w.consumed + count) w.from last (list ++ more)
 
 -- the sample behind a last stop; the first of all where there was none
 abbrev pub behind_stop : Option ℕ → ℕ
 behind_stop None = 0
 behind_stop (Some at) = at + 1
 
--- as many samples, the last of which is this one if there is one, and none of those behind the last stop met the condition: what a waiter is made for
+-- as many samples, the last of which is this one if there is one, and none of those behind the last
+-- stop met the condition: what a waiter is made for
 pub record MadeOf (alts : List Alt) (consumed from last : ℕ) (list : List ℕ) : Type 0 where
   pub count : length list ≡ consumed
   pub last_is : 0 < consumed → last ≡ slice_index list (consumed - 1)
   pub none : NoneMet list alts from consumed
 
--- the first sample of those behind the first n that meets a condition, counted from there, and the set that it meets
+-- the first sample of those behind the first n that meets a condition, counted from there, and the
+-- set that it meets
 abbrev pub Found : List Alt → ℕ → List ℕ → ℕ → ℕ → Option (ℕ × ℕ) → Type 0
 Found alts from list n len None = NoneMet list alts from (n + len)
-Found alts from list n len (Some (k, met)) = (k < len) × NoneMet list alts from (n + k) × MetIn list alts from (n + k) met × (met ≢ 0)
+Found alts from list n len (Some (k, met)) =
+    (k < len) × NoneMet list alts from (n + k) × MetIn list alts from (n + k) met × (met ≢ 0)
 
 -- the same in a run behind all that a waiter stands for
 abbrev pub FindsIn : Waiter → Run → Option (ℕ × ℕ) → Type 0
-FindsIn w run answer = (list : List ℕ) → Waits w list → Found w.cond w.from (list ++ samples run) (length list) run.len answer
+FindsIn w run answer =
+    (list : List ℕ) → Waits w list
+    → Found w.cond w.from (list ++ samples run) (length list) run.len answer
 
 -- the samples of what is left of a run
 abbrev pub rest_samples : Option Run → List ℕ
@@ -73,10 +80,14 @@ rest_len (Some run) = run.len
 abbrev pub Scanned : Waiter → Waiter → List ℕ → Scan → Type 0
 Scanned old new list Through = Waits new list × (new.from ≡ old.from)
 Scanned old new list (Met at value met rest) =
-    IsStop list old.cond old.from at met × (value ≡ slice_index list at) × (list ≡ take (at + 1) list ++ rest_samples rest) × Waits new (take (at + 1) list) × (new.from ≡ at + 1)
+    IsStop list old.cond old.from at met × (value ≡ slice_index list at)
+    × (list ≡ take (at + 1) list ++ rest_samples rest) × Waits new (take (at + 1) list)
+    × (new.from ≡ at + 1)
 
--- the answer to a stop, by numbers alone: it lies within the run, and what is left of the run follows it
-pub record StopCounts (old new : Waiter) (run : Run) (at value met : ℕ) (rest : Option Run) : Type 0 where
+-- the answer to a stop, by numbers alone: it lies within the run, and what is left of the run
+-- follows it
+pub record StopCounts (old new : Waiter) (run : Run) (at value met : ℕ)
+    (rest : Option Run) : Type 0 where
   pub behind : old.consumed ≤ at
   pub within : at < old.consumed + run.len
   pub some : met ≢ 0
@@ -106,9 +117,14 @@ pub record SameNumbers (one other : Waiter) : Type 0 where
 
 -- waiters with equal alternatives and last stops that stand for one list are equal
 abbrev pub OneWaiter : Type 0
-OneWaiter = (one other : Waiter) (list : List ℕ) → alts_of one ≡ alts_of other → wait_from one ≡ wait_from other → Waits one list → Waits other list → one ≡ other
+OneWaiter =
+    (one other : Waiter) (list : List ℕ) → alts_of one ≡ alts_of other
+    → wait_from one ≡ wait_from other → Waits one list → Waits other list → one ≡ other
 
--- a waiter stands for every list of as many samples as it consumed that ends in its last sample and has no stop behind its last one
+-- a waiter stands for every list of as many samples as it consumed that ends in its last sample and
+-- has no stop behind its last one
 abbrev pub EveryList : Type 0
-EveryList = (waiter : Waiter) (list : List ℕ) → length list ≡ consumed_by waiter → last_of waiter ≡ slice_index list (consumed_by waiter - 1)
+EveryList =
+    (waiter : Waiter) (list : List ℕ) → length list ≡ consumed_by waiter
+    → last_of waiter ≡ slice_index list (consumed_by waiter - 1)
     → NoneMet list (alts_of waiter) (wait_from waiter) (consumed_by waiter) → Waits waiter list

@@ -10,7 +10,9 @@ edge_lines alt = bit_or (bit_or alt.rise alt.fall) alt.edge
 
 -- each alternative asks an edge of a line, and these are such lines of all of them
 abbrev pub Watches : ℕ → List Alt → Type 0
-Watches lines alts = (i : ℕ) (alt : Alt) → slice_get alts i ≡ Some alt → (edge_lines alt ≢ 0) × AllIn (edge_lines alt) lines
+Watches lines alts =
+    (i : ℕ) (alt : Alt) → slice_get alts i ≡ Some alt
+    → (edge_lines alt ≢ 0) × AllIn (edge_lines alt) lines
 
 -- the lines that an alternative asks to be high, also those that rise
 abbrev pub high_lines : Alt → ℕ
@@ -18,7 +20,8 @@ high_lines alt = bit_or alt.high alt.rise
 
 -- each alternative asks these lines to be high
 abbrev pub AskHigh : ℕ → List Alt → Type 0
-AskHigh lines alts = (i : ℕ) (alt : Alt) → slice_get alts i ≡ Some alt → AllIn lines (high_lines alt)
+AskHigh lines alts =
+    (i : ℕ) (alt : Alt) → slice_get alts i ≡ Some alt → AllIn lines (high_lines alt)
 
 -- each alternative skips at least so many samples; and more than so many
 abbrev pub SkipAtLeast : ℕ → List Alt → Type 0

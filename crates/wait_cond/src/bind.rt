@@ -34,8 +34,8 @@ fn place_among(pins: &[u32], channel: u32) -> Option<usize>
     pins.iter().position(|pin| *pin == channel)
 }
 
-/// The place of a channel among the pins, which it joins behind if it isn't one; or none where there is
-/// no place left, and then the pins stay as they were.
+/// The place of a channel among the pins, which it joins behind if it isn't one; or none where
+/// there is no place left, and then the pins stay as they were.
 pub fn place_of(pins: &mut Pins, channel: u32) -> Option<u32>
     ensures { Placed MOST_PINS pins.old.items pins.new.items channel result }
 {
@@ -94,7 +94,8 @@ fn bind_line(
 
 // Binds one term.
 fn bind_term(term: &Term, names: &Names, pins: &mut Pins, alt: &mut Alt) -> Result<(), BindWhy>
-    ensures { TermStep MOST_PINS names.now pins.old.items pins.new.items alt.old alt.new (meaning_of term.now) result }
+    ensures { TermStep MOST_PINS names.now pins.old.items pins.new.items alt.old alt.new
+        (meaning_of term.now) result }
 {
     match term {
         Term::Line { reference, letter } => bind_line(
@@ -111,15 +112,17 @@ fn bind_term(term: &Term, names: &Names, pins: &mut Pins, alt: &mut Alt) -> Resu
 }
 
 /// Binds the terms of an alternative to channels, in their order. `Unknown` comes exactly where a
-/// term's channel isn't found by its reference, and `TooMany` exactly where it would be one pin more
-/// than `MOST_PINS`; `item` is the place of the first such term among all terms. The pins must be
-/// distinct, and stay so: new ones join them behind, in the order in which the terms use them. A
+/// term's channel isn't found by its reference, and `TooMany` exactly where it would be one pin
+/// more than `MOST_PINS`; `item` is the place of the first such term among all terms. The pins must
+/// be distinct, and stay so: new ones join them behind, in the order in which the terms use them. A
 /// refusal leaves the pins as they were. `Rate` never comes, and no memory is taken.
 pub fn bind_alt(words: &AltWords, names: &Names, pins: &mut Pins) -> Result<Alt, ItemFault>
     requires { Distinct pins.old.items }
-    ensures binds { Binds MOST_PINS names.now pins.old.items pins.new.items (alt_terms words.now) result }
+    ensures binds { Binds MOST_PINS names.now pins.old.items pins.new.items
+        (alt_terms words.now) result }
     ensures distinct { Distinct pins.new.items }
-    ensures below { AllBelow (length names.now) pins.old.items → AllBelow (length names.now) pins.new.items }
+    ensures below { AllBelow (length names.now) pins.old.items
+        → AllBelow (length names.now) pins.new.items }
     ensures never { IfErr result (λ fault. fault.why ≢ BindWhy.Rate) }
 {
     let known = pins.len();

@@ -1,8 +1,10 @@
 // Conditions.
-ghost use Rattle.std.specs.Prelude.{◌≡◌, ◌≢◌, ◌<◌, ◌≤◌, ◌∷◌, ◌++◌, [], length, Option, Some, IfSome, bit_or, nat_lt, true, ℕ};
+ghost use Rattle.std.specs.Prelude.{◌≡◌, ◌≢◌, ◌<◌, ◌≤◌, ◌∷◌, ◌++◌, [], length, Option, Some};
+ghost use Rattle.std.specs.Prelude.{IfSome, bit_or, nat_lt, true, ℕ};
 ghost use Rattle.wait_cond.specs.Conds.{OnlySkips};
 ghost use Rattle.wait_cond.specs.Pairs.{Says, SaysAll};
-ghost use Rattle.wait_cond.specs.Watching.{edge_lines, high_lines, Watches, AskHigh, NeverMet, SkipAtLeast, SkipMore};
+ghost use Rattle.wait_cond.specs.Watching.{edge_lines, high_lines, Watches, AskHigh, NeverMet};
+ghost use Rattle.wait_cond.specs.Watching.{SkipAtLeast, SkipMore};
 
 use crate::Alt;
 use crate::pair::{Pair, says_all};
@@ -10,8 +12,8 @@ use arrayvec::ArrayVec;
 use la_base::Word;
 use std::marker::Model;
 
-/// 1 to 8 alternatives, at least one of which must be met. Contracts see their list, so that equal alternatives
-/// make equal conditions.
+/// 1 to 8 alternatives, at least one of which must be met. Contracts see their list, so that equal
+/// alternatives make equal conditions.
 #[derive(Debug, Drop)]
 pub struct Cond {
     alts: ArrayVec<Alt, 8>,
@@ -38,7 +40,9 @@ impl Model for Cond {
 
     ghost view = { λ c. c.alts.items };
 
-    ghost invariant = { λ c. IsKept c.alts.items c.watched c.high c.skip c.pair × (c.exact ≡ true → IsExact c.alts.items) × (c.timer ≡ true → IsTimer c.alts.items c.skip) };
+    ghost invariant = { λ c. IsKept c.alts.items c.watched c.high c.skip c.pair
+        × (c.exact ≡ true → IsExact c.alts.items)
+        × (c.timer ≡ true → IsTimer c.alts.items c.skip) };
 }
 
 impl Cond {
@@ -131,8 +135,9 @@ impl Cond {
         samples < self.skip
     }
 
-    /// Whether there are one or two alternatives of which masks say all. Where one asks what masks can't say, or a line
-    /// of the upper half, the answer is false: each alternative is then looked at.
+    /// Whether there are one or two alternatives of which masks say all. Where one asks what masks
+    /// can't say, or a line of the upper half, the answer is false: each alternative is then looked
+    /// at.
     #[inline(always)]
     pub fn is_exact(&self) -> bool
         ensures { result ≡ true → IsExact self.now }
@@ -150,7 +155,8 @@ impl Cond {
         self.pair
     }
 
-    /// The samples that the one alternative skips, where there is one that asks nothing of the lines.
+    /// The samples that the one alternative skips, where there is one that asks nothing of the
+    /// lines.
     #[inline(always)]
     pub fn only_skip(&self) -> Option<u64>
         ensures { IfSome result (λ skip. IsTimer self.now skip) }
@@ -169,8 +175,9 @@ impl Cond {
         false
     }
 
-    /// Whether it is plain that no alternative is met: each asks one line to be high, and it is low;
-    /// or each asks an edge, and none of those lines changes. Nor is any met while the value stands.
+    /// Whether it is plain that no alternative is met: each asks one line to be high, and it is
+    /// low; or each asks an edge, and none of those lines changes. Nor is any met while the value
+    /// stands.
     #[inline]
     pub fn is_still(&self, before: Option<Word>, now: Word) -> bool
         ensures now { result ≡ true → NeverMet (cond_alts self.now) before now }
@@ -233,7 +240,8 @@ fn keep_one(alts: &mut ArrayVec<Alt, 8>, alt: Alt)
     alts[0] = alt;
 }
 
-// Whether masks say all of two alternatives, where they may of the first, and there are so many before the second.
+// Whether masks say all of two alternatives, where they may of the first, and there are so many
+// before the second.
 fn says_two(exact: bool, count: usize, alt: &Alt) -> bool
     ensures { result ≡ true → (exact ≡ true) × (count ≡ 1) × SaysAll alt.now }
 {

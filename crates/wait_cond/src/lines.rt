@@ -64,7 +64,8 @@ pub fn lines_hold(alt: &Alt, before: Option<Word>, now: Word) -> bool
 pub fn meets(alt: &Alt, before: Option<Word>, now: Word, from: u64, at: u64) -> bool
     requires early { from ≤ 2 ^ 60 }
     requires within { at < 2 ^ 60 }
-    ensures { MatchBool result (MeetsAt alt.now before now from at) (¬ MeetsAt alt.now before now from at) }
+    ensures { MatchBool result (MeetsAt alt.now before now from at)
+        (¬ MeetsAt alt.now before now from at) }
 {
     if alt.skip != 0 && (alt.skip > at + 1 || from > at + 1 - alt.skip) {
         return false;

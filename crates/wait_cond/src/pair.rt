@@ -7,8 +7,9 @@ ghost use Rattle.wait_cond.specs.declared.alt.Alt.{Alt};
 use crate::Alt;
 use la_base::{Word, high_half, low_half};
 
-/// What an alternative asks of the lines that the lower half of a sample has: of those of `care` the levels of `want`,
-/// and that of those of `asked` exactly those of `edge` change. Half a word, since 128 bits take twice the work.
+/// What an alternative asks of the lines that the lower half of a sample has: of those of `care`
+/// the levels of `want`, and that of those of `asked` exactly those of `edge` change. Half a word,
+/// since 128 bits take twice the work.
 #[derive(Clone, Copy, Debug, PartialEq, Eq)]
 struct Masks {
     want: u64,
@@ -41,8 +42,8 @@ impl Masks {
     }
 }
 
-/// Whether the masks of an alternative say all: it has no skip, asks an edge, of no line two things that don't go
-/// together, and nothing of a line of the upper half.
+/// Whether the masks of an alternative say all: it has no skip, asks an edge, of no line two things
+/// that don't go together, and nothing of a line of the upper half.
 pub fn says_all(alt: &Alt) -> bool
     ensures { result ≡ true → SaysAll alt.now }
 {
@@ -56,7 +57,8 @@ pub fn says_all(alt: &Alt) -> bool
         && high_half(high | low | (edge | alt.steady)) == 0
 }
 
-/// One or two alternatives, by masks that say all of them. None is met while a value stands, since each asks an edge.
+/// One or two alternatives, by masks that say all of them. None is met while a value stands, since
+/// each asks an edge.
 #[derive(Clone, Copy, Debug, PartialEq, Eq)]
 pub struct Pair {
     // the lines that each of them asks to be high
@@ -84,7 +86,8 @@ impl Pair {
 
     /// Another one beside the first.
     pub(crate) fn with(&self, alt: &Alt) -> Pair
-        ensures { (first : Alt) → Says self.now (first ∷ []) → SaysAll alt.now → Says result (first ∷ alt.now ∷ []) }
+        ensures { (first : Alt) → Says self.now (first ∷ []) → SaysAll alt.now
+            → Says result (first ∷ alt.now ∷ []) }
     {
         Pair {
             high: self.high & low_half(alt.high | alt.rise),
@@ -94,10 +97,12 @@ impl Pair {
         }
     }
 
-    /// The set of the alternatives that a sample meets which stands behind another one: bit i is alternative i.
+    /// The set of the alternatives that a sample meets which stands behind another one: bit i is
+    /// alternative i.
     #[inline(always)]
     pub fn met(&self, before: Word, now: Word) -> u8
-        ensures { (alts : List Alt) (from q : ℕ) → Says self.now alts → MetSet alts (Some before) now from q result }
+        ensures { (alts : List Alt) (from q : ℕ) → Says self.now alts
+            → MetSet alts (Some before) now from q result }
     {
         let level = low_half(now);
         if level & self.high != self.high {

@@ -19,9 +19,10 @@ fn before(samples: &[Word], at: usize) -> Option<Word>
     Some(samples[at - 1])
 }
 
-/// All stops of a list of samples, from the first wait to the last: for each its place, counted from 0,
-/// and the set of the alternatives that are met there, bit i for alternative i. It is the definition of
-/// stops, computed sample by sample: for small inputs, and to compare `Waiter::scan` with.
+/// All stops of a list of samples, from the first wait to the last: for each its place, counted
+/// from 0, and the set of the alternatives that are met there, bit i for alternative i. It is the
+/// definition of stops, computed sample by sample: for small inputs, and to compare `Waiter::scan`
+/// with.
 pub fn all_stops(alloc: Global, alts: &[Alt], samples: &[Word]) -> Result<Vec<(u64, u8)>, NoMemory>
     requires few { length alts.now ≤ 8 }
     requires early { length samples.now ≤ 2 ^ 60 }

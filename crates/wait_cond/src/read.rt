@@ -2,7 +2,8 @@
 ghost use Rattle.std.specs.Prelude.{◌≡◌, ◌≤◌, ◌<◌, ◌+◌, ◌^◌, length, Some, OnOk};
 ghost use Rattle.std.specs.List.{list_any};
 ghost use Rattle.text_parts.specs.Reading.{Gives};
-ghost use Rattle.wait_cond.specs.Grammar.{is_skip, letter_of, line_term, most_terms, named_term, skip_term, term_at, terms_of};
+ghost use Rattle.wait_cond.specs.Grammar.{is_skip, letter_of, line_term, most_terms, named_term};
+ghost use Rattle.wait_cond.specs.Grammar.{skip_term, term_at, terms_of};
 ghost use Rattle.wait_cond.specs.Words.{alt_terms, meaning_of, meanings, fault_in};
 
 use crate::words::{AltWords, CondError, CondFault, CondWhy, Letter, Term};
@@ -88,7 +89,8 @@ fn read_named(
     at: u32,
     text: &str,
 ) -> Result<Term, CondError>
-    ensures { Gives meaning_of fault_in (named_term (meanings before.now) name.now at text.now) result }
+    ensures { Gives meaning_of fault_in (named_term (meanings before.now) name.now at text.now)
+        result }
 {
     if name == "skip" {
         return read_skip(before, at, text);
@@ -99,7 +101,8 @@ fn read_named(
 // One term, behind those before it.
 fn read_term(alloc: Global, before: &[Term], at: u32, text: &str) -> Result<Term, CondError>
     requires { at + length text.now < 2 ^ 32 }
-    ensures gives { Gives meaning_of fault_in (term_at (meanings before.now) (at, text.now)) result }
+    ensures gives { Gives meaning_of fault_in (term_at (meanings before.now) (at, text.now))
+        result }
     ensures few { OnOk result (length before.now < most_terms) }
 {
     if before.len() >= MOST_TERMS {

@@ -12,8 +12,8 @@ use la_base::{Run, Word};
 // How many samples may be consumed.
 const MOST_SAMPLES: u64 = 1 << 60;
 
-/// Waits for the next sample that meets a condition. It stands for the samples that it has consumed,
-/// its last stop among them, and its condition; of the samples it holds three numbers.
+/// Waits for the next sample that meets a condition. It stands for the samples that it has
+/// consumed, its last stop among them, and its condition; of the samples it holds three numbers.
 #[derive(Drop)]
 pub struct Waiter {
     cond: Cond,
@@ -38,7 +38,8 @@ pub enum Scan {
 }
 
 impl Waiter {
-    ghost use Rattle.std.specs.Prelude.{◌≡◌, ◌≢◌, ◌+◌, ◌≤◌, ◌<◌, ◌^◌, ◌++◌, ◌==◌, if◌then◌else◌, [], ◌∷◌, List, ℕ, length, take, Some, IfSome, true};
+    ghost use Rattle.std.specs.Prelude.{◌≡◌, ◌≢◌, ◌+◌, ◌≤◌, ◌<◌, ◌^◌, ◌++◌, ◌==◌, if◌then◌else◌};
+    ghost use Rattle.std.specs.Prelude.{[], ◌∷◌, List, ℕ, length, take, Some, IfSome, true};
     ghost use Rattle.la_base.specs.Runs.{samples_of};
     ghost use Rattle.la_base.specs.Samples.{samples};
     ghost use Rattle.wait_cond.specs.Conds.{IsExact, IsTimer, cond_alts};
@@ -47,7 +48,9 @@ impl Waiter {
     ghost use Rattle.wait_cond.specs.Standing.{FirstStanding};
     ghost use Rattle.wait_cond.specs.Stops.{MetSet, NoneMet};
     ghost use Rattle.wait_cond.specs.Walks.{Walks, walked, walk_from};
-    ghost use Rattle.wait_cond.specs.Waiting.{Waits, MadeOf, Scanned, Counts, ThroughCounts, FindsIn, GoesOn, alts_of, behind_stop, wait_from, consumed_by, last_of};
+    ghost use Rattle.wait_cond.specs.Waiting.{Waits, MadeOf, Scanned, Counts, ThroughCounts};
+    ghost use Rattle.wait_cond.specs.Waiting.{FindsIn, GoesOn, alts_of, behind_stop, wait_from};
+    ghost use Rattle.wait_cond.specs.Waiting.{consumed_by, last_of};
 
     /// A waiter that has consumed no sample yet.
     pub fn new(cond: Cond) -> Waiter
@@ -63,8 +66,8 @@ impl Waiter {
         }
     }
 
-    /// A waiter from what is kept of one: how many samples it had consumed, its last stop and its last sample, which
-    /// says nothing where it had consumed none.
+    /// A waiter from what is kept of one: how many samples it had consumed, its last stop and its
+    /// last sample, which says nothing where it had consumed none.
     pub fn made(cond: Cond, consumed: u64, stop: Option<u64>, last: Word) -> Waiter
         requires few { consumed ≤ 2 ^ 60 }
         requires within { IfSome stop (λ at. at < consumed) }
@@ -72,7 +75,8 @@ impl Waiter {
         ensures consumed { consumed_by result ≡ consumed }
         ensures from { wait_from result ≡ behind_stop stop }
         ensures last { 0 < consumed → last_of result ≡ last }
-        ensures waits { (list : List ℕ) → MadeOf (cond_alts cond) consumed (behind_stop stop) last list → Waits result list }
+        ensures waits { (list : List ℕ)
+            → MadeOf (cond_alts cond) consumed (behind_stop stop) last list → Waits result list }
     {
         let from = match stop {
             Some(at) => at + 1,
@@ -86,8 +90,8 @@ impl Waiter {
         }
     }
 
-    /// What is to be kept of it beside its condition: how many samples it consumed, its last stop, and its last sample,
-    /// 0 where it consumed none.
+    /// What is to be kept of it beside its condition: how many samples it consumed, its last stop,
+    /// and its last sample, 0 where it consumed none.
     pub fn kept(&self) -> (u64, Option<u64>, Word)
         ensures consumed { result.0 ≡ consumed_by self.now }
         ensures few { result.0 ≤ 2 ^ 60 }
@@ -104,7 +108,8 @@ impl Waiter {
         (self.consumed, stop, self.last)
     }
 
-    /// Sets the condition of the next wait to one alternative, as `renew` does; it makes no condition anew.
+    /// Sets the condition of the next wait to one alternative, as `renew` does; it makes no
+    /// condition anew.
     pub fn renew_one(&mut self, alt: Alt)
         requires { wait_from self.old ≡ consumed_by self.old }
         ensures waits { (list : List ℕ) → Waits self.old list → Waits self.new list }
@@ -150,12 +155,14 @@ impl Waiter {
     }
 
     /// Whether it is plain that no sample of a run meets the condition, without a look at each
-    /// alternative: each asks one line to be high that is low, or each asks an edge and none of these lines
-    /// changes, or each skips more samples than there are up to the end of the run.
+    /// alternative: each asks one line to be high that is low, or each asks an edge and none of
+    /// these lines changes, or each skips more samples than there are up to the end of the run.
     #[inline]
     pub fn passes(&self, run: Run) -> bool
         requires { consumed_by self.now + run.len ≤ 2 ^ 60 }
-        ensures none { result ≡ true → (list : List ℕ) → Waits self.now list → NoneMet (list ++ samples run) (alts_of self.now) (wait_from self.now) (length list + run.len) }
+        ensures none { result ≡ true → (list : List ℕ) → Waits self.now list
+            → NoneMet (list ++ samples run) (alts_of self.now) (wait_from self.now)
+            (length list + run.len) }
     {
         if self.cond.is_still(self.before(), run.value) {
             return true;
@@ -163,12 +170,15 @@ impl Waiter {
         self.cond.skips_more(self.consumed + run.len - self.from)
     }
 
-    /// Whether it is plain that no sample of a run meets the condition, since it goes on with the value of
-    /// the last one and each alternative asks an edge. So it mostly is with what is left of a run.
+    /// Whether it is plain that no sample of a run meets the condition, since it goes on with the
+    /// value of the last one and each alternative asks an edge. So it mostly is with what is left
+    /// of a run.
     #[inline]
     pub fn rests(&self, run: Run) -> bool
         requires { consumed_by self.now + run.len ≤ 2 ^ 60 }
-        ensures none { result ≡ true → (list : List ℕ) → Waits self.now list → NoneMet (list ++ samples run) (alts_of self.now) (wait_from self.now) (length list + run.len) }
+        ensures none { result ≡ true → (list : List ℕ) → Waits self.now list
+            → NoneMet (list ++ samples run) (alts_of self.now) (wait_from self.now)
+            (length list + run.len) }
     {
         if self.consumed == 0 {
             return false;
@@ -183,7 +193,9 @@ impl Waiter {
     #[inline]
     pub fn pass(&mut self, run: Run)
         requires { consumed_by self.old + run.len ≤ 2 ^ 60 }
-        ensures waits { (list : List ℕ) → Waits self.old list → NoneMet (list ++ samples run) (alts_of self.old) (wait_from self.old) (length list + run.len) → Waits self.new (list ++ samples run) }
+        ensures waits { (list : List ℕ) → Waits self.old list
+            → NoneMet (list ++ samples run) (alts_of self.old) (wait_from self.old)
+            (length list + run.len) → Waits self.new (list ++ samples run) }
         ensures counts { ThroughCounts self.old self.new run }
         ensures alts { alts_of self.new ≡ alts_of self.old }
     {
@@ -191,12 +203,14 @@ impl Waiter {
         self.last = run.value;
     }
 
-    /// Consumes runs, from the first one on, as long as it is plain that they have no stop, and answers how
-    /// many. It ends before a run with which there would be more than 2^60 samples.
+    /// Consumes runs, from the first one on, as long as it is plain that they have no stop, and
+    /// answers how many. It ends before a run with which there would be more than 2^60 samples.
     pub fn pass_runs(&mut self, runs: &[Run]) -> usize
         ensures within { result ≤ length runs.now }
-        ensures waits { (list : List ℕ) → Waits self.old list → Waits self.new (list ++ samples_of (take result runs.now)) }
-        ensures count { consumed_by self.new ≡ consumed_by self.old + length (samples_of (take result runs.now)) }
+        ensures waits { (list : List ℕ) → Waits self.old list
+            → Waits self.new (list ++ samples_of (take result runs.now)) }
+        ensures count { consumed_by self.new
+            ≡ consumed_by self.old + length (samples_of (take result runs.now)) }
         ensures from { wait_from self.new ≡ wait_from self.old }
         ensures alts { alts_of self.new ≡ alts_of self.old }
     {
@@ -218,8 +232,10 @@ impl Waiter {
     fn pass_early(&mut self, skip: u64, runs: &[Run]) -> usize
         requires { IsTimer (alts_of self.old) skip }
         ensures within { result ≤ length runs.now }
-        ensures waits { (list : List ℕ) → Waits self.old list → Waits self.new (list ++ samples_of (take result runs.now)) }
-        ensures count { consumed_by self.new ≡ consumed_by self.old + length (samples_of (take result runs.now)) }
+        ensures waits { (list : List ℕ) → Waits self.old list
+            → Waits self.new (list ++ samples_of (take result runs.now)) }
+        ensures count { consumed_by self.new
+            ≡ consumed_by self.old + length (samples_of (take result runs.now)) }
         ensures from { wait_from self.new ≡ wait_from self.old }
         ensures alts { alts_of self.new ≡ alts_of self.old }
     {
@@ -229,7 +245,8 @@ impl Waiter {
         count
     }
 
-    // How many runs end before the time has passed, how many samples they have, and the last sample then.
+    // How many runs end before the time has passed, how many samples they have, and the last sample
+    // then.
     #[inline(always)]
     fn early(&self, skip: u64, runs: &[Run]) -> (usize, u64, Word)
         requires { IsTimer (alts_of self.now) skip }
@@ -252,8 +269,8 @@ impl Waiter {
         (runs.len(), room - left, last)
     }
 
-    /// Whether it waits for one or two alternatives of which masks say all, and has consumed a sample. Then `pair`
-    /// and `walk` take it through runs faster.
+    /// Whether it waits for one or two alternatives of which masks say all, and has consumed a
+    /// sample. Then `pair` and `walk` take it through runs faster.
     #[inline(always)]
     pub fn is_exact(&self) -> bool
         ensures { result ≡ true → IsExact (alts_of self.now) × (consumed_by self.now ≢ 0) }
@@ -261,7 +278,8 @@ impl Waiter {
         self.cond.is_exact() && self.consumed != 0
     }
 
-    /// The alternatives that it waits for, by their masks. None is met while a value stands, since each asks an edge.
+    /// The alternatives that it waits for, by their masks. None is met while a value stands, since
+    /// each asks an edge.
     #[inline(always)]
     pub fn pair(&self) -> Pair
         requires { IsExact (alts_of self.now) }
@@ -274,7 +292,8 @@ impl Waiter {
     /// The wait in the midst of runs, without its condition.
     #[inline(always)]
     pub fn walk(&self) -> Walk
-        ensures waits { (list : List ℕ) → Waits self.now list → Walks (alts_of self.now) result list }
+        ensures waits { (list : List ℕ) → Waits self.now list
+            → Walks (alts_of self.now) result list }
         ensures walked { walked result ≡ consumed_by self.now }
         ensures from { walk_from result ≡ wait_from self.now }
     {
@@ -303,7 +322,8 @@ impl Waiter {
     #[inline(always)]
     fn met_next(&self, value: Word) -> u8
         requires { self.now.consumed < 2 ^ 60 }
-        ensures { MetSet self.now.cond (if self.now.consumed == 0 then None else Some self.now.last) value self.now.from self.now.consumed result }
+        ensures { MetSet self.now.cond (if self.now.consumed == 0 then None else Some self.now.last)
+            value self.now.from self.now.consumed result }
     {
         met_set(
             self.cond.alts(),
@@ -314,13 +334,14 @@ impl Waiter {
         )
     }
 
-    // The first sample of a run behind its first one that meets the condition, by its place among all
-    // samples, or that behind the run: as the value stands, only a skip can begin to hold. It isn't
-    // inlined, so that runs of one sample are passed quickly.
+    // The first sample of a run behind its first one that meets the condition, by its place among
+    // all samples, or that behind the run: as the value stands, only a skip can begin to hold. It
+    // isn't inlined, so that runs of one sample are passed quickly.
     #[inline(never)]
     fn standing_stop(&self, run: Run) -> u64
         requires { self.now.consumed + run.len ≤ 2 ^ 60 }
-        ensures { FirstStanding self.now.cond run.value self.now.from (self.now.consumed + 1) (self.now.consumed + run.len) result }
+        ensures { FirstStanding self.now.cond run.value self.now.from (self.now.consumed + 1)
+            (self.now.consumed + run.len) result }
     {
         first_standing(
             self.cond.alts(),
@@ -383,15 +404,17 @@ impl Waiter {
         }
     }
 
-    /// Consumes samples up to the first one of the run that meets an alternative and lies behind the
-    /// last stop. `Met` has its place among all samples, its value, the set of all alternatives that
-    /// it meets (bit i is alternative i) and the samples of the run behind it. `Through` comes exactly
-    /// where there is none; the whole run is consumed then. All samples together are at most 2^60.
+    /// Consumes samples up to the first one of the run that meets an alternative and lies behind
+    /// the last stop. `Met` has its place among all samples, its value, the set of all alternatives
+    /// that it meets (bit i is alternative i) and the samples of the run behind it. `Through` comes
+    /// exactly where there is none; the whole run is consumed then. All samples together are at
+    /// most 2^60.
     // Inlined, since of its answer callers look at some parts alone.
     #[inline(always)]
     pub fn scan(&mut self, run: Run) -> Scan
         requires { consumed_by self.old + run.len ≤ 2 ^ 60 }
-        ensures scanned { (list : List ℕ) → Waits self.old list → Scanned self.old self.new (list ++ samples run) result }
+        ensures scanned { (list : List ℕ) → Waits self.old list
+            → Scanned self.old self.new (list ++ samples run) result }
         ensures counts { Counts self.old self.new run result }
         ensures alts { alts_of self.new ≡ alts_of self.old }
     {
@@ -417,7 +440,8 @@ impl Waiter {
     }
 }
 
-// How many samples come before the first one at which so many were skipped, of those that there is room for.
+// How many samples come before the first one at which so many were skipped, of those that there is
+// room for.
 fn early_room(from: u64, skip: u64, consumed: u64) -> u64
     requires { consumed ≤ 2 ^ 60 }
     ensures { result ≡ min (from + skip - 1 - consumed) (2 ^ 60 - consumed) }
@@ -428,8 +452,8 @@ fn early_room(from: u64, skip: u64, consumed: u64) -> u64
         .min(MOST_SAMPLES - consumed)
 }
 
-// The first sample from the next one on at which so many were skipped, counted from there; where it isn't among
-// those that there is room for, any other number that isn't either.
+// The first sample from the next one on at which so many were skipped, counted from there; where it
+// isn't among those that there is room for, any other number that isn't either.
 fn timer_place(from: u64, skip: u64, consumed: u64) -> u64
     requires early { from ≤ 2 ^ 60 }
     requires few { consumed ≤ 2 ^ 60 }

@@ -6,9 +6,9 @@ use la_base::{Run, Word};
 // How many samples may be consumed.
 const MOST_SAMPLES: u64 = 1 << 60;
 
-/// A wait in the midst of runs: how many samples there is room for, where the wait began, and the last sample that was
-/// consumed. Its numbers stay in registers where those of a waiter are stored at each run. Which alternatives are
-/// waited for is not a part of it: who walks asks a `Pair`.
+/// A wait in the midst of runs: how many samples there is room for, where the wait began, and the
+/// last sample that was consumed. Its numbers stay in registers where those of a waiter are stored
+/// at each run. Which alternatives are waited for is not a part of it: who walks asks a `Pair`.
 #[derive(Clone, Copy)]
 pub struct Walk {
     pub(crate) room: u64,
@@ -19,7 +19,8 @@ pub struct Walk {
 }
 
 impl Walk {
-    ghost use Rattle.std.specs.Prelude.{◌≡◌, ◌≢◌, ◌+◌, ◌≤◌, ◌<◌, ◌-◌, ◌^◌, ◌++◌, List, ℕ, length, Some, true};
+    ghost use Rattle.std.specs.Prelude.{◌≡◌, ◌≢◌, ◌+◌, ◌≤◌, ◌<◌, ◌-◌, ◌^◌, ◌++◌, List, ℕ, length};
+    ghost use Rattle.std.specs.Prelude.{Some, true};
     ghost use Rattle.la_base.specs.Samples.{samples};
     ghost use Rattle.wait_cond.specs.declared.alt.Alt.{Alt};
     ghost use Rattle.wait_cond.specs.Stops.{MetSet, NoneMet, IsStop};
@@ -54,10 +55,13 @@ impl Walk {
     #[inline(always)]
     pub fn stop(&mut self, run: Run)
         requires room { walked self.old + run.len ≤ 2 ^ 60 }
-        ensures waits { (alts : List Alt) (list : List ℕ) (met : ℕ) → Walks alts self.old list → walked self.old ≢ 0 → met ≢ 0
-            → MetSet alts (Some (walk_last self.old)) run.value (walk_from self.old) (walked self.old) met
+        ensures waits { (alts : List Alt) (list : List ℕ) (met : ℕ) → Walks alts self.old list
+            → walked self.old ≢ 0 → met ≢ 0
+            → MetSet alts (Some (walk_last self.old)) run.value (walk_from self.old)
+            (walked self.old) met
             → NeverMet alts (Some run.value) run.value
-            → IsStop (list ++ samples run) alts (walk_from self.old) (length list) met × Walks alts self.new (list ++ samples run) }
+            → IsStop (list ++ samples run) alts (walk_from self.old) (length list) met
+            × Walks alts self.new (list ++ samples run) }
         ensures walked { walked self.new ≡ walked self.old + run.len }
         ensures from { walk_from self.new ≡ walked self.old + 1 }
     {
@@ -70,10 +74,13 @@ impl Walk {
     #[inline(always)]
     pub fn pass(&mut self, run: Run)
         requires room { walked self.old + run.len ≤ 2 ^ 60 }
-        ensures waits { (alts : List Alt) (list : List ℕ) → Walks alts self.old list → walked self.old ≢ 0
-            → MetSet alts (Some (walk_last self.old)) run.value (walk_from self.old) (walked self.old) 0
+        ensures waits { (alts : List Alt) (list : List ℕ) → Walks alts self.old list
+            → walked self.old ≢ 0
+            → MetSet alts (Some (walk_last self.old)) run.value (walk_from self.old)
+            (walked self.old) 0
             → NeverMet alts (Some run.value) run.value
-            → NoneMet (list ++ samples run) alts (walk_from self.old) (length list + run.len) × Walks alts self.new (list ++ samples run) }
+            → NoneMet (list ++ samples run) alts (walk_from self.old) (length list + run.len)
+            × Walks alts self.new (list ++ samples run) }
         ensures walked { walked self.new ≡ walked self.old + run.len }
         ensures from { walk_from self.new ≡ walk_from self.old }
     {

@@ -27,7 +27,9 @@ abbrev pub chains_rule : Rule
 chains_rule = record (new_rule chains_id) { action = Some Append }
 
 abbrev pub empty_app : App
-empty_app = on_top (λ s. record s { no_binary_name = true; disable_help_flag = true }) (new_app (codes "ldecode"))
+empty_app =
+    on_top (λ s. record s { no_binary_name = true; disable_help_flag = true })
+    (new_app (codes "ldecode"))
 
 -- an argument for each option
 abbrev pub with_option : App → Name → App
@@ -42,7 +44,9 @@ word_app = with_rule (options_app names) chains_rule
 
 -- the arguments as building leaves them
 abbrev pub built_rules : List Rule
-built_rules = map (λ name. filled (option_rule (row name).name)) names ++ with_index 1 (filled chains_rule) ∷ []
+built_rules =
+    map (λ name. filled (option_rule (row name).name)) names
+    ++ with_index 1 (filled chains_rule) ∷ []
 
 -- the matches of uses, behind those that there are
 abbrev pub row_use : List Row → Used → List Row

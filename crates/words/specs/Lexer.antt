@@ -1,5 +1,6 @@
 -- What a word looks like.
-use Rattle.std.specs.Prelude.{ℕ, Bool, false, ◌==◌, List, [], ◌∷◌, Option, Some, None, if◌then◌else◌, option_and_then}
+use Rattle.std.specs.Prelude.{ℕ, Bool, false, ◌==◌, List, [], ◌∷◌, Option, Some, None}
+use Rattle.std.specs.Prelude.{if◌then◌else◌, option_and_then}
 use Rattle.std.specs.List.{list_any, before_first, after_first}
 
 -- a text, by its bytes
@@ -20,7 +21,8 @@ behind_dash (byte ∷ rest) = if byte == 45 then Some rest else None
 abbrev pub cut_at : ℕ → Text → Text × Option Text
 cut_at mark text = (
   before_first (λ byte. byte == mark) text,
-  if list_any (λ byte. byte == mark) text then Some (after_first (λ byte. byte == mark) text) else None,
+  if list_any (λ byte. byte == mark) text then Some (after_first (λ byte. byte == mark) text)
+      else None,
 )
 
 -- a text that isn't empty, cut at its first `=`

@@ -26,7 +26,9 @@ den_in (Some text) = number_in 1 most_den text
 
 -- N is judged whole, and then D
 abbrev pub rate_from : Text × Option Text → Result RateNumbers NumberWhy
-rate_from parts = then_read (number_in 1 most_num parts.0) (λ num. then_read (den_in parts.1) (λ den. Ok (record { num = num; den = den })))
+rate_from parts =
+    then_read (number_in 1 most_num parts.0)
+    (λ num. then_read (den_in parts.1) (λ den. Ok (record { num = num; den = den })))
 
 -- the rate that a text writes, or why it writes none
 abbrev pub rate_in : Text → Result RateNumbers NumberWhy
@@ -39,7 +41,8 @@ den_written (Some text) = number_after 0 text
 
 -- the two numbers that a good text writes
 abbrev pub rate_written : Text → RateNumbers
-rate_written text = record { num = number_after 0 (cut_at 47 text).0; den = den_written (cut_at 47 text).1 }
+rate_written text =
+    record { num = number_after 0 (cut_at 47 text).0; den = den_written (cut_at 47 text).1 }
 
 -- the two numbers of a rate, as the code has it
 abbrev pub numbers_of : Rate → RateNumbers

@@ -14,4 +14,9 @@ kind_of takes.Text = Free
 
 -- a row of the table, as the code has it
 abbrev pub row_of : OptionRow → Row
-row_of r = record { name = r.name.now; takes = kind_of r.takes; usual = option_map (λ text. text.now) r.usual }
+row_of r =
+    record {
+      name = r.name.now;
+      takes = kind_of r.takes;
+      usual = option_map (λ text. text.now) r.usual;
+    }

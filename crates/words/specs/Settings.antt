@@ -1,5 +1,7 @@
 -- What the words set, or their first fault.
-use Rattle.std.specs.Prelude.{◌≡◌, ℕ, ◌==◌, nat_lt, Bool, List, [], ◌∷◌, length, map, slice_get, find, Option, Some, None, Result, Ok, Err, IfSome, if◌then◌else◌, codes, option_map, option_and_then, unwrap_or}
+use Rattle.std.specs.Prelude.{◌≡◌, ℕ, ◌==◌, nat_lt, Bool, List, [], ◌∷◌, length, map, slice_get}
+use Rattle.std.specs.Prelude.{find, Option, Some, None, Result, Ok, Err, IfSome, if◌then◌else◌}
+use Rattle.std.specs.Prelude.{codes, option_map, option_and_then, unwrap_or}
 use Rattle.std.specs.Option.{option_or}
 use Rattle.std.specs.Str.{bytes_eq}
 use Rattle.text_parts.specs.Chains.{WordText, chain_of}
@@ -61,15 +63,19 @@ text_of name uses = unwrap_or (value_of name uses) []
 
 -- each value keeps to the rules of its option
 abbrev pub AreGood : List Used → Type 0
-AreGood uses = (name : Name) → IfSome (value_of name uses) (λ text. why_value (row name).takes text ≡ None)
+AreGood uses =
+    (name : Name) → IfSome (value_of name uses) (λ text. why_value (row name).takes text ≡ None)
 
 -- the job that a good value names
 abbrev pub job_named : Text → Job
-job_named text = if bytes_eq text (codes "find") then Find else if bytes_eq text (codes "make") then Make else Decode
+job_named text =
+    if bytes_eq text (codes "find") then Find else if bytes_eq text (codes "make") then Make
+    else Decode
 
 -- the form of capture that a good value names
 abbrev pub format_named : Text → Format
-format_named text = if bytes_eq text (codes "vcd") then Vcd else if bytes_eq text (codes "csv") then Csv else Raw
+format_named text =
+    if bytes_eq text (codes "vcd") then Vcd else if bytes_eq text (codes "csv") then Csv else Raw
 
 -- what the records of a CSV capture are that a good value names
 abbrev pub csv_named : Text → CsvMode
@@ -117,10 +123,12 @@ abbrev pub many_at : ℕ → Option WordText → Option WordFault
 many_at most None = None
 many_at most (Some chain) = Some (record { word = chain.word; at = 0; why = too_many most })
 
--- Few where there are too few such words, with the number of all words; else the fault of the first that is too many
+-- Few where there are too few such words, with the number of all words; else the fault of the first
+-- that is too many
 abbrev pub few_or_many : WordCount → ℕ → List WordText → Option WordFault
 few_or_many taken count chains =
-    if nat_lt (length chains) taken.fewest then Some (record { word = count; at = 0; why = why.Few })
+    if nat_lt (length chains) taken.fewest
+    then Some (record { word = count; at = 0; why = why.Few })
     else many_at taken.most (slice_get chains taken.most)
 
 -- the fault of one alternative
@@ -136,7 +144,8 @@ or_else None other = other
 -- the fault of the first alternative that has one
 abbrev pub cond_fault : List WordText → Option WordFault
 cond_fault [] = None
-cond_fault (chain ∷ chains) = or_else (fault_of chain.word (terms_of chain.text)) (cond_fault chains)
+cond_fault (chain ∷ chains) =
+    or_else (fault_of chain.word (terms_of chain.text)) (cond_fault chains)
 
 -- decode and make read no alternatives
 abbrev pub job_fault : Job → List WordText → Option WordFault
@@ -146,7 +155,8 @@ job_fault Make chains = None
 
 -- the rules behind all the words, of which there are `count`
 abbrev pub fault_behind : ℕ → Job → List WordText → Option WordFault
-fault_behind count job chains = or_else (few_or_many (words_taken job) count chains) (job_fault job chains)
+fault_behind count job chains =
+    or_else (few_or_many (words_taken job) count chains) (job_fault job chains)
 
 -- the values, unless there is a fault
 abbrev pub unless_fault : Option WordFault → Values → Result Values WordFault
@@ -155,7 +165,8 @@ unless_fault (Some fault) values = Err fault
 
 -- what the uses set
 abbrev pub values_behind : ℕ → List Used → Result Values WordFault
-values_behind count uses = unless_fault (fault_behind count (values_of uses).job (values_of uses).chains) (values_of uses)
+values_behind count uses =
+    unless_fault (fault_behind count (values_of uses).job (values_of uses).chains) (values_of uses)
 
 -- what the words set, or their first fault
 abbrev pub settings_of : List Text → Result Values WordFault

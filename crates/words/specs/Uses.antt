@@ -1,5 +1,7 @@
 -- What the words of a command line say: its uses of options, its other words, or the first fault.
-use Rattle.std.specs.Prelude.{ℕ, Bool, true, false, not, ◌+◌, ◌==◌, ◌&&◌, nat_le, nat_lt, List, [], ◌∷◌, length, Option, Some, None, Result, Ok, Err, if◌then◌else◌, is_some}
+use Rattle.std.specs.Prelude.{ℕ, Bool, true, false, not, ◌+◌, ◌==◌, ◌&&◌, nat_le, nat_lt, List, []}
+use Rattle.std.specs.Prelude.{◌∷◌, length, Option, Some, None, Result, Ok, Err, if◌then◌else◌}
+use Rattle.std.specs.Prelude.{is_some}
 use Rattle.std.specs.List.{list_any, filter}
 use Rattle.std.specs.Str.{bytes_eq}
 use Rattle.text_parts.specs.Reading.{read_parts}
@@ -36,12 +38,14 @@ parts_from number [] = []
 parts_from number (word ∷ []) = record { number = number; word = word; next = None } ∷ []
 parts_from number (word ∷ next ∷ rest) = if takes_next word next
     then record { number = number; word = word; next = Some next } ∷ parts_from (number + 2) rest
-    else record { number = number; word = word; next = None } ∷ parts_from (number + 1) (next ∷ rest)
+    else record { number = number; word = word; next = None }
+    ∷ parts_from (number + 1) (next ∷ rest)
 
 -- the value of a first word where the next holds it, and the words behind
 abbrev pub value_behind : Text → List Text → Option Text × List Text
 value_behind word [] = (None, [])
-value_behind word (next ∷ rest) = if takes_next word next then (Some next, rest) else (None, next ∷ rest)
+value_behind word (next ∷ rest) =
+    if takes_next word next then (Some next, rest) else (None, next ∷ rest)
 
 -- the number of the first word behind a word and its value
 abbrev pub number_behind : ℕ → Option Text → ℕ
@@ -87,25 +91,32 @@ why_number (Err number.Range) = Some why.Range
 
 -- the rules for a value, by what its option takes
 abbrev pub why_value : Kind → Text → Option WordWhy
-why_value (OneOf choices) value = if list_any (λ choice. bytes_eq choice value) choices then None else Some why.Value
+why_value (OneOf choices) value =
+    if list_any (λ choice. bytes_eq choice value) choices then None else Some why.Value
 why_value (Number least most) value = why_number (number_in least most value)
 why_value Ratio value = why_number (rate_in value)
 why_value Free value = None
 
 -- a value, if it keeps to the rules of its option, with the number of the word that holds it
 abbrev pub judged : Name → ℕ → Text → Result Used WordFault
-judged name number value = or_fault number (why_value (row name).takes value) (Ok (record { name = Some name; word = number; text = value }))
+judged name number value =
+    or_fault number (why_value (row name).takes value)
+    (Ok (record { name = Some name; word = number; text = value }))
 
 -- the value of an option, behind its `=` or in the next word
 abbrev pub value_at : Name → ℕ → Option Text → Option Text → Result Used WordFault
-value_at name number (Some value) next = if length value == 0 then fault number why.Empty else judged name number value
+value_at name number (Some value) next =
+    if length value == 0 then fault number why.Empty else judged name number value
 value_at name number None None = fault number why.NoValue
-value_at name number None (Some next) = or_fault (number + 1) (why_word (number + 1) next) (judged name (number + 1) next)
+value_at name number None (Some next) =
+    or_fault (number + 1) (why_word (number + 1) next) (judged name (number + 1) next)
 
 -- the option that a word names, if it wasn't given before
 abbrev pub named_at : List Used → Part → Option Name → Option Text → Result Used WordFault
 named_at before part None value = fault part.number why.Unknown
-named_at before part (Some name) value = if is_given name before then fault part.number why.Repeat else value_at name part.number value part.next
+named_at before part (Some name) value =
+    if is_given name before then fault part.number why.Repeat
+    else value_at name part.number value part.next
 
 -- a word that begins with a hyphen
 abbrev pub option_at : List Used → Part → Option (Text × Option Text) → Result Used WordFault

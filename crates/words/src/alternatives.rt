@@ -2,7 +2,8 @@
 ghost use Rattle.std.specs.Prelude.{◌≡◌, map, All, IfOk};
 ghost use Rattle.text_parts.specs.Chains.{chain_of};
 ghost use Rattle.words.specs.Readable.{IsShort};
-ghost use Rattle.words.specs.Settings.{cond_fault, fault_behind, few_or_many, job_fault, too_many, words_taken};
+ghost use Rattle.words.specs.Settings.{cond_fault, fault_behind, few_or_many, job_fault, too_many};
+ghost use Rattle.words.specs.Settings.{words_taken};
 
 use crate::kinds::WordCount;
 use crate::{Job, WordFault, WordWhy};

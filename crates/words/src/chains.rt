@@ -1,5 +1,6 @@
 // The words that are no options, and the values that name decoders.
-ghost use Rattle.std.specs.Prelude.{◌≡◌, List, length, Some, IfOk, option_and_then, option_map, map, filter, find, not, is_some};
+ghost use Rattle.std.specs.Prelude.{◌≡◌, List, length, Some, IfOk, option_and_then, option_map};
+ghost use Rattle.std.specs.Prelude.{map, filter, find, not, is_some};
 ghost use Rattle.text_parts.specs.Chains.{chain_of};
 ghost use Rattle.words.specs.Given.{used_of};
 ghost use Rattle.words.specs.Settings.{unless_all, use_of, word_text};
@@ -24,7 +25,9 @@ fn chain_word(alloc: Global, word: u32, text: &str) -> Result<ChainWord, AllocEr
 /// Texts with the numbers of their words.
 pub fn chains(alloc: Global, numbers: &[u32], texts: &[&str]) -> Result<Vec<ChainWord>, AllocError>
     requires { length numbers.now ≡ length texts.now }
-    ensures { (uses : List Used) → numbers.now ≡ map (λ u. u.word) uses → map (λ t. t.now) texts.now ≡ map (λ u. u.text) uses → IfOk result (λ v. map chain_of v.items ≡ map word_text uses) }
+    ensures { (uses : List Used) → numbers.now ≡ map (λ u. u.word) uses
+        → map (λ t. t.now) texts.now ≡ map (λ u. u.text) uses
+        → IfOk result (λ v. map chain_of v.items ≡ map word_text uses) }
 {
     let mut chains = Vec::new(alloc);
     for (place, text) in texts.iter().enumerate() {
@@ -35,7 +38,8 @@ pub fn chains(alloc: Global, numbers: &[u32], texts: &[&str]) -> Result<Vec<Chai
 
 /// The numbers of the words that are no options.
 pub fn numbers(alloc: Global, uses: &[Given]) -> Result<Vec<u32>, AllocError>
-    ensures { IfOk result (λ v. v.items ≡ map (λ g. g.word) (filter (λ g. not (is_some g.name)) uses.now)) }
+    ensures { IfOk result
+        (λ v. v.items ≡ map (λ g. g.word) (filter (λ g. not (is_some g.name)) uses.now)) }
 {
     uses.iter()
         .filter(|given| given.name.is_none())
@@ -57,8 +61,10 @@ fn given_value(
     uses: &[Given],
     text: &str,
 ) -> Result<Option<ChainWord>, AllocError>
-    requires { (used : Used) → use_of name (map used_of uses.now) ≡ Some used → text.now ≡ used.text }
-    ensures { IfOk result (λ o. option_map chain_of o ≡ option_map word_text (use_of name (map used_of uses.now))) }
+    requires { (used : Used) → use_of name (map used_of uses.now) ≡ Some used
+        → text.now ≡ used.text }
+    ensures { IfOk result
+        (λ o. option_map chain_of o ≡ option_map word_text (use_of name (map used_of uses.now))) }
 {
     match find_given(name, uses) {
         Some(given) => Ok(Some(chain_word(alloc, given.word, text)?)),
@@ -68,8 +74,11 @@ fn given_value(
 
 /// The value of `show` with the number of its word, where it isn't `all`.
 pub fn shown(alloc: Global, uses: &[Given], text: &str) -> Result<Option<ChainWord>, AllocError>
-    requires { (used : Used) → use_of Name.Show (map used_of uses.now) ≡ Some used → text.now ≡ used.text }
-    ensures { IfOk result (λ o. option_map chain_of o ≡ option_and_then unless_all (use_of Name.Show (map used_of uses.now))) }
+    requires { (used : Used) → use_of Name.Show (map used_of uses.now) ≡ Some used
+        → text.now ≡ used.text }
+    ensures { IfOk result
+        (λ o. option_map chain_of o
+        ≡ option_and_then unless_all (use_of Name.Show (map used_of uses.now))) }
 {
     if text == "all" {
         return Ok(None);
@@ -79,8 +88,11 @@ pub fn shown(alloc: Global, uses: &[Given], text: &str) -> Result<Option<ChainWo
 
 /// The value of `binary` with the number of its word.
 pub fn binary(alloc: Global, uses: &[Given], text: &str) -> Result<Option<ChainWord>, AllocError>
-    requires { (used : Used) → use_of Name.Binary (map used_of uses.now) ≡ Some used → text.now ≡ used.text }
-    ensures { IfOk result (λ o. option_map chain_of o ≡ option_map word_text (use_of Name.Binary (map used_of uses.now))) }
+    requires { (used : Used) → use_of Name.Binary (map used_of uses.now) ≡ Some used
+        → text.now ≡ used.text }
+    ensures { IfOk result
+        (λ o. option_map chain_of o
+        ≡ option_map word_text (use_of Name.Binary (map used_of uses.now))) }
 {
     given_value(alloc, Name::Binary, uses, text)
 }

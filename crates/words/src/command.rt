@@ -2,7 +2,8 @@
 ghost use Rattle.std.specs.Prelude.{◌≡◌, false, List, map, Ok, IfOk, IfErr, option_map, [], ◌∷◌};
 ghost use Rattle.std.specs.String.{string_bytes};
 ghost use Rattle.clap.specs.Words.{rule_of, app_of, found_of, kind_of, rows_of};
-ghost use Rattle.words.specs.App.{chains_rule, empty_app, option_rule, options_app, rows_of_uses, some_texts, word_app};
+ghost use Rattle.words.specs.App.{chains_rule, empty_app, option_rule, options_app, rows_of_uses};
+ghost use Rattle.words.specs.App.{some_texts, word_app};
 ghost use Rattle.words.specs.Options.{names, row};
 ghost use Rattle.words.specs.Settings.{text_of, value_of};
 ghost use Rattle.words.specs.Uses.{Used, uses_of, chains_of};
@@ -56,17 +57,21 @@ fn command<'a>(alloc: Global) -> Result<Command<'a>, AllocError>
     options_command(alloc)?.arg(chains(alloc))
 }
 
-/// What `clap` reads in words that have no fault: their uses. It refuses them only for want of memory.
+/// What `clap` reads in words that have no fault: their uses. It refuses them only for want of
+/// memory.
 pub fn matches<'a>(alloc: Global, words: &'a [String]) -> Result<ArgMatches<'a>, Error>
-    ensures matches { (uses : List Used) → uses_of (map string_bytes words.entry.now) ≡ Ok uses → IfOk result (λ m. rows_of (found_of m) ≡ rows_of_uses [] uses) }
-    ensures passes { (uses : List Used) → uses_of (map string_bytes words.entry.now) ≡ Ok uses → IfErr result (λ e. kind_of e ≡ ErrorKind.OutOfMemory) }
+    ensures matches { (uses : List Used) → uses_of (map string_bytes words.entry.now) ≡ Ok uses
+        → IfOk result (λ m. rows_of (found_of m) ≡ rows_of_uses [] uses) }
+    ensures passes { (uses : List Used) → uses_of (map string_bytes words.entry.now) ≡ Ok uses
+        → IfErr result (λ e. kind_of e ≡ ErrorKind.OutOfMemory) }
 {
     command(alloc)?.try_get_matches_from(words)
 }
 
 /// The value of an option: the one that is given, else the usual one, if there is one.
 pub fn value<'a>(matches: &ArgMatches<'a>, name: Name) -> Option<&'a str>
-    ensures { (uses : List Used) → rows_of (found_of matches.now) ≡ rows_of_uses [] uses → option_map (λ s. s.now) result ≡ value_of name uses }
+    ensures { (uses : List Used) → rows_of (found_of matches.now) ≡ rows_of_uses [] uses
+        → option_map (λ s. s.now) result ≡ value_of name uses }
 {
     let row = name.row();
     match matches.get_str(row.name) {
@@ -77,7 +82,8 @@ pub fn value<'a>(matches: &ArgMatches<'a>, name: Name) -> Option<&'a str>
 
 /// The text of an option's value, which is empty where there is no value.
 pub fn text<'a>(matches: &ArgMatches<'a>, name: Name) -> &'a str
-    ensures { (uses : List Used) → rows_of (found_of matches.now) ≡ rows_of_uses [] uses → result.now ≡ text_of name uses }
+    ensures { (uses : List Used) → rows_of (found_of matches.now) ≡ rows_of_uses [] uses
+        → result.now ≡ text_of name uses }
 {
     match value(matches, name) {
         Some(text) => text,
@@ -87,7 +93,9 @@ pub fn text<'a>(matches: &ArgMatches<'a>, name: Name) -> &'a str
 
 /// The words that are no options, if there are any.
 pub fn chain_texts<'m, 'a>(matches: &'m ArgMatches<'a>) -> Option<&'m [&'a str]>
-    ensures { (uses : List Used) → rows_of (found_of matches.entry.now) ≡ rows_of_uses [] uses → option_map (λ s. map (λ t. t.now) s.now) result ≡ some_texts (map (λ u. u.text) (chains_of uses)) }
+    ensures { (uses : List Used) → rows_of (found_of matches.entry.now) ≡ rows_of_uses [] uses
+        → option_map (λ s. map (λ t. t.now) s.now) result
+        ≡ some_texts (map (λ u. u.text) (chains_of uses)) }
 {
     matches.get_strs("chains")
 }

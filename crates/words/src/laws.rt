@@ -10,11 +10,14 @@ ghost use Rattle.words.specs.declared.options.Name.{Name};
 /// Each option is found by its name, and takes its usual value, where it has one.
 pub fn options_are_whole()
     ensures found { (name : Name) → name_of (row name).name ≡ Some name }
-    ensures usual { (name : Name) → IfSome (row name).usual (λ text. why_value (row name).takes text ≡ None) }
+    ensures usual { (name : Name)
+        → IfSome (row name).usual (λ text. why_value (row name).takes text ≡ None) }
 {}
 
 /// `clap` takes all words that have no fault, and what it reads in them are their uses.
 pub fn clap_reads_the_uses()
-    ensures taken { (words : List Text) (uses : List Used) → uses_of words ≡ Ok uses → takes word_app words ≡ true }
-    ensures read { (words : List Text) (uses : List Used) → uses_of words ≡ Ok uses → matches_of word_app words ≡ rows_of_uses [] uses }
+    ensures taken { (words : List Text) (uses : List Used) → uses_of words ≡ Ok uses
+        → takes word_app words ≡ true }
+    ensures read { (words : List Text) (uses : List Used) → uses_of words ≡ Ok uses
+        → matches_of word_app words ≡ rows_of_uses [] uses }
 {}

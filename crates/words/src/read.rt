@@ -29,7 +29,8 @@ fn chains_in(
     uses: &[Given],
 ) -> Result<Vec<ChainWord>, AllocError>
     requires { rows_of (found_of matches.now) ≡ rows_of_uses [] (map used_of uses.now) }
-    ensures { IfOk result (λ v. map chain_of v.items ≡ map word_text (chains_of (map used_of uses.now))) }
+    ensures { IfOk result
+        (λ v. map chain_of v.items ≡ map word_text (chains_of (map used_of uses.now))) }
 {
     let numbers = numbers(alloc, uses)?;
     match chain_texts(matches) {
@@ -71,8 +72,8 @@ fn settings(alloc: Global, matches: &ArgMatches, uses: &[Given]) -> Result<Setti
 }
 
 /// The settings that the words make, or the first fault of the words, counted from the left: the
-/// rules for each word and its value come first, then how many chains or alternatives there are, then
-/// the alternatives themselves. `NoMemory` comes only for want of memory.
+/// rules for each word and its value come first, then how many chains or alternatives there are,
+/// then the alternatives themselves. `NoMemory` comes only for want of memory.
 pub fn read_words(alloc: Global, words: &[String]) -> Result<Settings, WordsError>
     ensures gives { Gives meaning_of fault_in (settings_of (map string_bytes words.now)) result }
     ensures readable { IfOk result (λ settings. IsReadable settings.job settings.chains.items) }

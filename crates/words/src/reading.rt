@@ -23,7 +23,8 @@ fn takes_next(word: &str, next: &str) -> bool
 
 // The value of a first word where the next holds it, and the words behind.
 fn value_behind<'a>(word: &str, behind: &'a [String]) -> (Option<&'a str>, &'a [String])
-    ensures { (option_map (λ s. s.now) result.0, map string_bytes result.1.now) ≡ value_behind word.now (map string_bytes behind.entry.now) }
+    ensures { (option_map (λ s. s.now) result.0, map string_bytes result.1.now)
+        ≡ value_behind word.now (map string_bytes behind.entry.now) }
 {
     if let Some((next, rest)) = behind.split_first() {
         if takes_next(word, next.as_str()) {
@@ -36,7 +37,8 @@ fn value_behind<'a>(word: &str, behind: &'a [String]) -> (Option<&'a str>, &'a [
 /// The uses in the words, or the first fault of a word.
 pub fn read_uses<'a>(alloc: Global, words: &'a [String]) -> Result<Vec<Given<'a>>, WordsError>
     ensures few { OnOk result (length words.entry.now ≤ 257) }
-    ensures reads { Gives (λ v. map used_of v.items) fault_in (uses_of (map string_bytes words.entry.now)) result }
+    ensures reads { Gives
+        (λ v. map used_of v.items) fault_in (uses_of (map string_bytes words.entry.now)) result }
 {
     let mut uses = Vec::new(alloc);
     let mut number: u32 = 0;

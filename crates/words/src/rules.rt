@@ -75,7 +75,9 @@ fn value_at<'a>(
     next: Option<&'a str>,
 ) -> Result<Given<'a>, WordFault>
     requires { number < 256 }
-    ensures { Gives used_of (λ f. Some f) (value_at name number (option_map (λ s. s.now) value.entry) (option_map (λ s. s.now) next.entry)) result }
+    ensures { Gives used_of (λ f. Some f)
+        (value_at name number (option_map (λ s. s.now) value.entry)
+        (option_map (λ s. s.now) next.entry)) result }
 {
     if let Some(value) = value {
         if value.is_empty() {
@@ -101,7 +103,13 @@ pub fn read_use<'a>(
 ) -> Result<Given<'a>, WordFault>
     requires { number ≤ 257 }
     ensures early { OnOk result (number < 256) }
-    ensures reads { Gives used_of (λ f. Some f) (use_at (map used_of before.now) (record { number = number; word = word.entry.now; next = option_map (λ s. s.now) next.entry })) result }
+    ensures reads { Gives used_of (λ f. Some f)
+        (use_at (map used_of before.now)
+        (record {
+          number = number;
+          word = word.entry.now;
+          next = option_map (λ s. s.now) next.entry;
+        })) result }
 {
     if let Some(why) = why_word(number, word) {
         return Err(fault(number, why));

@@ -27,11 +27,11 @@ pub struct Settings {
     pub threads: bool,
     /// The slots of each ring between two threads.
     pub ring: u32,
-    /// The decoders that are shown, where the words name them: the number of the word that holds the
-    /// value, and the value.
+    /// The decoders that are shown, where the words name them: the number of the word that holds
+    /// the value, and the value.
     pub show: Option<ChainWord>,
-    /// The decoder and the class whose binary data is written in place of lines, where the words name one:
-    /// the number of the word that holds the value, and the value.
+    /// The decoder and the class whose binary data is written in place of lines, where the words
+    /// name one: the number of the word that holds the value, and the value.
     pub binary: Option<ChainWord>,
     /// The seed of a made capture.
     pub seed: u64,

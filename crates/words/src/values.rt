@@ -24,7 +24,8 @@ pub const MOST_RATE_DEN: u64 = 1_000_000_000;
 
 // Whether a value is one of the choices.
 fn is_choice(choices: &[&str], value: &str) -> bool
-    ensures { result ≡ list_any (λ choice. bytes_eq choice value.now) (map (λ choice. choice.now) choices.now) }
+    ensures { result
+        ≡ list_any (λ choice. bytes_eq choice value.now) (map (λ choice. choice.now) choices.now) }
 {
     choices.iter().any(|choice| *choice == value)
 }
