@@ -1,0 +1,5 @@
+pub mod Midi
+pub mod Texts
+pub mod Opening
+pub mod Rows
+pub mod laws

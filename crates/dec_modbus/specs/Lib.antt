@@ -1,0 +1,6 @@
+pub mod Modbus
+pub mod Shapes
+pub mod Texts
+pub mod Opening
+pub mod Rows
+pub mod laws

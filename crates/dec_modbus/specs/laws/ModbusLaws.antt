@@ -1,0 +1,100 @@
+-- What messages promise of their outputs, and what a decoder of them that stands for packets
+-- answers.
+use Rattle.std.proofs.Common.{◌≡◌, ℕ, ◌≤◌, List, [], ◌∷◌, ◌++◌, sym, ◌∙◌, ap, subst}
+use Rattle.std.proofs.Math.Nat.{ℕ_set, le_refl}
+use Rattle.std.proofs.Math.Path.{to_path_p}
+use Rattle.la_base.specs.declared.wires.Out.{Out}
+use Rattle.la_base.specs.declared.wires.Packet.{Packet}
+use Rattle.la_base.specs.declared.wires.Wire.TheVariants.{Nothing as NoWire, Uart as UartWire}
+use Rattle.decoder_core.specs.Packets.{IsPacketFloor, PacketsStayInOrder, last_start}
+use Rattle.decoder_core.specs.Promises.{AddsFew, GivesNothing, GivesOn, KeepsFront}
+use Rattle.packet_walks.specs.laws.WalkLaws.{walk_nothing, walk_prefix, walk_few, walk_on}
+use Rattle.packet_walks.specs.laws.WalkLaws.{walk_order, walk_floor}
+use Rattle.dec_modbus.specs.declared.held.Held.{Held}
+use Rattle.dec_modbus.specs.declared.held.Line.{Line}
+use Rattle.dec_modbus.specs.declared.held.Modbus.{Modbus}
+use Rattle.dec_modbus.specs.Modbus.{gap_of, modbus_outs, modbus_near}
+use Rattle.dec_modbus.specs.Opening.{line_of, StandsFor}
+use Rattle.dec_modbus.specs.laws.Machine.{held_of, gives, next, near_by, modbus_walk}
+use Rattle.dec_modbus.specs.laws.Pushed.{modbus_pushed, near_is}
+use Rattle.dec_modbus.specs.laws.Sound.{modbus_fits, modbus_sound}
+
+module _ (gap : ℕ) where
+  pub modbus_nothing : GivesNothing (modbus_outs gap)
+  modbus_nothing =
+      walk_nothing (modbus_walk gap) (modbus_outs gap) (held_of gap) (modbus_pushed gap)
+
+  pub modbus_prefix : KeepsFront (modbus_outs gap)
+  modbus_prefix =
+      walk_prefix (modbus_walk gap) (modbus_outs gap) (held_of gap) (modbus_pushed gap)
+
+  pub modbus_few : AddsFew (modbus_outs gap)
+  modbus_few =
+      walk_few (modbus_walk gap) (modbus_outs gap) (held_of gap) (modbus_pushed gap) NoWire
+      modbus_fits (modbus_sound gap)
+
+  pub modbus_on_wire : GivesOn NoWire (modbus_outs gap)
+  modbus_on_wire =
+      walk_on (modbus_walk gap) (modbus_outs gap) (held_of gap) (modbus_pushed gap) NoWire
+      modbus_fits (modbus_sound gap)
+
+  pub modbus_order : PacketsStayInOrder UartWire (modbus_outs gap)
+  modbus_order =
+      walk_order (modbus_walk gap) (modbus_outs gap) (held_of gap) (modbus_pushed gap) NoWire
+      modbus_fits (modbus_sound gap) UartWire
+
+  modbus_floor_of : (seen : List Packet)
+      → IsPacketFloor UartWire (modbus_outs gap) seen
+      (near_by (held_of gap seen) (last_start 0 seen))
+  modbus_floor_of seen =
+      walk_floor (modbus_walk gap) (modbus_outs gap) (held_of gap) (modbus_pushed gap) NoWire
+      modbus_fits (modbus_sound gap) UartWire seen
+
+-- what is kept of packets makes the floor, the near place, and what one more packet does
+module _ (machine : Modbus) (seen : List Packet) (stands : StandsFor machine seen) where
+  abbrev gap : ℕ
+  gap = gap_of machine.line.opts machine.line.rate
+
+  module _ (from result : ℕ) (from_is : from ≡ last_start 0 seen)
+      (result_is : result ≡ near_by machine.held from) where
+    same : result ≡ near_by (held_of gap seen) (last_start 0 seen)
+    same = result_is ∙ (λ i. near_by (stands i) (from_is i))
+
+    pub modbus_floor : IsPacketFloor UartWire (modbus_outs gap) seen result
+    modbus_floor =
+        subst (IsPacketFloor UartWire (modbus_outs gap) seen) (sym same) (modbus_floor_of gap seen)
+
+    pub modbus_near_below : modbus_near gap seen ≤ result
+    modbus_near_below =
+        subst (λ (n : ℕ). modbus_near gap seen ≤ n) (near_is gap seen ∙ sym same)
+        (le_refl (modbus_near gap seen))
+
+  module _ (packet : Packet) where
+    pub modbus_stands : (new : Held) → new ≡ next machine.gap machine.held packet
+        → new ≡ held_of gap (seen ++ packet ∷ [])
+    modbus_stands new is =
+        is ∙ (λ i. next (machine.gap_is i) (stands i) packet)
+        ∙ sym ((modbus_pushed gap).kept_push seen packet)
+
+    pub modbus_loud : (into : List Out) → into ≡ gives machine.gap machine.held packet
+        → modbus_outs gap (seen ++ packet ∷ []) ≡ modbus_outs gap seen ++ into
+    modbus_loud into is =
+        (modbus_pushed gap).outs_push seen packet
+        ∙ ap (λ (l : List Out). modbus_outs gap seen ++ l)
+        (sym (is ∙ (λ i. gives (machine.gap_is i) (stands i) packet)))
+
+-- the gap is that of the options at the rate, so the line and what is held make the machine
+pub one_modbus : (one other : Modbus) (packets : List Packet) → line_of one ≡ line_of other
+    → StandsFor one packets → StandsFor other packets → one ≡ other
+one_modbus one other packets same stands also =
+    let own = λ (line : Line). gap_of line.opts line.rate in
+    let held : one.held ≡ other.held =
+    stands ∙ (λ i. held_of (own (same i)) packets) ∙ sym also in
+    let gap : one.gap ≡ other.gap = one.gap_is ∙ (λ i. own (same i)) ∙ sym other.gap_is in
+    λ i. record {
+      line = same i;
+      gap = gap i;
+      held = held i;
+      gap_is = to_path_p (λ j. gap j ≡ own (same j)) {a = one.gap_is}
+          (ℕ_set _ _ _ other.gap_is) i;
+    }

@@ -1,0 +1,17 @@
+//! Modbus RTU on a serial line: messages of bytes that a silence parts, with a CRC at their end.
+#![tactic(auto)]
+
+mod crc;
+mod held;
+mod laws;
+mod machine;
+mod message;
+mod opening;
+mod rows;
+mod texts;
+
+use held::{Held, Message};
+pub use held::{Line, Modbus, ModbusOpts};
+pub use laws::{messages_are_the_packets, own_crc_is_right};
+pub use rows::rows_hold;
+pub use texts::text;
