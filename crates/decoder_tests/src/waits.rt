@@ -301,7 +301,7 @@ fn stops_of_runs(rt: HostRuntime) -> Result<(), Fail> {
 }
 
 #[test]
-fn conditions_are_renewed_and_runs_passed(rt: HostRuntime) {
+fn conditions_are_renewed(rt: HostRuntime) {
     // a new condition keeps what was consumed
     let mut waiter = Waiter::new(Cond::one(Alt { high: 1, ..NONE }));
     waiter.renew(Cond::one(Alt { low: 1, ..NONE }));
@@ -321,6 +321,10 @@ fn conditions_are_renewed_and_runs_passed(rt: HostRuntime) {
         rest: Some(Run { value: 1, len: 1 }),
     };
     assert!(rt; waiter.scan(Run { value: 1, len: 2 }) == met);
+}
+
+#[test]
+fn runs_are_passed(rt: HostRuntime) {
     // line 0 is high, low, low and then high again; what comes before the first run isn't known
     let runs = [
         Run { value: 1, len: 2 },
@@ -343,6 +347,10 @@ fn conditions_are_renewed_and_runs_passed(rt: HostRuntime) {
         len: 1 << 60,
     };
     assert!(rt; waiter.pass_runs(&[far]) == 0);
+}
+
+#[test]
+fn waits_without_masks_go_on(rt: HostRuntime) {
     // no masks say that a line of the upper half rises, but it is waited for
     let above = Alt { rise: TOP, ..NONE };
     let mut waiter = Waiter::new(Cond::one(above));

@@ -15,6 +15,10 @@ mod csv_captures;
 #[cfg(test)]
 mod dumps;
 #[cfg(test)]
+mod floors;
+#[cfg(test)]
+mod listers;
+#[cfg(test)]
 mod made;
 #[cfg(test)]
 mod programs;

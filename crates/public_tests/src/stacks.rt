@@ -197,8 +197,8 @@ const SHOW: u32 = 100;
 
 const BINARY: u32 = 200;
 
-// A word of so many, whose text is short.
-fn word(alloc: Global, word: u32, text: &str) -> Result<ChainWord, Fail>
+/// A word of so many, whose text is short.
+pub fn word(alloc: Global, word: u32, text: &str) -> Result<ChainWord, Fail>
     ensures { IfOk result (λ chain. length (string_bytes chain.text) ≤ 4096) }
 {
     if text.len() > 4096 {
