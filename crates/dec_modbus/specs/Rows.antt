@@ -32,20 +32,20 @@ message class first last count b = span_note class (100 * first) (100 * last + 9
 
 -- "read ten holding registers of device 1" in eight frames, whose CRC ends with this byte, and a
 -- frame after a silence
-abbrev pub request : ℕ → List Packet
-request byte =
+abbrev pub read_registers : ℕ → List Packet
+read_registers byte =
     frame 0 1 ∷ frame 1 3 ∷ frame 2 0 ∷ frame 3 0 ∷ frame 4 0 ∷ frame 5 10 ∷ frame 6 197
     ∷ frame 7 byte ∷ frame 50 1 ∷ []
 
 abbrev pub RequestOk : Type 0
 RequestOk =
-    modbus_outs 1000 (request 205)
+    modbus_outs 1000 (read_registers 205)
     ≡ note 0 0 1 ∷ note 1 1 3 ∷ note 2 2 0 ∷ note 2 3 0 ∷ note 2 4 0 ∷ note 2 5 10 ∷ note 2 6 197
     ∷ note 2 7 205 ∷ message 3 0 7 8 0 ∷ note 0 50 1 ∷ []
 
 abbrev pub RequestBad : Type 0
 RequestBad =
-    modbus_outs 1000 (request 204)
+    modbus_outs 1000 (read_registers 204)
     ≡ note 0 0 1 ∷ note 1 1 3 ∷ note 2 2 0 ∷ note 2 3 0 ∷ note 2 4 0 ∷ note 2 5 10 ∷ note 2 6 197
     ∷ note 2 7 204 ∷ message 3 0 7 8 1 ∷ note 0 50 1 ∷ []
 
