@@ -1,8 +1,7 @@
 -- Bytes of one kind, taken out of a part of a buffer.
-use Rattle.std.proofs.Common.{◌≡◌, ℕ, ◌+◌, ◌-◌, ◌≤◌, ◌<◌, ◌==◌, not, List, [], ◌∷◌, ◌++◌, take, drop, length, refl, sym, ◌∙◌, ap, arith, length-append, length-take-le, append_assoc, slice_index, slice_range, set, Bool, true, false, cond}
+use Rattle.std.proofs.Common.{◌≡◌, ℕ, ◌+◌, ◌≤◌, ◌<◌, ◌==◌, not, List, [], ◌∷◌, ◌++◌, take, drop, length, sym, ◌∙◌, ap, arith, length-take-le, append_assoc, slice_index, set, Bool, true, false, cond}
 use Rattle.std.proofs.lemmas.List.{append-nil, take_more, take_more_set, drop-set-lt, drop-append-le, drop_more}
 use Rattle.std.proofs.lemmas.List.Elements.{filter-append}
-use Rattle.std.specs.List.{filter}
 use Rattle.la_io.specs.Intake.{without}
 
 -- one more byte of those that are kept from

@@ -1,5 +1,7 @@
 // A sink that keeps bytes back, to hand them on in large pieces.
-ghost use Rattle.std.specs.Prelude.{◌≡◌, ◌≤◌, [], length, OnOk};
+ghost use Rattle.std.specs.Prelude.{◌≡◌, ◌≤◌, ◌<◌, [], length, IfOk, OnOk};
+ghost use Rattle.std.specs.Io.{WritesAtMost};
+ghost use Rattle.std.specs.Io.KnownBytes.{Keeps, WriteAppends};
 ghost use Rattle.la_io.specs.Causes.{HasCause};
 
 use crate::outgoing::Outgoing;
@@ -15,7 +17,7 @@ pub struct Buffered<'a, K: Sink> {
 }
 
 impl<'a, K: Sink> Buffered<'a, K> {
-    ghost use Rattle.la_io.specs.Buffer.{held_by, behind, BufferGoesOn, HandsOn};
+    ghost use Rattle.la_io.specs.Buffer.{held_by, behind, got_by, BufferGoesOn, HandsOn};
 
     /// A buffer that holds nothing, before this sink.
     pub fn new(sink: &'a mut K) -> Buffered<'a, K>
@@ -51,10 +53,28 @@ impl<'a, K: Sink> Buffered<'a, K> {
         }
         Ok(())
     }
+
+    // Hands on all that is held, and then takes what there is room for. It is apart, since mostly
+    // there is room.
+    #[inline(never)]
+    fn write_behind(&mut self, bytes: &[u8]) -> Result<usize, Failed>
+        requires { 0 < length bytes.now }
+        ensures bound { WritesAtMost result bytes.now }
+        ensures some { IfOk result (λ count. 0 < count) }
+        ensures bytes { WriteAppends (got_by K.written self.old) (got_by K.written self.new) result
+            bytes.now }
+        ensures cause { HasCause (K.faults (behind self.old)) (K.faults (behind self.new)) result }
+        ensures goes_on { BufferGoesOn K.written K.goes_on self.old self.new }
+    {
+        match self.flush() {
+            Ok(()) => Ok(self.held.append(bytes)),
+            Err(Failed) => Err(Failed),
+        }
+    }
 }
 
 impl<K: Sink> Sink for Buffered<'_, K> {
-    ghost use Rattle.la_io.specs.Buffer.{behind, got_by, BufferGoesOn};
+    ghost use Rattle.la_io.specs.Buffer.{held_by, behind, got_by, BufferGoesOn};
     ghost use Rattle.la_io.specs.Onward.{onward_still, onward_further};
     ghost use Rattle.std.proofs.Common.{refl, ◌∙◌};
 
@@ -73,14 +93,21 @@ impl<K: Sink> Sink for Buffered<'_, K> {
           (K.goes_on_further (behind a) (behind b) (behind c) first.1.inner second.1.inner),
     ) };
 
+    #[inline(always)]
     fn write(&mut self, bytes: &[u8]) -> Result<usize, Failed> {
         let count = self.held.append(bytes);
         if count > 0 {
             return Ok(count);
         }
-        match self.flush() {
-            Ok(()) => Ok(self.held.append(bytes)),
-            Err(Failed) => Err(Failed),
-        }
+        self.write_behind(bytes)
+    }
+
+    fn hand_on(&mut self) -> Result<(), Failed>
+        ensures bytes { Keeps (got_by K.written self.old) (got_by K.written self.new) }
+        ensures whole { OnOk result (held_by self.new ≡ []) }
+        ensures cause { HasCause (K.faults (behind self.old)) (K.faults (behind self.new)) result }
+        ensures goes_on { BufferGoesOn K.written K.goes_on self.old self.new }
+    {
+        self.flush()
     }
 }

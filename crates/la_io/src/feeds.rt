@@ -40,6 +40,11 @@ pub trait RunFeed {
     /// The runs that the last call of `next_runs` gave.
     fn runs(&self) -> &[Run]
         ensures { result.now ≡ held self.now };
+
+    /// Whether the next call may have to wait for what it is to give.
+    fn may_wait(&self) -> bool {
+        false
+    }
 }
 
 /// The one that takes the marks wants no more of them: its count of stops rose. The mark that it
@@ -77,4 +82,14 @@ pub trait MarkTake {
         ensures cause { HasCause (stops self.old) (stops self.new) result }
         ensures going { going self.old true → going self.new (is_ok result) }
         ensures origin { origin self.new ≡ origin self.old };
+
+    /// It may be long until the next mark comes: hands on what it keeps back, where it keeps
+    /// anything back. A failure is told at the next mark.
+    fn pause(&mut self)
+        ensures took { (marks : ℕ → List Mark) → took self.old marks → took self.new marks }
+        ensures instances { instances self.new ≡ instances self.old }
+        ensures stops { stops self.new ≡ stops self.old }
+        ensures going { (still : Bool) → going self.old still → going self.new still }
+        ensures origin { origin self.new ≡ origin self.old }
+    {}
 }

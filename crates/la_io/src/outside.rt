@@ -1,7 +1,7 @@
 // A source and a sink of bytes: what they have left or got, and how often they failed.
 ghost use Rattle.std.specs.Prelude.{◌≡◌, ◌<◌, List, ℕ, Option, length, IfOk};
 ghost use Rattle.std.specs.Io.{ReadsAtMost, WritesAtMost};
-ghost use Rattle.std.specs.Io.KnownBytes.{ReadConsumes, WriteAppends};
+ghost use Rattle.std.specs.Io.KnownBytes.{Keeps, ReadConsumes, WriteAppends};
 ghost use Rattle.la_io.specs.Causes.{HasCause};
 
 /// The object that was asked has failed: its count of faults rose.
@@ -45,6 +45,15 @@ pub trait Sink {
         ensures bytes { WriteAppends (written self.old) (written self.new) result bytes.now }
         ensures cause { HasCause (faults self.old) (faults self.new) result }
         ensures goes_on { goes_on self.old self.new };
+
+    /// Hands on what it keeps back, where it keeps anything back: what was written stays written.
+    fn hand_on(&mut self) -> Result<(), Failed>
+        ensures bytes { Keeps (written self.old) (written self.new) }
+        ensures cause { HasCause (faults self.old) (faults self.new) result }
+        ensures goes_on { goes_on self.old self.new }
+    {
+        Ok(())
+    }
 
     ghost goes_on_still: { (sink : Self) → goes_on sink sink };
 

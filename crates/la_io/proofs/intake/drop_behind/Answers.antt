@@ -1,6 +1,5 @@
-use Rattle.std.proofs.Common.{◌≡◌, ◌≤◌, ◌+◌, ◌++◌, length, take, drop, ℕ, arith, ap, ◌∙◌, List, sym}
+use Rattle.std.proofs.Common.{◌+◌, take, drop, ℕ, arith, ap, ◌∙◌, List}
 use Rattle.std.proofs.lemmas.Bool.{ne_eqb, eq-eqb}
-use Rattle.la_io.specs.Intake.{without}
 use Rattle.la_io.proofs.Dropping.{keep_one, keep_ahead, drop_one, drop_ahead}
 use Rattle.la_io.proofs.intake.drop_behind.Goals.{then-byte-dropped, else-byte-dropped}
 use Rattle.la_io.proofs.intake.drop_behind.Goals as goal
