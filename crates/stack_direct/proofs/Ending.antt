@@ -18,7 +18,7 @@ use Rattle.stack_direct.specs.Passing.{Change, Down, IsForest, Passes}
 use Rattle.stack_direct.specs.Reaching.{Reaches}
 use Rattle.stack_direct.specs.Runs.{FedRuns, LeftBy, RunsOn, StandOn, StoppedIn, Told, TookEnds, feeds_on, input_at, input_on, nodes_of, run_items, samples_in}
 use Rattle.stack_direct.proofs.Lists.{reaches_weaker}
-use Rattle.stack_direct.proofs.Joining.{took_then, floored}
+use Rattle.stack_direct.proofs.Joining.{took_then}
 use Rattle.stack_direct.proofs.Running.{items-append}
 use Rattle.stack_direct.proofs.Flooring.{front_further, front_weaker}
 use Rattle.stack_direct.proofs.Telling.{root_input, child_input, fed, grows, tells}

@@ -1,13 +1,7 @@
 -- Marks taken behind marks.
-use Rattle.std.proofs.Common.{◌≡◌, ◌≤◌, ℕ, Bool, true, List, Option, Result, Ok, Err, length, map, refl, sym, ◌∙◌, ap, subst, arith}
-use Rattle.std.proofs.lemmas.List.{length-map}
-use Rattle.la_io.specs.Causes.{HasCause, Rose}
-use Rattle.stack_direct.specs.Taking.{GoesOn}
-use Rattle.la_io.specs.declared.feeds.Stopped.{Stopped}
-
--- marks were taken, and it stopped at none
-abbrev pub KeepsOn : {A O : Type 0} → (A → ℕ) → (A → O) → (A → ℕ) → (A → Bool → Type 0) → A → A → Type 0
-KeepsOn instances origin stops going old new = GoesOn {R = Unit {0}} {E = Stopped} instances origin stops going old new (Ok tt)
+use Rattle.std.proofs.Common.{ℕ, Bool, Result, Ok, refl, ◌∙◌, subst, arith}
+use Rattle.la_io.specs.Causes.{HasCause}
+use Rattle.stack_direct.specs.Taking.{GoesOn, KeepsOn}
 
 module _ {A O : Type 0} (instances : A → ℕ) (origin : A → O) (stops : A → ℕ)
     (going : A → Bool → Type 0) where

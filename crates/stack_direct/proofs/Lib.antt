@@ -8,3 +8,4 @@ pub mod Telling
 pub mod Ending
 pub mod Fresh
 mod Feeding
+mod Trees

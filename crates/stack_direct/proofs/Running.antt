@@ -7,7 +7,6 @@ use Rattle.la_base.specs.Runs.{samples_of}
 use Rattle.la_base.proofs.RunLemmas.{runs_from, samples_further, samples_more}
 use Rattle.la_base.specs.declared.samples.Run.{Run}
 use Rattle.la_base.specs.declared.wires.Mark.{Mark}
-use Rattle.la_base.specs.declared.wires.Out.{Out}
 use Rattle.la_io.specs.Feeds.{together}
 use Rattle.la_io.proofs.Together.{together-append}
 use Rattle.decoder_core.specs.Inputs.{Item, Sample}
@@ -92,6 +91,18 @@ module _ {done : Bool} {by : Definitions} {before mid after : ℕ → List Item 
       some = hands.some stopped;
     };
   }
+
+-- what takes the marks was told of a pause, which leaves what it has taken
+pub fed_paused : {by : Definitions} {before after : ℕ → List Item → Type 0} {parents : List (Option ℕ)} {g0 g1 : List (List Run) → Type 0} {t0 t1 : (ℕ → List Mark) → Type 0} (t2 : (ℕ → List Mark) → Type 0)
+    → ((marks : ℕ → List Mark) → t1 marks → t2 marks) → FedRuns true by before after parents g0 g1 t0 t1 → FedRuns true by before after parents g0 g1 t0 t2
+fed_paused t2 paused f =
+    let h = f.hands in
+    record {
+      lists = f.lists;
+      gave = f.gave;
+      hands = record { change = h.change; each = h.each; handed = h.handed; down = h.down; unmarked = h.unmarked; some = h.some; took = λ earlier later had is. paused later (h.took earlier later had is) };
+      broken = λ stopped. absurd cc;
+    }
 
 -- the feed has given its last list
 pub fed_none : {by : Definitions} {before after : ℕ → List Item → Type 0} {parents : List (Option ℕ)} {g0 g1 : List (List Run) → Type 0} {t0 t1 : (ℕ → List Mark) → Type 0} (g2 : List (List Run) → Type 0)

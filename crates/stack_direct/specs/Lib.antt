@@ -4,3 +4,4 @@ pub mod Passing
 pub mod Machines
 pub mod Taking
 pub mod Runs
+pub mod Trees

@@ -6,6 +6,7 @@ mod laws;
 mod parts;
 mod roots;
 mod run;
+mod tree;
 
 pub use laws::new_machines_stand;
 pub use run::run_direct;

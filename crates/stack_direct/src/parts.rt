@@ -1,11 +1,10 @@
 // One machine of a tree, and one mark.
 ghost use Rattle.std.specs.Prelude.{◌≡◌, ◌<◌, ◌≤◌, ◌∷◌, [], ℕ, List, length, map, take};
 ghost use Rattle.la_base.specs.Runs.{samples_of};
-ghost use Rattle.decoder_core.specs.Inputs.{Item, left_feed};
-ghost use Rattle.decoder_core.specs.Promises.{IsFloor};
+ghost use Rattle.decoder_core.specs.Inputs.{left_feed};
 ghost use Rattle.stack_direct.specs.Passing.{Took, only, same_place};
 ghost use Rattle.stack_direct.specs.Taking.{GoesOn};
-ghost use Rattle.stack_direct.specs.Machines.{Stand, StepsAt, StepsRunsAt, near_of, whole_of};
+ghost use Rattle.stack_direct.specs.Machines.{Stand, StepsAt, StepsRunsAt, whole_of};
 
 use decoder_core::{Machine, Outs, Taken};
 use la_base::{Feed, Mark, Packet, Run};
@@ -68,17 +67,6 @@ pub fn step_packet_at<M: Machine>(
         (Feed.Packet packet) result outs.new }
 {
     machines[instance as usize].step(Feed::Packet(packet), outs)
-}
-
-/// The floor of one machine.
-pub fn floor_at<M: Machine>(machines: &[M], instance: u32) -> u64
-    requires within { instance < length machines.now }
-    ensures floor { (input : List Item) → Stand M.consumed machines.now instance input
-        → IsFloor (whole_of M.outputs (map M.setup machines.now) instance) input result }
-    ensures near { (input : List Item) → Stand M.consumed machines.now instance input
-        → near_of M.near (map M.setup machines.now) instance input ≤ result }
-{
-    machines[instance as usize].floor()
 }
 
 /// One mark of an instance. It is inlined, so that what takes it knows which kind of mark it is.

@@ -3,41 +3,52 @@ ghost use Rattle.std.specs.Prelude.{◌≡◌, ◌≤◌, ◌<◌, [], ℕ, List
 ghost use Rattle.std.specs.Prelude.{true};
 ghost use Rattle.std.specs.Result.{is_ok};
 ghost use Rattle.decoder_core.specs.declared.end.RunEnd.TheVariants.{Ended, Stopped as RunStopped};
+ghost use Rattle.la_base.specs.declared.wires.Mark.{Mark};
 ghost use Rattle.la_io.specs.Causes.{Rose};
 ghost use Rattle.stack_direct.specs.Machines.{Stand, defined};
 ghost use Rattle.stack_direct.specs.Runs.{FedRuns, RunsOn, TookEnds, is_ended};
-ghost use Rattle.stack_direct.specs.Taking.{GoesOn, IsTree};
+ghost use Rattle.stack_direct.specs.Taking.{IsTree};
+ghost use Rattle.stack_direct.specs.Trees.{GoesStill, SameTree, TakesAll, TakesOn, TreeFed};
 
 use crate::parts::mark;
-use crate::roots::hand_runs;
+use crate::tree::Tree;
 use decoder_core::{Machine, Outs, RunEnd};
 use la_base::Mark;
 use la_io::{MarkTake, RunFeed, Stopped};
 
+// Tells what takes the marks of the pause, where the next call of the feed may have to wait.
+fn pause<F: RunFeed, G: MarkTake>(feed: &F, take: &mut G)
+    ensures took { (marks : ℕ → List Mark) → G.took take.old marks → G.took take.new marks }
+    ensures takes { GoesStill G.MarkTake take.old take.new }
+{
+    if feed.may_wait() {
+        take.pause();
+    }
+}
+
 // Hands all runs of the feed down the tree.
 fn feed_all<M: Machine, F: RunFeed, G: MarkTake>(
-    machines: &mut [M],
-    parents: &[Option<u32>],
+    tree: &mut Tree<'_, '_, M>,
     feed: &mut F,
     take: &mut G,
 ) -> Result<(), Stopped>
-    requires tree { IsTree parents.now (length machines.old) (G.instances take.old) }
-    ensures setups { map M.setup machines.new ≡ map M.setup machines.old }
-    ensures feeds { FedRuns (is_ok result) (defined M.outputs M.near (map M.setup machines.old))
-        (Stand M.consumed machines.old) (Stand M.consumed machines.new) parents.now
-        (F.gave feed.old) (F.gave feed.new) (G.took take.old) (G.took take.new) }
+    requires all { TakesAll G.MarkTake tree.old take.old }
+    ensures same { SameTree M.Machine tree.old tree.new }
+    ensures feeds { TreeFed M.Machine G.MarkTake tree.old tree.new take.old take.new result
+        (F.gave feed.old) (F.gave feed.new) }
     ensures at_end { F.at_end feed.new ≡ is_ok result }
     ensures feed_origin { F.origin feed.new ≡ F.origin feed.old }
-    ensures takes { GoesOn G.instances G.origin G.stops G.going take.old take.new result }
+    ensures takes { TakesOn G.MarkTake take.old take.new result }
 {
     // One for all steps of a depth, since to make it fills it with default values.
     let mut outs = Outs::new();
     let mut rooms = [Outs::new(), Outs::new(), Outs::new()];
     loop {
+        pause(feed, take);
         if !feed.next_runs() {
             return Ok(());
         }
-        match hand_runs(machines, parents, feed.runs(), &mut outs, &mut rooms, take) {
+        match tree.hand_runs(feed.runs(), &mut outs, &mut rooms, take) {
             Ok(()) => {}
             Err(Stopped) => return Err(Stopped),
         }
@@ -49,7 +60,7 @@ fn end_all<G: MarkTake>(count: u32, take: &mut G) -> Result<(), Stopped>
     requires { count ≤ G.instances take.old }
     ensures took { (k : ℕ) × (k ≤ count) × OnOk result (k ≡ count) × OnErr result (0 < k)
         × TookEnds (G.took take.old) (G.took take.new) k }
-    ensures takes { GoesOn G.instances G.origin G.stops G.going take.old take.new result }
+    ensures takes { TakesOn G.MarkTake take.old take.new result }
 {
     for instance in 0..count {
         match mark(take, instance, Mark::End) {
@@ -63,7 +74,8 @@ fn end_all<G: MarkTake>(count: u32, take: &mut G) -> Result<(), Stopped>
 /// Runs a tree of decoders on one thread. Each run of the feed is handed to the machines that stand
 /// on nothing, and each packet, at once, to those that stand on the machine that put it out; notes
 /// and pieces are taken as marks, a floor behind each packet and behind the runs that the feed gave
-/// at once, and at the end of the feed the end of each instance. It takes no memory.
+/// at once, and at the end of the feed the end of each instance. Before a call of the feed that may
+/// have to wait, what takes the marks is told of the pause. It takes no memory.
 ///
 /// The machines may already stand for samples: what is taken is what follows. A packet that doesn't
 /// count for a machine is passed over by it. `Stopped` is answered where `take` stopped, at the
@@ -88,7 +100,8 @@ pub fn run_direct<M: Machine, F: RunFeed, G: MarkTake>(
     ensures going { G.going take.old true → G.going take.new (is_ended result) }
     ensures stopped { result ≡ RunStopped → Rose (G.stops take.old) (G.stops take.new) }
 {
-    match feed_all(machines, parents, feed, take) {
+    let mut tree = Tree { machines, parents };
+    match feed_all(&mut tree, feed, take) {
         Ok(()) => match end_all(parents.len() as u32, take) {
             Ok(()) => RunEnd::Ended,
             Err(Stopped) => RunEnd::Stopped,

@@ -1,7 +1,5 @@
-use Rattle.std.proofs.Common.{◌≡◌, Ok}
 use Rattle.stack_direct.specs.Runs.{TookEnds}
-use Rattle.la_io.specs.declared.feeds.Stopped.{Stopped}
-use Rattle.stack_direct.proofs.Going.{KeepsOn}
+use Rattle.stack_direct.specs.Taking.{KeepsOn}
 use Rattle.stack_direct.proofs.run.end_all.Given as goal
 
 abbrev pub invariant-loop-instance : goal.invariant-loop-instance

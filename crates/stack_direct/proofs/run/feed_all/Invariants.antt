@@ -1,8 +1,6 @@
-use Rattle.std.proofs.Common.{◌≡◌, ◌-◌, ◌^◌, [], true, map, Ok}
-use Rattle.stack_direct.specs.Machines.{Stand, defined}
+use Rattle.std.proofs.Common.{◌≡◌, ◌-◌, ◌^◌, [], true}
 use Rattle.stack_direct.specs.Runs.{FedRuns}
-use Rattle.la_io.specs.declared.feeds.Stopped.{Stopped}
-use Rattle.stack_direct.proofs.Going.{KeepsOn}
+use Rattle.stack_direct.specs.Trees.{GoesStill, SameTree, TakesAll, defined_in, parents_of, stand_in}
 use Rattle.stack_direct.proofs.run.feed_all.Given as goal
 
 abbrev pub invariant-loop-outs : goal.invariant-loop-outs
@@ -11,11 +9,12 @@ invariant-loop-outs g l =
     let f = g.F.RunFeed in
     let t = g.G.MarkTake in
     record {
-      setups : map m.setup l.machines ≡ map m.setup l.fn.machines;
-      feeds : FedRuns true (defined m.outputs m.near (map m.setup l.fn.machines)) (Stand m.consumed l.fn.machines) (Stand m.consumed l.machines) l.parents (f.gave l.fn.feed) (f.gave l.feed) (t.took l.fn.take) (t.took l.take);
+      all : TakesAll t l.tree l.take;
+      same : SameTree m l.fn.tree l.tree;
+      feeds : FedRuns true (defined_in m l.fn.tree) (stand_in m l.fn.tree) (stand_in m l.tree) (parents_of l.fn.tree) (f.gave l.fn.feed) (f.gave l.feed) (t.took l.fn.take) (t.took l.take);
       empty : l.outs ≡ [];
       feed_origin : f.origin l.feed ≡ f.origin l.fn.feed;
-      takes : KeepsOn t.instances t.origin t.stops t.going l.fn.take l.take;
+      takes : GoesStill t l.fn.take l.take;
     }
 
 abbrev pub decreases-loop-outs : goal.decreases-loop-outs

@@ -1,0 +1,189 @@
+use Rattle.std.proofs.Common.{◌≤◌, ◌≡◌, ◌++◌, ◌∷◌, ◌+◌, ◌<◌, [], List, true, false, refl, sym, ◌∙◌, ap, subst, take, drop, map, length, arith, take-append-drop}
+use Rattle.std.specs.Result.{is_ok}
+use Rattle.std.proofs.lemmas.List.{take_more}
+use Rattle.la_base.specs.declared.wires.Mark.TheVariants.{Note as NoteMark, Piece as PieceMark}
+use Rattle.la_base.specs.declared.wires.Out.{Out}
+use Rattle.la_base.specs.declared.wires.Out.TheVariants.{Note as NoteOut, Piece as PieceOut, Packet as PacketOut}
+use Rattle.decoder_core.specs.Inputs.{Pack}
+use Rattle.decoder_core.specs.Promises.{IsFloor}
+use Rattle.stack_direct.specs.Passing.{Gives}
+use Rattle.stack_direct.specs.Reaching.{Reaches}
+use Rattle.stack_direct.specs.Machines.{Stand, whole_of, defined, near_of}
+use Rattle.stack_direct.specs.Trees.{defined_in, parents_of, stand_in}
+use Rattle.stack_direct.proofs.Joining.{gives_nothing, gives_then, gives_reach, gives_mark, gives_packet, consumes_reach, step_moves, stepped, hands_none, hands_front, hands_all, floored, cut_off}
+use Rattle.stack_direct.proofs.Lists.{reaches_weaker}
+use Rattle.stack_direct.proofs.Feeding.{whole_packet}
+use Rattle.stack_direct.proofs.Trees.{behind_above, gives_of, gives_stepped, hands_more, hands_past, same_count, same_still, same_then, still, still_then, takes_all}
+use Rattle.stack_direct.proofs.Ending.{keeps_at}
+use Rattle.stack_direct.proofs.tree.Tree.+tree.Goals as goal
+
+pub give_one-returns-in-Note-clause-gives : goal.give_one-returns-in-Note-clause-gives
+give_one-returns-in-Note-clause-gives g t c =
+    let m = g.M.Machine in
+    let k = g.G.MarkTake in
+    let by = defined_in m c.args.self.now in
+    let now = stand_in m c.args.self.now in
+    let places = parents_of c.args.self.now in
+    let note = c.in-Note.note in
+    subst (λ (o : Out). Gives (is_ok c.mark.result) by now now places (k.took c.args.take.now) (k.took c.mark.new.take) c.args.instance (o ∷ [])) (sym c.in-Note.is)
+    (gives_mark by now places (k.took c.args.take.now) (is_ok c.mark.result) (k.took c.mark.new.take) c.args.instance (NoteMark note) c.mark.ensures.took (NoteOut note) refl refl)
+
+pub give_one-returns-in-Piece-clause-gives : goal.give_one-returns-in-Piece-clause-gives
+give_one-returns-in-Piece-clause-gives g t c =
+    let m = g.M.Machine in
+    let k = g.G.MarkTake in
+    let by = defined_in m c.args.self.now in
+    let now = stand_in m c.args.self.now in
+    let places = parents_of c.args.self.now in
+    let piece = c.in-Piece.piece in
+    subst (λ (o : Out). Gives (is_ok c.mark-in-Piece.result) by now now places (k.took c.args.take.now) (k.took c.mark-in-Piece.new.take) c.args.instance (o ∷ [])) (sym c.in-Piece.is)
+    (gives_mark by now places (k.took c.args.take.now) (is_ok c.mark-in-Piece.result) (k.took c.mark-in-Piece.new.take) c.args.instance (PieceMark piece) c.mark-in-Piece.ensures.took (PieceOut piece) refl refl)
+
+pub give_one-returns-in-Packet-clause-gives : goal.give_one-returns-in-Packet-clause-gives
+give_one-returns-in-Packet-clause-gives g t c =
+    let m = g.M.Machine in
+    let k = g.G.MarkTake in
+    let tree = c.args.self.now in
+    let packet = c.in-Packet.packet in
+    subst (λ (o : Out). Gives (is_ok c.hand.result) (defined_in m tree) (stand_in m tree) (stand_in m c.hand.new.self) (parents_of tree) (k.took c.args.take.now) (k.took c.hand.new.take) c.args.instance (o ∷ [])) (sym c.in-Packet.is)
+    (gives_packet c.args.instance (PacketOut packet) (λ j. refl) (λ j. refl) refl c.hand.ensures.hands)
+
+pub give-loop-out-init : goal.give-loop-out-init
+give-loop-out-init g t c =
+    let m = g.M.Machine in
+    let k = g.G.MarkTake in
+    let tree = c.args.self.now in
+    record {
+      all = c.requires.all;
+      count = refl;
+      same = same_still m tree;
+      gives = gives_nothing (defined_in m tree) (stand_in m tree) (parents_of tree) (k.took c.args.take.now) c.args.instance;
+      takes = still k c.args.take.now;
+    }
+
+pub give-loop-out-preserved : goal.give-loop-out-preserved
+give-loop-out-preserved g t c =
+    let m = g.M.Machine in
+    let k = g.G.MarkTake in
+    let i = c.loop-out.invariant in
+    let e = c.in-Ok.ensures in
+    let within : c.loop-out.out-index < length c.args.outs.now = omega arith in
+    let next : take c.loop-out.out-index c.args.outs.now ++ c.out-item.result ∷ [] ≡ take (c.loop-out.out-index + 1) c.args.outs.now =
+    sym (take_more c.args.outs.now c.loop-out.out-index c.out-item.result within ∙ ap (λ (o : Out). take c.loop-out.out-index c.args.outs.now ++ o ∷ []) (sym c.out-item.is)) in
+    record {
+      all = takes_all k m i.all e.same e.takes;
+      count = same_count m e.same ∙ i.count;
+      same = same_then m i.same e.same;
+      gives = gives_reach (take (c.loop-out.out-index + 1) c.args.outs.now) next (gives_then i.gives (gives_of m i.same e.gives));
+      takes = still_then k i.takes e.takes;
+    }
+
+pub give-returns-in-Err-clause-same : goal.give-returns-in-Err-clause-same
+give-returns-in-Err-clause-same g t c = same_then g.M.Machine c.loop-out.invariant.same c.in-Err.ensures.same
+
+pub give-returns-in-Err-clause-gives : goal.give-returns-in-Err-clause-gives
+give-returns-in-Err-clause-gives g t c =
+    let m = g.M.Machine in
+    let i = c.loop-out.invariant in
+    let e = c.in-Err.ensures in
+    let within : c.loop-out.out-index < length c.args.outs.now = omega arith in
+    let next : take c.loop-out.out-index c.args.outs.now ++ c.out-item.result ∷ [] ≡ take (c.loop-out.out-index + 1) c.args.outs.now =
+    sym (take_more c.args.outs.now c.loop-out.out-index c.out-item.result within ∙ ap (λ (o : Out). take c.loop-out.out-index c.args.outs.now ++ o ∷ []) (sym c.out-item.is)) in
+    let front : Reaches false (take c.loop-out.out-index c.args.outs.now ++ c.out-item.result ∷ []) c.args.outs.now =
+    (drop (c.loop-out.out-index + 1) c.args.outs.now, ap (λ (l : List Out). l ++ drop (c.loop-out.out-index + 1) c.args.outs.now) next ∙ take-append-drop (c.loop-out.out-index + 1) c.args.outs.now) in
+    gives_reach c.args.outs.now front (gives_then i.gives (gives_of m i.same e.gives))
+
+pub give-returns-in-Err-clause-takes : goal.give-returns-in-Err-clause-takes
+give-returns-in-Err-clause-takes g t c = still_then g.G.MarkTake c.loop-out.invariant.takes c.in-Err.ensures.takes
+
+pub pass_in-returns-in-Err-clause-feeds : goal.pass_in-returns-in-Err-clause-feeds
+pass_in-returns-in-Err-clause-feeds g t c =
+    let m = g.M.Machine in
+    let k = g.G.MarkTake in
+    let tree = c.args.self.now in
+    let s = c.step_packet_at.ensures.step in
+    let gave = gives_stepped m (same_still m tree) c.step_packet_at.new.machines c.step_packet_at.ensures.setups (subst (λ (l : List Out). Gives false (defined m.outputs m.near (map m.setup c.step_packet_at.new.machines)) (Stand m.consumed c.step_packet_at.new.machines) (stand_in m c.give.new.self) (parents_of tree) (k.took c.args.take.now) (k.took c.give.new.take) c.args.instance l) c.list.ensures.list c.in-Err.ensures.gives) in
+    let keeps = keeps_at m.setup m.outputs g.met.M.Machine.prefix tree.machines.now c.args.instance (omega (arith, c.requires.within, tree.each)) in
+    cut_off keeps (consumes_reach (Pack c.args.packet.now ∷ []) (reaches_weaker false s.here.front (Pack c.args.packet.now ∷ []) (whole_packet c.args.packet.now s.here)) (stepped tree.forest (step_moves s) gave))
+
+pub pass_in-returns-clause-feeds : goal.pass_in-returns-clause-feeds
+pass_in-returns-clause-feeds g t c =
+    let m = g.M.Machine in
+    let k = g.G.MarkTake in
+    let tree = c.args.self.now in
+    let s = c.step_packet_at.ensures.step in
+    let now = stand_in m c.give.new.self in
+    let setups = c.in-Ok.ensures.same.setups ∙ c.step_packet_at.ensures.setups in
+    let floor = c.floor_of-floor.result in
+    let gave = gives_stepped m (same_still m tree) c.step_packet_at.new.machines c.step_packet_at.ensures.setups (subst (λ (l : List Out). Gives true (defined m.outputs m.near (map m.setup c.step_packet_at.new.machines)) (Stand m.consumed c.step_packet_at.new.machines) now (parents_of tree) (k.took c.args.take.now) (k.took c.give.new.take) c.args.instance l) c.list.ensures.list c.in-Ok.ensures.gives) in
+    let consumed = consumes_reach (Pack c.args.packet.now ∷ []) (whole_packet c.args.packet.now s.here) (stepped tree.forest (step_moves s) gave) in
+    floored (is_ok c.mark.result) (k.took c.mark.new.take) floor consumed c.mark.ensures.took
+    (λ input b. subst (λ (l : List g.row.M-Setup.Denot). IsFloor (whole_of m.outputs l c.args.instance) input floor) setups (c.floor_of-floor.ensures.floor input b))
+    (λ input b. subst (λ (l : List g.row.M-Setup.Denot). near_of m.near l c.args.instance input ≤ floor) setups (c.floor_of-floor.ensures.near input b))
+
+pub hand-loop-place-init : goal.hand-loop-place-init
+hand-loop-place-init g t c =
+    let m = g.M.Machine in
+    let k = g.G.MarkTake in
+    let tree = c.args.self.now in
+    let xs = Pack c.args.packet.now ∷ [] in
+    let fs = xs ∷ [] in
+    record {
+      all = c.requires.all;
+      count = refl;
+      same = same_still m tree;
+      hands = hands_none (defined_in m tree) (stand_in m tree) (parents_of tree) (k.took c.args.take.now) c.args.above xs fs;
+      takes = still k c.args.take.now;
+    }
+
+pub hand-loop-place-preserved-then-not-same_place :
+    goal.hand-loop-place-preserved-then-not-same_place
+hand-loop-place-preserved-then-not-same_place g t c =
+    let i = c.loop-place.invariant in
+    let xs = Pack c.args.packet.now ∷ [] in
+    let fs = xs ∷ [] in
+    record { all = i.all; count = i.count; same = i.same; hands = hands_past (parents_of c.args.self.now) c.loop-place.place c.args.above _ c.loop-place-test.true xs (xs ∷ []) (sym c.if-not-same_place.ensures) i.hands; takes = i.takes }
+
+pub hand-loop-place-preserved : goal.hand-loop-place-preserved
+hand-loop-place-preserved g t c =
+    let m = g.M.Machine in
+    let k = g.G.MarkTake in
+    let i = c.loop-place.invariant in
+    let e = c.in-Ok.ensures in
+    let xs = Pack c.args.packet.now ∷ [] in
+    let fs = xs ∷ [] in
+    record {
+      all = takes_all k m i.all e.same e.takes;
+      count = same_count m e.same ∙ i.count;
+      same = same_then m i.same e.same;
+      hands = hands_more m i.same c.loop-place.place c.args.above _ c.loop-place-test.true xs (sym c.if-not-same_place.ensures) i.hands e.feeds;
+      takes = still_then k i.takes e.takes;
+    }
+
+pub hand-returns-in-Err-clause-same : goal.hand-returns-in-Err-clause-same
+hand-returns-in-Err-clause-same g t c = same_then g.M.Machine c.loop-place.invariant.same c.in-Err.ensures.same
+
+pub hand-returns-in-Err-clause-hands : goal.hand-returns-in-Err-clause-hands
+hand-returns-in-Err-clause-hands g t c =
+    let m = g.M.Machine in
+    let i = c.loop-place.invariant in
+    let e = c.in-Err.ensures in
+    let xs = Pack c.args.packet.now ∷ [] in
+    let fs = xs ∷ [] in
+    hands_front (c.loop-place.place + 1) xs (xs ∷ []) (hands_more m i.same c.loop-place.place c.args.above _ c.loop-place-test.true xs (sym c.if-not-same_place.ensures) i.hands e.feeds)
+
+pub hand-returns-in-Err-clause-takes : goal.hand-returns-in-Err-clause-takes
+hand-returns-in-Err-clause-takes g t c = still_then g.G.MarkTake c.loop-place.invariant.takes c.in-Err.ensures.takes
+
+pub hand-returns-clause-hands : goal.hand-returns-clause-hands
+hand-returns-clause-hands g t c =
+    let xs = Pack c.args.packet.now ∷ [] in
+    let fs = xs ∷ [] in
+    hands_all c.loop-place.place xs fs (omega arith) c.loop-place.invariant.hands
+
+pub hand-pass-requires : goal.hand-pass-requires
+hand-pass-requires g t c κs within =
+    let i = c.loop-place.invariant in
+    let places = parents_of c.args.self.now in
+    let low = behind_above places c.loop-place.place c.args.above _ c.loop-place-test.true c.args.self.now.forest (sym c.if-not-same_place.ensures) in
+    (omega (arith, low, i.count, c.loop-place-test.true, c.decreases), (within.0, (within.1.0, (within.1.1.0, (within.1.1.1, (i.all, omega (arith, i.count, c.loop-place-test.true)))))))

@@ -1,0 +1,79 @@
+-- What is done with a tree of machines, and with what takes its marks.
+use Rattle.std.specs.Prelude.{ℕ, ◌≡◌, ◌∷◌, [], List, Option, Result, length, map}
+use Rattle.std.specs.Result.{is_ok}
+use Rattle.la_base.specs.declared.samples.Run.{Run}
+use Rattle.la_base.specs.declared.wires.Out.{Out}
+use Rattle.la_io.specs.declared.feeds.MarkTake.{Ghosts as TakeGhosts}
+use Rattle.decoder_core.specs.declared.machine.Machine.{Ghosts as MachineGhosts}
+use Rattle.decoder_core.specs.Inputs.{Item}
+use Rattle.stack_direct.specs.Machines.{Definitions, Stand, defined}
+use Rattle.stack_direct.specs.Passing.{Hands, Feeds, Consumes, Gives}
+use Rattle.stack_direct.specs.Runs.{FedRuns}
+use Rattle.stack_direct.specs.Taking.{GoesOn, KeepsOn}
+use Rattle.stack_direct.specs.declared.tree.Tree.{Tree}
+
+abbrev pub machines_of : {M : Type 0} → Tree M → List M
+machines_of tree = tree.machines.now
+
+abbrev pub parents_of : {M : Type 0} → Tree M → List (Option ℕ)
+parents_of tree = tree.parents.now
+
+module _ {M S : Type 0} (m : MachineGhosts M S) where
+  -- the inputs that the machines stand for, by their places
+  abbrev pub stand_in : Tree M → ℕ → List Item → Type 0
+  stand_in tree = Stand m.consumed (machines_of tree)
+
+  -- what they give on whole inputs, and their near floors
+  abbrev pub defined_in : Tree M → Definitions
+  defined_in tree = defined m.outputs m.near (map m.setup (machines_of tree))
+
+  -- the same machines by the same setups, on the same places
+  pub record SameTree (old new : Tree M) : Type 0 where
+    pub machines : new.machines.ghost_name ≡ old.machines.ghost_name
+    pub parents : parents_of new ≡ parents_of old
+    pub setups : map m.setup (machines_of new) ≡ map m.setup (machines_of old)
+
+module _ {A O : Type 0} (g : TakeGhosts A O) where
+  -- marks are taken of each instance
+  abbrev pub TakesAll : {M : Type 0} → Tree M → A → Type 0
+  TakesAll tree take = g.instances take ≡ length (parents_of tree)
+
+  -- marks were taken one behind another
+  abbrev pub TakesOn : {R E : Type 0} → A → A → Result R E → Type 0
+  TakesOn old new result = GoesOn g.instances g.origin g.stops g.going old new result
+
+  -- the same, and it stopped at none
+  abbrev pub GoesStill : A → A → Type 0
+  GoesStill old new = KeepsOn g.instances g.origin g.stops g.going old new
+
+module _ {M S A O R E : Type 0} (m : MachineGhosts M S) (g : TakeGhosts A O) (old new : Tree M)
+    (take_old take_new : A) (result : Result R E) where
+  -- those that stand on `above` were given these items, as one feed
+  abbrev pub TreeHands : Option ℕ → List Item → Type 0
+  TreeHands above items =
+      Hands (is_ok result) (defined_in m old) (stand_in m old) (stand_in m new) (parents_of old)
+      (g.took take_old) (g.took take_new) above (λ _. items) (λ _. items ∷ [])
+
+  -- an instance was given these items, as one feed
+  abbrev pub TreeFeeds : ℕ → List Item → Type 0
+  TreeFeeds i items =
+      Feeds (is_ok result) (defined_in m old) (stand_in m old) (stand_in m new) (parents_of old)
+      (g.took take_old) (g.took take_new) i items
+
+  -- an instance was given these items, without a floor behind them
+  abbrev pub TreeConsumes : ℕ → List Item → Type 0
+  TreeConsumes i items =
+      Consumes (is_ok result) (defined_in m old) (stand_in m old) (stand_in m new) (parents_of old)
+      (g.took take_old) (g.took take_new) i items
+
+  -- these outputs of an instance were given
+  abbrev pub TreeGives : ℕ → List Out → Type 0
+  TreeGives i outs =
+      Gives (is_ok result) (defined_in m old) (stand_in m old) (stand_in m new) (parents_of old)
+      (g.took take_old) (g.took take_new) i outs
+
+  -- lists of runs were given, and handed to those that stand on nothing
+  abbrev pub TreeFed : (List (List Run) → Type 0) → (List (List Run) → Type 0) → Type 0
+  TreeFed gave_old gave_new =
+      FedRuns (is_ok result) (defined_in m old) (stand_in m old) (stand_in m new) (parents_of old)
+      gave_old gave_new (g.took take_old) (g.took take_new)
