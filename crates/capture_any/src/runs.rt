@@ -11,7 +11,7 @@ use la_base::Run;
 use std::marker::Model;
 
 /// How many runs are given at once.
-pub const MOST_RUNS: usize = 64;
+pub const MOST_RUNS: usize = 256;
 
 /// At most `MOST_RUNS` runs, in their order: room that is used again and again. Contracts see the
 /// list of runs.
@@ -27,7 +27,7 @@ impl Model for Runs {
 
     ghost view = { λ s. take s.count s.room };
 
-    ghost invariant = { λ s. s.count ≤ 64 };
+    ghost invariant = { λ s. s.count ≤ 256 };
 }
 
 impl Runs {
@@ -50,8 +50,8 @@ impl Runs {
 
     /// Whether there is no room for another.
     pub fn is_full(&self) -> bool
-        ensures room { result ≡ false → length self.now < 64 }
-        ensures full { result ≡ true → 64 ≤ length self.now }
+        ensures room { result ≡ false → length self.now < 256 }
+        ensures full { result ≡ true → 256 ≤ length self.now }
     {
         self.list().len() >= MOST_RUNS
     }
@@ -65,7 +65,7 @@ impl Runs {
 
     /// Appends a run.
     pub fn push(&mut self, run: Run)
-        requires { length self.old < 64 }
+        requires { length self.old < 256 }
         ensures { self.new ≡ self.old ++ run ∷ [] }
     {
         self.room[self.count] = run;

@@ -1,6 +1,6 @@
 -- The writing of a run's stops, as it goes on.
 use Rattle.std.proofs.Common.{◌≡◌, ℕ, ◌+◌, List, [], ◌∷◌, ◌++◌, take, Option, Some, None, Result, Ok, Err, refl, sym, ◌∙◌, subst, arith, append_assoc}
-use Rattle.std.specs.Io.KnownBytes.{Appends}
+use Rattle.std.specs.Io.KnownBytes.{Appends, Keeps}
 use Rattle.std.proofs.lemmas.List.{append-nil}
 use Rattle.la_base.specs.Samples.{samples}
 use Rattle.la_base.specs.declared.samples.Run.{Run}
@@ -16,7 +16,8 @@ use Rattle.listing_out.specs.StopLines.{line_of, lines_of}
 use Rattle.std.specs.Prelude.{OnOk}
 use Rattle.la_io.specs.declared.outside.Failed.{Failed}
 use Rattle.find_job.specs.Stopping.{AllWritten, CutOff, Written}
-use Rattle.la_io.proofs.Fronts.{front_on}
+use Rattle.la_io.proofs.Bytes.{appends_kept}
+use Rattle.la_io.proofs.Fronts.{front_on, front_whole}
 use Rattle.find_job.proofs.Fronts.{lines_append, lines_more}
 
 -- of all these samples, what is left of the run is still to be scanned; the stops before it are written
@@ -137,3 +138,10 @@ written_on first_waiter before after stops list front more all old now new (Err 
 pub consumed_on : (result : Result (Unit {0}) Failed) (last now first front rest all : ℕ) → now ≡ first + front → front + rest ≡ all → OnOk result (last ≡ now + rest) → OnOk result (last ≡ first + all)
 consumed_on (Ok done) last now first front rest all count total more = omega (arith, count, total, more)
 consumed_on (Err failed) last now first front rest all count total more = tt
+
+-- they were written, and then handed on
+pub written_handed : (after before : Waiter) (samples list : List ℕ) (stops : List Stop) (old mid new : Option (List ℕ)) (result : Result (Unit {0}) Failed) → AllWritten after (alts_of before) (list ++ samples) stops old mid → Keeps mid new
+    → Written after before samples list stops old new result
+written_handed after before samples list stops old mid new (Ok done) all kept = record { more = all.more; waits = all.waits; chain = all.chain; written = appends_kept old mid new (lines_of all.more) all.written kept }
+written_handed after before samples list stops old mid new (Err failed) all kept =
+    record { more = all.more; to = wait_from after; chain = all.chain; written = front_whole old new (lines_of all.more) (appends_kept old mid new (lines_of all.more) all.written kept) }

@@ -7,14 +7,15 @@ ghost use Rattle.capture_any.specs.Reading.{form_of, is_open_of, pins_of};
 ghost use Rattle.find_job.specs.Finding.{Finds};
 
 use crate::FindEnd;
-use crate::stops::write_runs;
+use crate::stops::write_settled;
 use capture_any::{Capture, Runs};
 use la_io::{Buffered, CaptureError, Failed, Sink, Source};
 use listing_out::StopLine;
 use wait_cond::{Cond, Waiter};
 
 /// Waits again and again for the condition, and writes for each stop the line `AT: I,J`: the number
-/// of its sample, and the alternatives that are met there, rising. No sample was given yet.
+/// of its sample, and the alternatives that are met there, rising. No sample was given yet. Before
+/// each read that may have to wait for bytes the sink is told to hand on what it keeps back.
 pub fn find<S: Source, K: Sink>(
     capture: &mut Capture,
     cond: Cond,
@@ -39,7 +40,7 @@ pub fn find<S: Source, K: Sink>(
     let mut runs = Runs::new();
     loop {
         match capture.next_runs(source, &mut runs) {
-            Ok(true) => match write_runs(&mut waiter, runs.list(), &mut line, sink) {
+            Ok(true) => match write_settled(&mut waiter, &runs, &mut line, sink) {
                 Ok(()) => {}
                 Err(Failed) => return FindEnd::Write,
             },

@@ -16,4 +16,4 @@ invariant-loop-reader l = record {
 }
 
 abbrev pub decreases-loop-reader : goal.decreases-loop-reader
-decreases-loop-reader l = 64 - length l.into
+decreases-loop-reader l = 256 - length l.into

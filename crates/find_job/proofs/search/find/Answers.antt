@@ -1,9 +1,8 @@
-use Rattle.std.proofs.Common.{refl, ◌≡◌, ◌++◌, ◌∙◌, List, Bool, true, Result, Ok, Err, length, sym, ap, subst, arith}
-use Rattle.la_base.specs.declared.samples.Run.{Run}
+use Rattle.std.proofs.Common.{refl, ◌≡◌, ◌++◌, ◌∙◌, Bool, true, Result, Ok, Err, ap, subst, arith}
 use Rattle.la_io.specs.declared.fault.CaptureError.{CaptureError}
 use Rattle.wait_cond.specs.Conds.{cond_alts}
 use Rattle.la_base.specs.Runs.{samples_of}
-use Rattle.capture_any.specs.Taking.{GaveMore, Gives, open_behind}
+use Rattle.capture_any.specs.Taking.{Gives, open_behind}
 use Rattle.capture_any.specs.Reading.{Next}
 use Rattle.la_io.specs.Reading.{CaptureCause}
 use Rattle.capture_any.proofs.ListingLemmas.{gave_more, same_still, same_on, lists_done, lists_fault, lists_no_memory, lists_read, lists_write}
@@ -22,8 +21,8 @@ loop-waiter-init g c = record {
   goes_on = g.met.K.Sink.goes_on_still c.args.sink.now;
 }
 
-pub write_runs-requires : goal.write_runs-requires
-write_runs-requires g c = omega (arith, c.loop-waiter.invariant.room, c.next_runs.ensures.counts (c.in-Ok-true.is ∙ ap (λ (b : Bool). Ok b) c.in-Ok-true.field-0-test), c.next_runs.ensures.few, ap (λ (l : List Run). length (samples_of l)) c.list.ensures)
+pub write_settled-requires : goal.write_settled-requires
+write_settled-requires g c = omega (arith, c.loop-waiter.invariant.room, c.next_runs.ensures.counts (c.in-Ok-true.is ∙ ap (λ (b : Bool). Ok b) c.in-Ok-true.field-0-test), c.next_runs.ensures.few)
 
 pub loop-waiter-preserved : goal.loop-waiter-preserved
 loop-waiter-preserved g c =
@@ -32,21 +31,20 @@ loop-waiter-preserved g c =
     let written = g.K.Sink.written in
     let old = c.loop-waiter.capture in
     let new = c.next_runs.new.self in
-    let samples = samples_of c.list.result.now in
+    let samples = samples_of c.next_runs.new.into in
     let next = c.next_runs.ensures in
     let wrote = c.in-Ok.ensures in
     let more : c.next_runs.result ≡ Ok true = c.in-Ok-true.is ∙ ap (λ (b : Bool). Ok b) c.in-Ok-true.field-0-test in
-    let gives = subst (λ (l : List Run). GaveMore old new (left c.loop-waiter.source) (left c.next_runs.new.source) (samples_of l)) (sym c.list.ensures)
-    (subst (λ (r : Result Bool CaptureError). Gives old new (left c.loop-waiter.source) (left c.next_runs.new.source) c.next_runs.new.into r) more next.gives) in
+    let gives = subst (λ (r : Result Bool CaptureError). Gives old new (left c.loop-waiter.source) (left c.next_runs.new.source) c.next_runs.new.into r) more next.gives in
     record {
       is_open = next.is_open ∙ ap open_behind more;
       same = same_on c.args.capture.now old new i.same next.form next.pins;
       searching = λ before told at stands.
           let s = i.searching before told at stands in
-          searching_on old c.loop-waiter.waiter before told (left c.args.source.now) (left c.loop-waiter.source) (written c.args.sink.now) (written c.loop-waiter.sink) s new (left c.next_runs.new.source) samples c.write_runs.new.waiter (written c.write_runs.new.sink)
+          searching_on old c.loop-waiter.waiter before told (left c.args.source.now) (left c.loop-waiter.source) (written c.args.sink.now) (written c.loop-waiter.sink) s new (left c.next_runs.new.source) samples c.write_settled.new.waiter (written c.write_settled.new.sink)
           (gave_more old new before told (left c.args.source.now) (left c.loop-waiter.source) (left c.next_runs.new.source) s.given samples s.gave gives) wrote.alts (wrote.written s.given s.stops s.waits s.chain);
       alts = wrote.alts ∙ i.alts;
-      room = omega (arith, i.room, next.counts more, wrote.consumed, ap (λ (l : List Run). length (samples_of l)) c.list.ensures);
+      room = omega (arith, i.room, next.counts more, wrote.consumed);
       read = subst (λ (r : Result Bool CaptureError). CaptureCause (g.S.Source.faults c.loop-waiter.source) (g.S.Source.faults c.next_runs.new.source) r) more next.cause ∙ i.read;
       write = wrote.cause.kept ∙ i.write;
       goes_on = g.met.K.Sink.goes_on_further _ _ _ i.goes_on wrote.goes_on;
@@ -61,14 +59,13 @@ returns-in-Err-clause-finds g c = λ before told at stands.
     let s = i.searching before told at stands in
     let old = c.loop-waiter.capture in
     let new = c.next_runs.new.self in
-    let samples = samples_of c.list.result.now in
+    let samples = samples_of c.next_runs.new.into in
     let next = c.next_runs.ensures in
     let more : c.next_runs.result ≡ Ok true = c.in-Ok-true.is ∙ ap (λ (b : Bool). Ok b) c.in-Ok-true.field-0-test in
-    let gives = subst (λ (l : List Run). GaveMore old new (left c.loop-waiter.source) (left c.next_runs.new.source) (samples_of l)) (sym c.list.ensures)
-    (subst (λ (r : Result Bool CaptureError). Gives old new (left c.loop-waiter.source) (left c.next_runs.new.source) c.next_runs.new.into r) more next.gives) in
+    let gives = subst (λ (r : Result Bool CaptureError). Gives old new (left c.loop-waiter.source) (left c.next_runs.new.source) c.next_runs.new.into r) more next.gives in
     lists_write c.args.capture.now new (same_on c.args.capture.now old new i.same next.form next.pins) _ _ before told (left c.args.source.now) (left c.next_runs.new.source) (s.given ++ samples)
     (gave_more old new before told (left c.args.source.now) (left c.loop-waiter.source) (left c.next_runs.new.source) s.given samples s.gave gives)
-    (front_of_more old c.loop-waiter.waiter before told (left c.args.source.now) (left c.loop-waiter.source) (written c.args.sink.now) (written c.loop-waiter.sink) s _ i.alts samples (written c.write_runs.new.sink) (c.in-Err.ensures.written s.given s.stops s.waits s.chain))
+    (front_of_more old c.loop-waiter.waiter before told (left c.args.source.now) (left c.loop-waiter.source) (written c.args.sink.now) (written c.loop-waiter.sink) s _ i.alts samples (written c.write_settled.new.sink) (c.in-Err.ensures.written s.given s.stops s.waits s.chain))
 
 pub returns-in-Ok-false-clause-finds : goal.returns-in-Ok-false-clause-finds
 returns-in-Ok-false-clause-finds g c = λ before told at stands.
