@@ -19,15 +19,17 @@ use Rattle.dev_flash25.specs.Flash.{flash_outs}
 use Rattle.dev_lm75.specs.Thermometer.{lm75_outs}
 use Rattle.dev_lm75.specs.Opening as lm75
 use Rattle.dec_i2c.specs.Bus.{i2c_outs}
+use Rattle.dec_midi.specs.Midi.{midi_outs}
+use Rattle.dec_modbus.specs.Modbus.{gap_of, modbus_outs}
 use Rattle.dec_spi.specs.Bus.{spi_outs}
 use Rattle.dec_uart.specs.Frames.{uart_outs}
 use Rattle.decoder_core.specs.Inputs.{Item, Sample, Pack, counted_samples, samples_in}
 use Rattle.decoder_set.specs.Kinds.{kind_row}
-use Rattle.decoder_set.specs.Options.{clock_options, eeprom_options, i2c_options, link_options, lm75_options, spi_options, uart_options}
+use Rattle.decoder_set.specs.Options.{clock_options, eeprom_options, i2c_options, link_options, lm75_options, modbus_options, spi_options, uart_options}
 use Rattle.decoder_set.specs.Setups.{outs_by}
 use Rattle.decoder_set.specs.Whole.{carried, carries}
 use Rattle.decoder_set.specs.declared.kinds.Kind.{Kind}
-use Rattle.decoder_set.specs.declared.kinds.Kind.TheVariants.{I2c, Spi, Uart, OwLink, OwNet, Eeprom24, Ds1307, Lm75, Ds18b20, Flash25}
+use Rattle.decoder_set.specs.declared.kinds.Kind.TheVariants.{I2c, Spi, Uart, OwLink, OwNet, Eeprom24, Ds1307, Lm75, Ds18b20, Flash25, Modbus, Midi}
 
 samples_carried : (input : List Item) → samples_in (carried Logic input) ≡ samples_in input
 samples_carried [] = refl
@@ -79,3 +81,5 @@ reads_its_wire Ds1307 values rate input = ap (clock_outs (clock.chip_by (clock_o
 reads_its_wire Lm75 values rate input = ap (lm75_outs (lm75.chip_by (lm75_options values))) (packets_carried wire.I2c input)
 reads_its_wire Ds18b20 values rate input = ap probe_outs (packets_carried wire.OwNet input)
 reads_its_wire Flash25 values rate input = ap flash_outs (packets_carried wire.Spi input)
+reads_its_wire Modbus values rate input = ap (modbus_outs (gap_of (modbus_options values) rate)) (packets_carried wire.Uart input)
+reads_its_wire Midi values rate input = ap midi_outs (packets_carried wire.Uart input)

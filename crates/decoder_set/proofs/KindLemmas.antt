@@ -4,6 +4,11 @@ use Rattle.decoder_core.specs.Inputs.{Item, counted_samples}
 use Rattle.dec_i2c.specs.Opening as i2c
 use Rattle.dec_i2c.specs.Bus.{i2c_outs, i2c_near}
 use Rattle.dec_i2c.specs.declared.held.I2c.{I2c}
+use Rattle.dec_midi.specs.Midi.{midi_outs}
+use Rattle.dec_modbus.specs.Modbus.{gap_of, modbus_outs}
+use Rattle.dec_modbus.specs.Opening as modbus
+use Rattle.dec_modbus.specs.declared.held.Line.{Line as ModbusLine}
+use Rattle.dec_modbus.specs.declared.held.Modbus.{Modbus}
 use Rattle.dec_onewire.specs.Link.{link_outs, link_near}
 use Rattle.dec_onewire.specs.Opening as onewire
 use Rattle.dec_onewire.specs.declared.link.held.OwLink.{OwLink}
@@ -40,8 +45,8 @@ use Rattle.i2c_phases.specs.declared.phased.Phased.{Phased}
 use Rattle.decoder_set.specs.declared.kinds.Kind.{Kind}
 use Rattle.decoder_set.specs.declared.kinds.Kind.TheVariants as kind
 use Rattle.decoder_set.specs.declared.setup.Setup.{Setup}
-use Rattle.decoder_set.specs.Owning.{IsClock, IsEeprom, IsI2c, IsLink, IsLm75, IsSpi, IsUart}
-use Rattle.decoder_set.specs.Options.{clock_options, eeprom_options, i2c_options, link_options, lm75_options, spi_options, uart_options}
+use Rattle.decoder_set.specs.Owning.{IsClock, IsEeprom, IsI2c, IsLink, IsLm75, IsModbus, IsSpi, IsUart}
+use Rattle.decoder_set.specs.Options.{clock_options, eeprom_options, i2c_options, link_options, lm75_options, modbus_options, spi_options, uart_options}
 use Rattle.decoder_set.specs.Setups.{outs_by, outs_of, near_by, near_of}
 
 -- what a device on I2C gives of an input
@@ -53,6 +58,10 @@ clock_gives chip input = phased 104 chip.resets clock.step (counted_packets wire
 
 abbrev pub lm75_gives : Lm75Chip → List Item → List Out
 lm75_gives chip input = phased (72 + chip.addr) chip.resets lm75.step (counted_packets wire.I2c input)
+
+-- and what messages on a serial line give
+abbrev pub modbus_gives : ModbusLine → List Item → List Out
+modbus_gives line input = modbus_outs (gap_of line.opts line.rate) (counted_packets wire.Uart input)
 
 module _ (setup : Setup) where
   abbrev values : List (Option ℕ)
@@ -118,3 +127,10 @@ module _ (setup : Setup) where
 
   pub flash_outs_are : setup.kind ≡ kind.Flash25 → (input : List Item) → outs_of setup input ≡ flash_outs (counted_packets wire.Spi input)
   flash_outs_are is input = ap (λ (k : Kind). outs_by k values setup.rate input) is
+
+  pub modbus_outs_are : (machine : Modbus) → setup.kind ≡ kind.Modbus → IsModbus (modbus_options setup.values.given) setup.rate machine → (input : List Item) → outs_of setup input ≡ modbus_gives (modbus.line_of machine) input
+  modbus_outs_are machine is own input =
+      ap (λ (k : Kind). outs_by k values setup.rate input) is ∙ (λ i. modbus_outs (gap_of (sym own.0 i) (sym own.1 i)) (counted_packets wire.Uart input))
+
+  pub midi_outs_are : setup.kind ≡ kind.Midi → (input : List Item) → outs_of setup input ≡ midi_outs (counted_packets wire.Uart input)
+  midi_outs_are is input = ap (λ (k : Kind). outs_by k values setup.rate input) is

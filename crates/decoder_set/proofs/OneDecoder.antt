@@ -9,6 +9,13 @@ use Rattle.decoder_core.proofs.OneDriver.{one_state}
 use Rattle.dec_i2c.specs.laws.MachineLaws.{one_i2c, i2c_one_stop}
 use Rattle.dec_i2c.specs.Opening as i2c
 use Rattle.dec_i2c.specs.declared.held.Bus.{Bus}
+use Rattle.dec_midi.specs.declared.held.Midi.{Midi}
+use Rattle.dec_midi.specs.declared.held.MidiOpts.{MidiOpts}
+use Rattle.dec_midi.specs.laws.MidiLaws.{one_midi}
+use Rattle.dec_modbus.specs.Opening as modbus
+use Rattle.dec_modbus.specs.declared.held.Line.{Line as ModbusLine}
+use Rattle.dec_modbus.specs.declared.held.Modbus.{Modbus}
+use Rattle.dec_modbus.specs.laws.ModbusLaws.{one_modbus}
 use Rattle.dec_onewire.specs.Opening as onewire
 use Rattle.dec_onewire.specs.declared.link.held.Line.{Line as DqLine}
 use Rattle.dec_onewire.specs.laws.LinkMachineLaws.{one_link, link_one_stop}
@@ -99,6 +106,10 @@ same_dq one other opts rate = λ i. record {
   dq_below = to_path_p (λ j. (opts j).dq < MOST_PINS) {a = one.dq_below} (le_prop _ other.dq_below) i;
 }
 
+-- and two lines of messages
+same_modbus : (one other : ModbusLine) → one.opts ≡ other.opts → one.rate ≡ other.rate → one ≡ other
+same_modbus one other opts rate = λ i. record { opts = opts i; rate = rate i }
+
 -- what a machine of a kind holds
 abbrev Inner : Kind → Type 0
 Inner kind.I2c = Driver I2c Bus
@@ -111,6 +122,8 @@ Inner kind.Ds1307 = Follower (Phased Clock ClockChip) ClockChip
 Inner kind.Lm75 = Follower (Phased Lm75 Lm75Chip) Lm75Chip
 Inner kind.Ds18b20 = Follower ProbeDecoder ProbeOpts
 Inner kind.Flash25 = Follower FlashDecoder FlashOpts
+Inner kind.Modbus = Follower Modbus ModbusLine
+Inner kind.Midi = Follower Midi MidiOpts
 
 abbrev inner : (held : AnyMachine) → Inner (kind_in held)
 inner (machine.I2c x) = x
@@ -123,6 +136,8 @@ inner (machine.Ds1307 x) = x
 inner (machine.Lm75 x) = x
 inner (machine.Ds18b20 x) = x
 inner (machine.Flash25 x) = x
+inner (machine.Modbus x) = x
+inner (machine.Midi x) = x
 
 abbrev wrapped : (k : Kind) → Inner k → AnyMachine
 wrapped kind.I2c x = machine.I2c x
@@ -135,6 +150,8 @@ wrapped kind.Ds1307 x = machine.Ds1307 x
 wrapped kind.Lm75 x = machine.Lm75 x
 wrapped kind.Ds18b20 x = machine.Ds18b20 x
 wrapped kind.Flash25 x = machine.Flash25 x
+wrapped kind.Modbus x = machine.Modbus x
+wrapped kind.Midi x = machine.Midi x
 
 wrapped_inner : (held : AnyMachine) → held ≡ wrapped (kind_in held) (inner held)
 wrapped_inner (machine.I2c x) = refl
@@ -147,6 +164,8 @@ wrapped_inner (machine.Ds1307 x) = refl
 wrapped_inner (machine.Lm75 x) = refl
 wrapped_inner (machine.Ds18b20 x) = refl
 wrapped_inner (machine.Flash25 x) = refl
+wrapped_inner (machine.Modbus x) = refl
+wrapped_inner (machine.Midi x) = refl
 
 -- a machine of this kind is one that holds such a thing
 of_kind : (k : Kind) (held : AnyMachine) → k ≡ kind_in held → (x : Inner k) × (held ≡ wrapped k x)
@@ -227,6 +246,16 @@ module _ (values : List (Option ℕ)) (rate : Rate) (input : List Item) where
       let o : Follower FlashDecoder FlashOpts = a.0 in
       let f = at kind.Flash25 other o a.1 e in
       (o, a.1, (one_flash one.machine o.machine (counted_packets wire.Spi input) d.follows.machine_stands f.follows.machine_stands, d.follows.last_is ∙ sym f.follows.last_is))
+  same_machine (machine.Modbus one) other same d e =
+      let a = of_kind kind.Modbus other same in
+      let o : Follower Modbus ModbusLine = a.0 in
+      let f = at kind.Modbus other o a.1 e in
+      (o, a.1, (one_modbus one.machine o.machine (counted_packets wire.Uart input) (same_modbus (modbus.line_of one.machine) (modbus.line_of o.machine) (d.own.0 ∙ sym f.own.0) (d.own.1 ∙ sym f.own.1)) d.follows.machine_stands f.follows.machine_stands, d.follows.last_is ∙ sym f.follows.last_is))
+  same_machine (machine.Midi one) other same d e =
+      let a = of_kind kind.Midi other same in
+      let o : Follower Midi MidiOpts = a.0 in
+      let f = at kind.Midi other o a.1 e in
+      (o, a.1, (one_midi one.machine o.machine (counted_packets wire.Uart input) d.follows.machine_stands f.follows.machine_stands, d.follows.last_is ∙ sym f.follows.last_is))
 
 pub same_decoder : (one other : AnyDecoder) (input : List Item) → setup_of one ≡ setup_of other → HasConsumed one input → HasConsumed other input → SameDecoder one other
 same_decoder one other input same d e =

@@ -1,6 +1,10 @@
 -- A machine whose setup stays is of its kind, and has its options, as before.
 use Rattle.std.proofs.Common.{◌≡◌, ◌∙◌, ap, subst}
 use Rattle.la_base.specs.declared.samples.Rate.{Rate}
+use Rattle.dec_modbus.specs.Opening as modbus
+use Rattle.dec_modbus.specs.declared.held.Line.{Line as ModbusLine}
+use Rattle.dec_modbus.specs.declared.held.Modbus.{Modbus}
+use Rattle.dec_modbus.specs.declared.held.ModbusOpts.{ModbusOpts}
 use Rattle.dec_onewire.specs.Opening as onewire
 use Rattle.dec_onewire.specs.declared.link.held.Line.{Line as DqLine}
 use Rattle.dec_onewire.specs.declared.link.held.OwLink.{OwLink}
@@ -11,7 +15,7 @@ use Rattle.dec_uart.specs.declared.held.Uart.{Uart}
 use Rattle.dec_uart.specs.declared.options.UartOpts.{UartOpts}
 use Rattle.decoder_set.specs.declared.any.AnyDecoder.{AnyDecoder}
 use Rattle.decoder_set.specs.declared.any_machine.AnyMachine.{AnyMachine}
-use Rattle.decoder_set.specs.Owning.{IsLink, IsOwn, IsUart, OwnAs, kind_in}
+use Rattle.decoder_set.specs.Owning.{IsLink, IsModbus, IsOwn, IsUart, OwnAs, kind_in}
 
 -- a decoder's machine `old`, and the machine `new` that it becomes
 pub owned : (decoder : AnyDecoder) (old new : AnyMachine) → decoder.machine ≡ old
@@ -34,3 +38,9 @@ pub link_owned : (options : OwLinkOpts) (rate : Rate) (old new : OwLink)
     → IsLink options rate old → IsLink options rate new
 link_owned options rate old new same own =
     (ap (λ (l : DqLine). l.opts) same ∙ own.0, ap (λ (l : DqLine). l.rate) same ∙ own.1)
+
+pub modbus_owned : (options : ModbusOpts) (rate : Rate) (old new : Modbus)
+    → modbus.line_of new ≡ modbus.line_of old
+    → IsModbus options rate old → IsModbus options rate new
+modbus_owned options rate old new same own =
+    (ap (λ (l : ModbusLine). l.opts) same ∙ own.0, ap (λ (l : ModbusLine). l.rate) same ∙ own.1)

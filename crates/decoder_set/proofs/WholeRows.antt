@@ -3,7 +3,7 @@ use Rattle.std.proofs.Common.{refl, arith}
 use Rattle.decoder_set.specs.Kinds.{kind_row}
 use Rattle.decoder_set.specs.Whole.{IsWhole}
 use Rattle.decoder_set.specs.declared.kinds.Kind.{Kind}
-use Rattle.decoder_set.specs.declared.kinds.Kind.TheVariants.{I2c, Spi, Uart, OwLink, OwNet, Eeprom24, Ds1307, Lm75, Ds18b20, Flash25}
+use Rattle.decoder_set.specs.declared.kinds.Kind.TheVariants.{I2c, Spi, Uart, OwLink, OwNet, Eeprom24, Ds1307, Lm75, Ds18b20, Flash25, Modbus, Midi}
 
 pub kind_whole : (kind : Kind) → IsWhole (kind_row kind)
 kind_whole I2c = record { few = omega arith; usual = refl; groups = refl }
@@ -16,3 +16,5 @@ kind_whole Ds1307 = record { few = omega arith; usual = refl; groups = refl }
 kind_whole Lm75 = record { few = omega arith; usual = refl; groups = refl }
 kind_whole Ds18b20 = record { few = omega arith; usual = refl; groups = refl }
 kind_whole Flash25 = record { few = omega arith; usual = refl; groups = refl }
+kind_whole Modbus = record { few = omega arith; usual = refl; groups = refl }
+kind_whole Midi = record { few = omega arith; usual = refl; groups = refl }

@@ -9,7 +9,7 @@ use Rattle.decoder_core.specs.declared.faults.OptFault.TheVariants as fault
 use Rattle.decoder_set.specs.declared.kinds.Kind.{Kind}
 use Rattle.decoder_set.specs.declared.kinds.Kind.TheVariants.{I2c, Spi, Uart, OwLink, OwNet}
 use Rattle.decoder_set.specs.declared.kinds.Kind.TheVariants.{Eeprom24, Ds1307, Lm75, Ds18b20}
-use Rattle.decoder_set.specs.declared.kinds.Kind.TheVariants.{Flash25}
+use Rattle.decoder_set.specs.declared.kinds.Kind.TheVariants.{Flash25, Modbus, Midi}
 use Rattle.decoder_set.specs.declared.setup.Setup.{Setup}
 use Rattle.dec_onewire.specs.Link.{lengths_of}
 use Rattle.dec_onewire.specs.declared.link.options.Lengths.{Lengths}
@@ -34,6 +34,8 @@ too_slow Ds1307 values rate = false
 too_slow Lm75 values rate = false
 too_slow Ds18b20 values rate = false
 too_slow Flash25 values rate = false
+too_slow Modbus values rate = false
+too_slow Midi values rate = false
 
 -- why a decoder can't be opened: Range where an option doesn't take its value, then Rate where the
 -- rate is too low

@@ -8,7 +8,7 @@ use Rattle.decoder_set.specs.declared.kinds.Asked.{Asked}
 use Rattle.decoder_set.specs.declared.kinds.Kind.{Kind}
 use Rattle.decoder_set.specs.declared.kinds.Kind.TheVariants.{I2c, Spi, Uart, OwLink, OwNet}
 use Rattle.decoder_set.specs.declared.kinds.Kind.TheVariants.{Eeprom24, Ds1307, Lm75, Ds18b20}
-use Rattle.decoder_set.specs.declared.kinds.Kind.TheVariants.{Flash25}
+use Rattle.decoder_set.specs.declared.kinds.Kind.TheVariants.{Flash25, Modbus, Midi}
 use Rattle.decoder_set.specs.declared.kinds.OptForm.{OptForm}
 use Rattle.decoder_set.specs.declared.kinds.OptForm.TheVariants as form
 use Rattle.decoder_set.specs.declared.kinds.OptRow.{OptRow}
@@ -175,10 +175,30 @@ kind_row Flash25 = record {
   parent = record { row = 6; number = 8 } ∷ [];
   classes = codes "read" ∷ codes "program" ∷ [];
 }
+kind_row Modbus = record {
+  name = codes "modbus";
+  input = wire.Uart;
+  output = wire.Nothing;
+  options = record { name = codes "gap"; form = Number 1 1000000000 4000000 } ∷ [];
+  groups = [];
+  parent = record { row = 2; number = 8 } ∷ [];
+  classes = [];
+}
+kind_row Midi = record {
+  name = codes "midi";
+  input = wire.Uart;
+  output = wire.Nothing;
+  options = [];
+  groups = [];
+  parent = record { row = 2; number = 8 } ∷ [];
+  classes = [];
+}
 
 -- the kinds that have a row
 abbrev pub kinds : List Kind
-kinds = I2c ∷ Spi ∷ Uart ∷ OwLink ∷ OwNet ∷ Eeprom24 ∷ Ds1307 ∷ Lm75 ∷ Ds18b20 ∷ Flash25 ∷ []
+kinds =
+    I2c ∷ Spi ∷ Uart ∷ OwLink ∷ OwNet ∷ Eeprom24 ∷ Ds1307 ∷ Lm75 ∷ Ds18b20 ∷ Flash25 ∷ Modbus
+    ∷ Midi ∷ []
 
 -- the kind of a name
 abbrev pub kind_of : Text → Option Kind

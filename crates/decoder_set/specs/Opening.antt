@@ -9,6 +9,13 @@ use Rattle.dec_i2c.specs.laws.Machine.{i2c_alts}
 use Rattle.dec_i2c.specs.declared.held.Bus.{Bus}
 use Rattle.dec_i2c.specs.declared.held.I2c.{I2c}
 use Rattle.dec_i2c.specs.declared.held.I2cOpts.{I2cOpts}
+use Rattle.dec_midi.specs.Opening as midi
+use Rattle.dec_midi.specs.declared.held.Midi.{Midi}
+use Rattle.dec_midi.specs.declared.held.MidiOpts.{MidiOpts}
+use Rattle.dec_modbus.specs.Opening as modbus
+use Rattle.dec_modbus.specs.declared.held.Line.{Line as ModbusLine}
+use Rattle.dec_modbus.specs.declared.held.Modbus.{Modbus}
+use Rattle.dec_modbus.specs.declared.held.ModbusOpts.{ModbusOpts}
 use Rattle.dec_spi.specs.Opening as spi
 use Rattle.dec_spi.specs.declared.held.Spi.{Spi}
 use Rattle.dec_spi.specs.declared.options.SpiOpts.{SpiOpts}
@@ -55,10 +62,10 @@ use Rattle.decoder_set.specs.declared.any.AnyDecoder.{AnyDecoder}
 use Rattle.decoder_set.specs.declared.any_machine.AnyMachine.{AnyMachine}
 use Rattle.decoder_set.specs.declared.any_machine.AnyMachine.TheVariants as machine
 use Rattle.decoder_set.specs.Options.{clock_options, eeprom_options, i2c_options, link_options}
-use Rattle.decoder_set.specs.Options.{lm75_options, spi_options, uart_options}
+use Rattle.decoder_set.specs.Options.{lm75_options, modbus_options, spi_options, uart_options}
 use Rattle.decoder_set.specs.Faults.{IsOpened, open_fault}
 use Rattle.decoder_set.specs.Owning.{IsAny, IsClock, IsEeprom, IsI2c, IsLink, IsLm75, IsOwn}
-use Rattle.decoder_set.specs.Owning.{IsSpi, IsUart, kind_in}
+use Rattle.decoder_set.specs.Owning.{IsModbus, IsSpi, IsUart, kind_in}
 
 -- what an I2C machine waits for
 abbrev pub i2c_alts_of : I2c → List Alt
@@ -112,6 +119,13 @@ ProbeConsumed follower input = FollowedBy probe.StandsFor wire.OwNet IsAny follo
 abbrev pub FlashConsumed : Follower FlashDecoder FlashOpts → List Item → Type 0
 FlashConsumed follower input = FollowedBy flash.StandsFor wire.Spi IsAny follower input
 
+abbrev pub ModbusConsumed : ModbusOpts → Rate → Follower Modbus ModbusLine → List Item → Type 0
+ModbusConsumed options rate follower input =
+    FollowedBy modbus.StandsFor wire.Uart (IsModbus options rate) follower input
+
+abbrev pub MidiConsumed : Follower Midi MidiOpts → List Item → Type 0
+MidiConsumed follower input = FollowedBy midi.StandsFor wire.Uart IsAny follower input
+
 -- a machine with these values at this rate has consumed this input
 abbrev pub ConsumedAs : List (Option ℕ) → Rate → AnyMachine → List Item → Type 0
 ConsumedAs values rate (machine.I2c driver) input = I2cConsumed (i2c_options values) driver input
@@ -129,6 +143,9 @@ ConsumedAs values rate (machine.Lm75 follower) input =
     Lm75Consumed (lm75_options values) follower input
 ConsumedAs values rate (machine.Ds18b20 follower) input = ProbeConsumed follower input
 ConsumedAs values rate (machine.Flash25 follower) input = FlashConsumed follower input
+ConsumedAs values rate (machine.Modbus follower) input =
+    ModbusConsumed (modbus_options values) rate follower input
+ConsumedAs values rate (machine.Midi follower) input = MidiConsumed follower input
 
 -- a decoder of this kind, with these values at this rate, has consumed this input
 abbrev pub Consumed : Kind → List (Option ℕ) → Rate → AnyMachine → List Item → Type 0
@@ -151,6 +168,8 @@ SleepsBy (machine.Ds1307 follower) input more = NoneCount wire.I2c input more
 SleepsBy (machine.Lm75 follower) input more = NoneCount wire.I2c input more
 SleepsBy (machine.Ds18b20 follower) input more = NoneCount wire.OwNet input more
 SleepsBy (machine.Flash25 follower) input more = NoneCount wire.Spi input more
+SleepsBy (machine.Modbus follower) input more = NoneCount wire.Uart input more
+SleepsBy (machine.Midi follower) input more = NoneCount wire.Uart input more
 
 abbrev pub IsAsleep : AnyDecoder → List Item → List Item → Type 0
 IsAsleep decoder input more = SleepsBy decoder.machine input more

@@ -1,6 +1,7 @@
 -- What the values of each kind mean: its options by their names.
 use Rattle.std.specs.Prelude.{ℕ, List, Option}
 use Rattle.dec_i2c.specs.declared.held.I2cOpts.{I2cOpts}
+use Rattle.dec_modbus.specs.declared.held.ModbusOpts.{ModbusOpts}
 use Rattle.dec_onewire.specs.declared.link.options.OwLinkOpts.{OwLinkOpts}
 use Rattle.dec_spi.specs.declared.options.SpiOpts.{SpiOpts}
 use Rattle.dec_uart.specs.declared.options.UartOpts.{UartOpts}
@@ -11,7 +12,7 @@ use Rattle.decoder_set.specs.Kinds.{kind_row}
 use Rattle.decoder_set.specs.Values.{channel_at, maybe_channel_at, number_at}
 use Rattle.decoder_set.specs.declared.kinds.Kind.{Kind}
 use Rattle.decoder_set.specs.declared.kinds.Kind.TheVariants.{Spi, Uart, OwLink, Eeprom24, Ds1307}
-use Rattle.decoder_set.specs.declared.kinds.Kind.TheVariants.{Lm75}
+use Rattle.decoder_set.specs.declared.kinds.Kind.TheVariants.{Lm75, Modbus}
 
 -- the bits of the two lines of an I2C bus
 abbrev pub i2c_options : List (Option ℕ) → I2cOpts
@@ -71,3 +72,7 @@ clock_options values = record { gcall = option_number Ds1307 values 0 }
 abbrev pub lm75_options : List (Option ℕ) → Lm75Opts
 lm75_options values =
     record { addr = option_number Lm75 values 0; gcall = option_number Lm75 values 1 }
+
+-- the silence that parts the messages of a serial line
+abbrev pub modbus_options : List (Option ℕ) → ModbusOpts
+modbus_options values = record { gap = option_number Modbus values 0 }

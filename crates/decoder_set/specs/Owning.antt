@@ -3,6 +3,9 @@ use Rattle.std.specs.Prelude.{ℕ, ◌≡◌, List, Option}
 use Rattle.dec_i2c.specs.Opening as i2c
 use Rattle.dec_i2c.specs.declared.held.I2c.{I2c}
 use Rattle.dec_i2c.specs.declared.held.I2cOpts.{I2cOpts}
+use Rattle.dec_modbus.specs.Opening as modbus
+use Rattle.dec_modbus.specs.declared.held.Modbus.{Modbus}
+use Rattle.dec_modbus.specs.declared.held.ModbusOpts.{ModbusOpts}
 use Rattle.dec_spi.specs.Opening as spi
 use Rattle.dec_spi.specs.declared.held.Spi.{Spi}
 use Rattle.dec_spi.specs.declared.options.SpiOpts.{SpiOpts}
@@ -32,7 +35,7 @@ use Rattle.decoder_set.specs.declared.setup.Setup.{Setup}
 use Rattle.decoder_set.specs.declared.any_machine.AnyMachine.{AnyMachine}
 use Rattle.decoder_set.specs.declared.any_machine.AnyMachine.TheVariants as machine
 use Rattle.decoder_set.specs.Options.{clock_options, eeprom_options, i2c_options, link_options}
-use Rattle.decoder_set.specs.Options.{lm75_options, spi_options, uart_options}
+use Rattle.decoder_set.specs.Options.{lm75_options, modbus_options, spi_options, uart_options}
 
 -- a machine of each kind has these options
 abbrev pub IsI2c : I2cOpts → I2c → Type 0
@@ -59,6 +62,10 @@ IsClock options machine = clock.chip_in machine ≡ clock.chip_by options
 abbrev pub IsLm75 : Lm75Opts → Phased Lm75 Lm75Chip → Type 0
 IsLm75 options machine = lm75.chip_in machine ≡ lm75.chip_by options
 
+abbrev pub IsModbus : ModbusOpts → Rate → Modbus → Type 0
+IsModbus options rate machine =
+    ((modbus.line_of machine).opts ≡ options) × ((modbus.line_of machine).rate ≡ rate)
+
 -- a machine without options has no others
 abbrev pub IsAny : {D : Type 0} → D → Type 0
 IsAny machine = Unit {0}
@@ -75,6 +82,8 @@ kind_in (machine.Ds1307 follower) = kind.Ds1307
 kind_in (machine.Lm75 follower) = kind.Lm75
 kind_in (machine.Ds18b20 follower) = kind.Ds18b20
 kind_in (machine.Flash25 follower) = kind.Flash25
+kind_in (machine.Modbus follower) = kind.Modbus
+kind_in (machine.Midi follower) = kind.Midi
 
 -- a machine has the options that these values give its kind, at this rate
 abbrev pub OwnAs : List (Option ℕ) → Rate → AnyMachine → Type 0
@@ -88,6 +97,9 @@ OwnAs values rate (machine.Ds1307 follower) = IsClock (clock_options values) fol
 OwnAs values rate (machine.Lm75 follower) = IsLm75 (lm75_options values) follower.machine
 OwnAs values rate (machine.Ds18b20 follower) = IsAny follower.machine
 OwnAs values rate (machine.Flash25 follower) = IsAny follower.machine
+OwnAs values rate (machine.Modbus follower) =
+    IsModbus (modbus_options values) rate follower.machine
+OwnAs values rate (machine.Midi follower) = IsAny follower.machine
 
 -- a machine is of the kind that a setup names, with its options and rate
 abbrev pub IsOwn : Setup → AnyMachine → Type 0

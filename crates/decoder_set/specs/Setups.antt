@@ -6,6 +6,10 @@ use Rattle.la_base.specs.declared.wires.Out.{Out}
 use Rattle.decoder_core.specs.Inputs.{Item, counted_samples}
 use Rattle.dec_i2c.specs.Bus.{i2c_outs, i2c_near}
 use Rattle.dec_i2c.specs.Texts as i2c
+use Rattle.dec_midi.specs.Midi.{midi_near, midi_outs}
+use Rattle.dec_midi.specs.Texts as midi
+use Rattle.dec_modbus.specs.Modbus.{gap_of, modbus_near, modbus_outs}
+use Rattle.dec_modbus.specs.Texts as modbus
 use Rattle.dec_spi.specs.Bus.{spi_outs, spi_near}
 use Rattle.dec_spi.specs.Texts as spi
 use Rattle.dec_uart.specs.Frames.{uart_outs, uart_near}
@@ -32,11 +36,11 @@ use Rattle.la_base.specs.declared.wires.Wire.TheVariants as wire
 use Rattle.decoder_set.specs.declared.kinds.Kind.{Kind}
 use Rattle.decoder_set.specs.declared.kinds.Kind.TheVariants.{I2c, Spi, Uart, OwLink, OwNet}
 use Rattle.decoder_set.specs.declared.kinds.Kind.TheVariants.{Eeprom24, Ds1307, Lm75, Ds18b20}
-use Rattle.decoder_set.specs.declared.kinds.Kind.TheVariants.{Flash25}
+use Rattle.decoder_set.specs.declared.kinds.Kind.TheVariants.{Flash25, Modbus, Midi}
 use Rattle.decoder_set.specs.declared.setup.Setup.{Setup}
 use Rattle.decoder_set.specs.Kinds.{Text}
 use Rattle.decoder_set.specs.Options.{clock_options, eeprom_options, i2c_options, link_options}
-use Rattle.decoder_set.specs.Options.{lm75_options, spi_options, uart_options}
+use Rattle.decoder_set.specs.Options.{lm75_options, modbus_options, spi_options, uart_options}
 
 -- what a kind gives with these values at a rate on a whole input
 abbrev pub outs_by : Kind → List (Option ℕ) → Rate → List Item → List Out
@@ -54,6 +58,9 @@ outs_by Lm75 values rate input =
     lm75_outs (lm75.chip_by (lm75_options values)) (counted_packets wire.I2c input)
 outs_by Ds18b20 values rate input = probe_outs (counted_packets wire.OwNet input)
 outs_by Flash25 values rate input = flash_outs (counted_packets wire.Spi input)
+outs_by Modbus values rate input =
+    modbus_outs (gap_of (modbus_options values) rate) (counted_packets wire.Uart input)
+outs_by Midi values rate input = midi_outs (counted_packets wire.Uart input)
 
 -- all outputs of a decoder of this setup on a whole input
 abbrev pub outs_of : Setup → List Item → List Out
@@ -72,6 +79,9 @@ near_by Ds1307 values rate input = phase_near (counted_packets wire.I2c input)
 near_by Lm75 values rate input = phase_near (counted_packets wire.I2c input)
 near_by Ds18b20 values rate input = probe_near (counted_packets wire.OwNet input)
 near_by Flash25 values rate input = flash_near (counted_packets wire.Spi input)
+near_by Modbus values rate input =
+    modbus_near (gap_of (modbus_options values) rate) (counted_packets wire.Uart input)
+near_by Midi values rate input = midi_near (counted_packets wire.Uart input)
 
 -- where what has begun in this input and isn't given yet starts
 abbrev pub near_of : Setup → List Item → ℕ
@@ -89,3 +99,5 @@ note_text Ds1307 note = clock_texts.note_text note.class note.a note.b
 note_text Lm75 note = lm75_texts.note_text note.class note.a
 note_text Ds18b20 note = probe.note_text note.class note.a note.b
 note_text Flash25 note = flash.note_text note.class note.a note.b
+note_text Modbus note = modbus.note_text note.class note.a note.b
+note_text Midi note = midi.note_text note.class note.a

@@ -9,6 +9,10 @@ use Rattle.decoder_core.specs.Driving.{SameState}
 use Rattle.decoder_core.specs.declared.driver.Driver.{Driver}
 use Rattle.dec_i2c.specs.declared.held.Bus.{Bus}
 use Rattle.dec_i2c.specs.declared.held.I2c.{I2c}
+use Rattle.dec_midi.specs.declared.held.Midi.{Midi}
+use Rattle.dec_midi.specs.declared.held.MidiOpts.{MidiOpts}
+use Rattle.dec_modbus.specs.declared.held.Line.{Line as ModbusLine}
+use Rattle.dec_modbus.specs.declared.held.Modbus.{Modbus}
 use Rattle.dec_spi.specs.declared.held.Spi.{Spi}
 use Rattle.dec_spi.specs.declared.options.SpiOpts.{SpiOpts}
 use Rattle.dec_uart.specs.declared.held.Line.{Line}
@@ -101,6 +105,12 @@ SameMachine (machine.Ds18b20 one) held =
     × SameFollower one other
 SameMachine (machine.Flash25 one) held =
     (other : Follower FlashDecoder FlashOpts) × (held ≡ machine.Flash25 other)
+    × SameFollower one other
+SameMachine (machine.Modbus one) held =
+    (other : Follower Modbus ModbusLine) × (held ≡ machine.Modbus other)
+    × SameFollower one other
+SameMachine (machine.Midi one) held =
+    (other : Follower Midi MidiOpts) × (held ≡ machine.Midi other)
     × SameFollower one other
 
 -- two decoders hold the same

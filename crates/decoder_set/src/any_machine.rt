@@ -1,5 +1,7 @@
 // A machine of any kind.
 use dec_i2c::I2c;
+use dec_midi::Midi;
+use dec_modbus::Modbus;
 use dec_onewire::{OwLink, OwNet};
 use dec_spi::Spi;
 use dec_uart::Uart;
@@ -24,4 +26,6 @@ pub enum AnyMachine {
     Lm75(Follower<Phased<Lm75>>),
     Ds18b20(Follower<Probe>),
     Flash25(Follower<Flash>),
+    Modbus(Follower<Modbus>),
+    Midi(Follower<Midi>),
 }

@@ -14,6 +14,8 @@ pub enum Kind {
     Lm75,
     Ds18b20,
     Flash25,
+    Modbus,
+    Midi,
 }
 
 /// What an option takes.

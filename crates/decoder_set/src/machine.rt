@@ -43,6 +43,8 @@ impl Machine for AnyDecoder {
             AnyMachine::Lm75(follower) => follower.step(feed, into),
             AnyMachine::Ds18b20(follower) => follower.step(feed, into),
             AnyMachine::Flash25(follower) => follower.step(feed, into),
+            AnyMachine::Modbus(follower) => follower.step(feed, into),
+            AnyMachine::Midi(follower) => follower.step(feed, into),
         }
     }
 
@@ -59,6 +61,8 @@ impl Machine for AnyDecoder {
             AnyMachine::Lm75(follower) => follower.step_runs(runs, into),
             AnyMachine::Ds18b20(follower) => follower.step_runs(runs, into),
             AnyMachine::Flash25(follower) => follower.step_runs(runs, into),
+            AnyMachine::Modbus(follower) => follower.step_runs(runs, into),
+            AnyMachine::Midi(follower) => follower.step_runs(runs, into),
         }
     }
 
@@ -75,6 +79,8 @@ impl Machine for AnyDecoder {
             AnyMachine::Lm75(follower) => follower.step_run(run, into),
             AnyMachine::Ds18b20(follower) => follower.step_run(run, into),
             AnyMachine::Flash25(follower) => follower.step_run(run, into),
+            AnyMachine::Modbus(follower) => follower.step_run(run, into),
+            AnyMachine::Midi(follower) => follower.step_run(run, into),
         }
     }
 
@@ -90,6 +96,8 @@ impl Machine for AnyDecoder {
             AnyMachine::Lm75(follower) => follower.floor(),
             AnyMachine::Ds18b20(follower) => follower.floor(),
             AnyMachine::Flash25(follower) => follower.floor(),
+            AnyMachine::Modbus(follower) => follower.floor(),
+            AnyMachine::Midi(follower) => follower.floor(),
         }
     }
 

@@ -5,19 +5,23 @@ ghost use Rattle.decoder_core.specs.declared.faults.OptFault.TheVariants.{Rate a
 ghost use Rattle.decoder_set.specs.Faults.{too_slow};
 ghost use Rattle.decoder_set.specs.Opening.{Opens, ClockConsumed, Consumed, EepromConsumed};
 ghost use Rattle.decoder_set.specs.Opening.{FlashConsumed, I2cConsumed, LinkConsumed, Lm75Consumed};
-ghost use Rattle.decoder_set.specs.Opening.{NetConsumed, ProbeConsumed, SpiConsumed, UartConsumed};
+ghost use Rattle.decoder_set.specs.Opening.{MidiConsumed, ModbusConsumed, NetConsumed};
+ghost use Rattle.decoder_set.specs.Opening.{ProbeConsumed, SpiConsumed, UartConsumed};
 ghost use Rattle.decoder_set.specs.Options.{clock_options, eeprom_options, i2c_options};
-ghost use Rattle.decoder_set.specs.Options.{link_options, lm75_options, spi_options, uart_options};
+ghost use Rattle.decoder_set.specs.Options.{link_options, lm75_options, modbus_options};
+ghost use Rattle.decoder_set.specs.Options.{spi_options, uart_options};
 ghost use Rattle.decoder_set.specs.Values.{in_range};
 
 use crate::any_machine::AnyMachine;
 use crate::options::{
-    clock_options, eeprom_options, i2c_options, link_options, lm75_options, spi_options,
-    uart_options,
+    clock_options, eeprom_options, i2c_options, link_options, lm75_options, modbus_options,
+    spi_options, uart_options,
 };
 use crate::values::in_range;
 use crate::{AnyDecoder, Kind, OptValues, Setup};
 use dec_i2c::I2c;
+use dec_midi::{Midi, MidiOpts};
+use dec_modbus::Modbus;
 use dec_onewire::{OwLink, OwNet, OwNetOpts};
 use dec_spi::Spi;
 use dec_uart::Uart;
@@ -158,6 +162,31 @@ fn open_flash(rate: Rate) -> Result<Follower<Flash>, OptFault>
     }
 }
 
+// A decoder of the messages of a serial line with values in range.
+fn open_modbus(values: &OptValues, rate: Rate) -> Result<Follower<Modbus>, OptFault>
+    requires range { in_range MOST_PINS Kind.Modbus values.now.given ≡ true }
+    requires rate { rate.num ≤ 10 ^ 15 }
+    ensures opens { IfOk result
+        (λ follower. ModbusConsumed (modbus_options values.now.given) rate follower []) }
+    ensures always { IsOk result }
+{
+    match Modbus::open(modbus_options(values), rate) {
+        Ok(machine) => Ok(Follower::new(machine)),
+        Err(fault) => Err(fault),
+    }
+}
+
+// A decoder of MIDI.
+fn open_midi(rate: Rate) -> Result<Follower<Midi>, OptFault>
+    ensures opens { IfOk result (λ follower. MidiConsumed follower []) }
+    ensures always { IsOk result }
+{
+    match Midi::open(MidiOpts {}, rate) {
+        Ok(machine) => Ok(Follower::new(machine)),
+        Err(fault) => Err(fault),
+    }
+}
+
 // A machine of a kind, of values in range.
 fn open_machine(kind: Kind, values: &OptValues, rate: Rate) -> Result<AnyMachine, OptFault>
     requires range { in_range MOST_PINS kind values.now.given ≡ true }
@@ -206,6 +235,14 @@ fn open_machine(kind: Kind, values: &OptValues, rate: Rate) -> Result<AnyMachine
         },
         Kind::Flash25 => match open_flash(rate) {
             Ok(follower) => Ok(AnyMachine::Flash25(follower)),
+            Err(fault) => Err(fault),
+        },
+        Kind::Modbus => match open_modbus(values, rate) {
+            Ok(follower) => Ok(AnyMachine::Modbus(follower)),
+            Err(fault) => Err(fault),
+        },
+        Kind::Midi => match open_midi(rate) {
+            Ok(follower) => Ok(AnyMachine::Midi(follower)),
             Err(fault) => Err(fault),
         },
     }

@@ -2,6 +2,7 @@
 ghost use Rattle.std.specs.Prelude.{◌≡◌, true};
 ghost use Rattle.la_base.specs.declared.samples.TheConstants.{MOST_PINS};
 ghost use Rattle.dec_i2c.specs.Opening.{InRange};
+ghost use Rattle.dec_modbus.specs.Opening.{InRange as ModbusInRange};
 ghost use Rattle.dec_spi.specs.Opening.{InRange as SpiInRange};
 ghost use Rattle.dec_uart.specs.Ranges.{InRange as UartInRange};
 ghost use Rattle.dec_onewire.specs.Opening.{LinkInRange};
@@ -9,13 +10,15 @@ ghost use Rattle.dev_ds1307.specs.Opening.{InRange as ClockInRange};
 ghost use Rattle.dev_eeprom24.specs.Opening.{InRange as EepromInRange};
 ghost use Rattle.dev_lm75.specs.Opening.{InRange as Lm75InRange};
 ghost use Rattle.decoder_set.specs.Options.{clock_options, eeprom_options, i2c_options};
-ghost use Rattle.decoder_set.specs.Options.{link_options, lm75_options, spi_options, uart_options};
+ghost use Rattle.decoder_set.specs.Options.{link_options, lm75_options, modbus_options};
+ghost use Rattle.decoder_set.specs.Options.{spi_options, uart_options};
 ghost use Rattle.decoder_set.specs.Values.{in_range};
 
 use crate::Kind;
 use crate::setup::OptValues;
 use crate::table::options_of;
 use dec_i2c::I2cOpts;
+use dec_modbus::ModbusOpts;
 use dec_onewire::OwLinkOpts;
 use dec_spi::SpiOpts;
 use dec_uart::UartOpts;
@@ -123,5 +126,17 @@ pub fn lm75_options(values: &OptValues) -> Lm75Opts
     Lm75Opts {
         addr: values.number(rows, 0),
         gcall: values.number(rows, 1),
+    }
+}
+
+/// The silence that parts the messages of a serial line.
+pub fn modbus_options(values: &OptValues) -> ModbusOpts
+    requires { in_range MOST_PINS Kind.Modbus values.now.given ≡ true }
+    ensures options { result ≡ modbus_options values.now.given }
+    ensures within { ModbusInRange result }
+{
+    let rows = options_of(Kind::Modbus);
+    ModbusOpts {
+        gap: values.number(rows, 0),
     }
 }

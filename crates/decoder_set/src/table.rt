@@ -8,7 +8,7 @@ use crate::kinds::{Asked, Kind, KindRow, OptForm, OptRow};
 use la_base::Wire;
 
 /// The kinds, in the order in which they are told.
-pub const KINDS: [Kind; 10] = [
+pub const KINDS: [Kind; 12] = [
     Kind::I2c,
     Kind::Spi,
     Kind::Uart,
@@ -19,6 +19,8 @@ pub const KINDS: [Kind; 10] = [
     Kind::Lm75,
     Kind::Ds18b20,
     Kind::Flash25,
+    Kind::Modbus,
+    Kind::Midi,
 ];
 
 // I2C, by UM10204.
@@ -312,6 +314,35 @@ const FLASH25: KindRow = KindRow {
     classes: &["read", "program"],
 };
 
+// Modbus RTU, on a serial line, of which it asks data of eight bits.
+const MODBUS: KindRow = KindRow {
+    name: "modbus",
+    input: Wire::Uart,
+    output: Wire::Nothing,
+    options: &[OptRow {
+        name: "gap",
+        form: OptForm::Number {
+            least: 1,
+            most: 1_000_000_000,
+            usual: 4_000_000,
+        },
+    }],
+    groups: &[],
+    parent: &[Asked { row: 2, number: 8 }],
+    classes: &[],
+};
+
+// MIDI 1.0, on a serial line, of which it asks data of eight bits.
+const MIDI: KindRow = KindRow {
+    name: "midi",
+    input: Wire::Uart,
+    output: Wire::Nothing,
+    options: &[],
+    groups: &[],
+    parent: &[Asked { row: 2, number: 8 }],
+    classes: &[],
+};
+
 /// The row of a kind.
 pub fn row(kind: Kind) -> KindRow
     ensures row { row_of result ≡ kind_row kind }
@@ -330,6 +361,8 @@ pub fn row(kind: Kind) -> KindRow
         Kind::Lm75 => LM75,
         Kind::Ds18b20 => DS18B20,
         Kind::Flash25 => FLASH25,
+        Kind::Modbus => MODBUS,
+        Kind::Midi => MIDI,
     }
 }
 

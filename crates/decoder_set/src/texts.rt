@@ -23,5 +23,7 @@ pub fn note_text(kind: Kind, note: Note, buf: &mut LineBuf)
         Kind::Lm75 => dev_lm75::text(note, buf),
         Kind::Ds18b20 => dev_ds18b20::text(note, buf),
         Kind::Flash25 => dev_flash25::text(note, buf),
+        Kind::Modbus => dec_modbus::text(note, buf),
+        Kind::Midi => dec_midi::text(note, buf),
     }
 }

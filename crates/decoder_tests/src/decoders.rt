@@ -67,7 +67,9 @@ onewire_net 4 10 0|
 ds1307 1 86 0|Write seconds: 56
 lm75 3 511 0|Read temperature: -0.5
 ds18b20 3 12 0|Resolution: 12
-flash25 5 170 256|Read 000100: AA";
+flash25 5 170 256|Read 000100: AA
+modbus 3 8 1|Message of 8 bytes, CRC bad
+midi 1 9452608 0|Note on channel 1: 60 64";
 
 #[test]
 fn settings_and_texts(rt: HostRuntime) {
@@ -98,6 +100,8 @@ fn settings_and_texts(rt: HostRuntime) {
                 Kind::Lm75 => dev_lm75::text(note, &mut buf),
                 Kind::Ds18b20 => dev_ds18b20::text(note, &mut buf),
                 Kind::Flash25 => dev_flash25::text(note, &mut buf),
+                Kind::Modbus => dec_modbus::text(note, &mut buf),
+                Kind::Midi => dec_midi::text(note, &mut buf),
             }
             assert!(rt; buf.bytes() == want.as_bytes(), "{row}");
             let mut buf = LineBuf::new();

@@ -16,7 +16,7 @@ const RATE: Rate = Rate {
 };
 
 // Each kind, what it reads and gives, and its options, each with its usual number.
-const KINDS: [(&str, Kind, Wire, Wire, &[(&str, u64)]); 10] = [
+const KINDS: [(&str, Kind, Wire, Wire, &[(&str, u64)]); 12] = [
     (
         "i2c",
         Kind::I2c,
@@ -90,6 +90,14 @@ const KINDS: [(&str, Kind, Wire, Wire, &[(&str, u64)]); 10] = [
     ),
     ("ds18b20", Kind::Ds18b20, Wire::OwNet, Wire::Nothing, &[]),
     ("flash25", Kind::Flash25, Wire::Spi, Wire::Nothing, &[]),
+    (
+        "modbus",
+        Kind::Modbus,
+        Wire::Uart,
+        Wire::Nothing,
+        &[("gap", 4_000_000)],
+    ),
+    ("midi", Kind::Midi, Wire::Uart, Wire::Nothing, &[]),
 ];
 
 #[test]
@@ -99,7 +107,7 @@ fn kinds_have_their_names_wires_and_options(rt: HostRuntime) {
         assert!(rt; kind_name(kind) == name);
         assert!(rt; input_of(kind) == input);
         assert!(rt; output_of(kind) == output);
-        assert!(rt; (asked_of(kind).len() == 0) == (name != "flash25"));
+        assert!(rt; asked_of(kind).is_empty() != ["flash25", "modbus", "midi"].contains(&name));
         assert!(rt; options_of(kind).len() == options.len());
         for (row, (option, usual)) in options_of(kind).iter().zip(options) {
             assert!(rt; row.name == *option && number_of(row.form, None) == *usual);
@@ -127,6 +135,8 @@ fn kinds_have_their_names_wires_and_options(rt: HostRuntime) {
         (Kind::Ds18b20, "scratchpad", Some(0)),
         (Kind::Flash25, "read", Some(0)),
         (Kind::Flash25, "program", Some(1)),
+        (Kind::Modbus, "data", None),
+        (Kind::Midi, "data", None),
     ] {
         assert!(rt; class_of(kind, class.as_bytes()) == want);
     }
@@ -201,7 +211,13 @@ lm75 0 2 > range
 lm75 18446744073709551615 > range
 lm75 0 18446744073709551615 > range
 ds18b20 > ok
-flash25 > ok";
+flash25 > ok
+modbus > ok
+modbus 1 > ok
+modbus 1000000000 > ok
+modbus 0 > range
+modbus 1000000001 > range
+midi > ok";
 
 #[test]
 fn values_are_judged_by_their_rows(rt: HostRuntime) {

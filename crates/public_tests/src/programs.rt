@@ -40,7 +40,10 @@ const HELP: &str = "  --job
   --count
       values: 1 to 1000000; usual: 1000
   flash25
-      binary data: read, program";
+      binary data: read, program
+  modbus
+      gap: 1 to 1000000000; usual: 4000000
+  midi";
 
 // How a line of the help begins that is an example.
 const EXAMPLE: &str = "    ldecode ";

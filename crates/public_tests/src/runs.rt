@@ -120,6 +120,16 @@ pub const DEVICES: &str = "\
 [spi:sck=D0:mosi=D1:miso=D2:cs=D3,flash25] 080000010001000100010001000102030203000100010001000100010001000100010001000100010001000100010001020300010001000100010001000100010001040500010405000104050001040500010001040500010405000104050001040508 > 0 >  > 1-1 spi-1: Select|3-17 spi-1: MOSI 03 MISO 00|3-17 flash25-1: Command: Read data|3-97 flash25-1: Read 2 bytes at 000100|19-33 spi-1: MOSI 00 MISO 00|19-65 flash25-1: Address: 000100|35-49 spi-1: MOSI 01 MISO 00|51-65 spi-1: MOSI 00 MISO 00|67-81 spi-1: MOSI 00 MISO AA|67-81 flash25-1: Read 000100: AA|83-97 spi-1: MOSI 00 MISO 55|83-97 flash25-1: Read 000101: 55|98-98 spi-1: Deselect|
 [i2c:scl=D0:sda=D1,eeprom24 i2c-1,ds1307] 0301020300010203000100010001000100010001000103 > 0 >  > 1-1 i2c-1: Start|3-17 i2c-1: Address write: 50|19-19 i2c-1: ACK|22-22 i2c-1: Stop|";
 
+// Messages and MIDI on a serial line, of a hundred samples a frame and of twenty: a request with its CRC, and with another one,
+// behind each a silence and another byte; notes by running status with a clock between; system exclusive, and a data byte behind
+// it; and a note beside the bytes of its line.
+pub const ON_SERIAL_LINES: &str = "\
+[--show modbus-1 uart:rx=D0:baud=100000,modbus:gap=1000000] 01*10 00*10 01*10 00*70 01*10 00*10 01*20 00*60 01*10 00*90 01*10 00*90 01*10 00*90 01*10 00*20 01*10 00*10 01*10 00*40 01*10 00*10 01*10 00*10 01*10 00*30 01*30 00*10 01*10 00*10 01*20 00*20 01*4230 00*10 01*10 00*70 01*20 > 0 >  > 10-105 modbus-1: Address: 01|10-805 modbus-1: Message of 8 bytes, CRC ok|110-205 modbus-1: Function: Read holding registers|210-305 modbus-1: Byte: 00|310-405 modbus-1: Byte: 00|410-505 modbus-1: Byte: 00|510-605 modbus-1: Byte: 0A|610-705 modbus-1: Byte: C5|710-805 modbus-1: Byte: CD|5010-5105 modbus-1: Address: 01|
+[--show modbus-1 uart:rx=D0:baud=100000,modbus:gap=1000000] 01*10 00*10 01*10 00*70 01*10 00*10 01*20 00*60 01*10 00*90 01*10 00*90 01*10 00*90 01*10 00*20 01*10 00*10 01*10 00*40 01*10 00*10 01*10 00*10 01*10 00*30 01*30 00*30 01*20 00*20 01*4230 00*10 01*10 00*70 01*20 > 0 >  > 10-105 modbus-1: Address: 01|10-805 modbus-1: Message of 8 bytes, CRC bad|110-205 modbus-1: Function: Read holding registers|210-305 modbus-1: Byte: 00|310-405 modbus-1: Byte: 00|410-505 modbus-1: Byte: 00|510-605 modbus-1: Byte: 0A|610-705 modbus-1: Byte: C5|710-805 modbus-1: Byte: CC|5010-5105 modbus-1: Address: 01|
+[--show midi-1 uart:rx=D0:baud=500000,midi] 01*2 00*10 01*2 00*4 01*4 00*6 01*8 00*4 01*2 00*14 01*2 00*2 01*2 00*8 01*12 00*4 01*10 00*4 01*2 00*14 01*2 00*2 01*4 > 0 >  > 2-61 midi-1: Note on channel 1: 60 64|62-81 midi-1: Realtime: clock|82-121 midi-1: Note on channel 1: 62 64|
+[--show midi-1 uart:rx=D0:baud=500000,midi] 01*2 00*10 01*10 00*4 01*12 00*2 01*2 00*2 01*14 00*2 01*2 00*2 01*6 00*2 01*10 00*2 01*2 00*2 01*2 00*10 01*4 > 0 >  > 2-81 midi-1: System exclusive: 2 bytes|82-101 midi-1: Stray: 05|
+[uart:rx=D0:baud=500000:bits=8,midi] 01*2 00*10 01*2 00*4 01*4 00*6 01*8 00*4 01*2 00*14 01*2 00*2 01*4 > 0 >  > 2-21 uart-1: 90|2-61 midi-1: Note on channel 1: 60 64|22-41 uart-1: 3C|42-61 uart-1: 40|";
+
 // SPI and serial lines, at rates up to the bounds of what their options ask for.
 pub const LINES: &str = "\
 [uart:rx=D0]  > 0 >  > 
@@ -158,6 +168,7 @@ pub const REFUSALS: &str = "\
 [i2c:scl=D0:sda=D1,spi:sck=D0:mosi=D1] 00 > 1 > ldecode: stack word 0 at 18: Mismatch| > 
 [uart:rx=D0,eeprom24] 00 > 1 > ldecode: stack word 0 at 11: Mismatch| > 
 [spi:sck=D0:miso=D1:bits=16,flash25] 00 > 1 > ldecode: stack word 0 at 27: Mismatch| > 
+[uart:rx=D0:bits=7,midi] 00 > 1 > ldecode: stack word 0 at 18: Mismatch| > 
 [uart:rx=D0:parity=mark] 00 > 1 > ldecode: stack word 0 at 11: Value| > 
 [uart:rx=D0:bits=10] 00 > 1 > ldecode: stack word 0 at 11: Range| > 
 [--rate 1000 uart:rx=D0] 00 > 1 > ldecode: entry 0 item 0: Rate| > 

@@ -65,6 +65,15 @@ pub const FAULTS: &str = "\
 [flash25] 0 0 NoParent
 [spi:sck=D0:miso=D1:bits=16,flash25] 0 27 Mismatch
 [spi:sck=D0:miso=D1:bits=7,flash25] 0 26 Mismatch
+[uart:rx=D0:bits=7,midi] 0 18 Mismatch
+[uart:rx=D0:bits=9,modbus] 0 18 Mismatch
+[spi:sck=D0:miso=D1,midi] 0 19 Mismatch
+[uart:rx=D0,midi,midi] 0 16 Mismatch
+[midi] 0 0 NoParent
+[modbus:gap=1] 0 0 NoParent
+[uart:rx=D0,modbus:gap=0] 0 18 Range
+[uart:rx=D0,modbus:gap=1000000001] 0 18 Range
+[uart:rx=D0,midi:gap=1] 0 16 Unknown
 [uart:rx=D0,lm75] 0 11 Mismatch
 [onewire_link:dq=D0,ds18b20] 0 19 Mismatch
 [i2c:scl=D0:sda=D1,ds1307:gcall=2] 0 25 Range

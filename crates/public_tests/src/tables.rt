@@ -4,7 +4,7 @@ use std::test::Fail;
 use words::{Name, OPTIONS, Takes, clap_reads_the_uses, options_are_whole};
 
 // The tables, each with the number of what its rows are about.
-const TABLES: [(u32, &str); 21] = [
+const TABLES: [(u32, &str); 22] = [
     (0, command_words::FAULTS),
     (0, command_words::VALUES),
     (0, command_words::TEXTS),
@@ -20,6 +20,7 @@ const TABLES: [(u32, &str); 21] = [
     (4, runs::ONE_WIRE),
     (4, runs::BINARY),
     (4, runs::DEVICES),
+    (4, runs::ON_SERIAL_LINES),
     (5, runs::REFUSALS),
     (6, dumps::SAMPLES),
     (6, dumps::FAULTS),

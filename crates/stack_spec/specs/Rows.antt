@@ -42,6 +42,10 @@ pub no_second_instance_on_the_first : stack_of
     (word 0 (codes "i2c:scl=D0:sda=D1,i2c:x") ∷ []) None None ≡ fault 0 18 why.Mismatch
 no_second_instance_on_the_first = refl
 
+pub no_bytes_on_a_line_of_seven_bits : stack_of
+    (word 0 (codes "uart:rx=D0:bits=7,midi") ∷ []) None None ≡ fault 0 18 why.Mismatch
+no_bytes_on_a_line_of_seven_bits = refl
+
 pub an_empty_instance : stack_of (word 0 (codes "i2c:scl=D0:sda=D1,") ∷ []) None None
     ≡ fault 0 18 why.Unknown
 an_empty_instance = refl

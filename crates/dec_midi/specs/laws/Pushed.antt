@@ -165,7 +165,7 @@ status_is Twos before bytes p = by true bytes
     by false (one ∷ two ∷ bytes) = by false bytes
 status_is Any before bytes p = refl
 
-status_all : (part : Option (List Packet)) (p : Packet)
+pub status_all : (part : Option (List Packet)) (p : Packet)
     → status_outs part p ≡ status_gives (held_in part) p
 status_all None p = refl
 status_all (Some []) p = refl
@@ -208,7 +208,7 @@ module _ (p : Packet) (inner : is_status p ≡ false) where
         yes_no : true ≡ false → ⊥
         yes_no e = absurd cc
 
-    inside_goes : (inside_outs status others p ≡ sort_gives sort (held (data_in others)) p)
+    pub inside_goes : (inside_outs status others p ≡ sort_gives sort (held (data_in others)) p)
         × (held (data_in (others ++ p ∷ [])) ≡ sort_next sort (held (data_in others)) p)
     inside_goes =
         let both = inside_is sort inner in (both.0, ap held data_more ∙ both.1)
@@ -269,7 +269,7 @@ module _ (p : Packet) (inner : is_status p ≡ false) where
       by false rest = rest
 
   -- before any status
-  outside_is : (s : Sort) → is_status_sort s ≡ false
+  pub outside_is : (s : Sort) → is_status_sort s ≡ false
       → (outside_by s p ≡ sort_gives s Stray p) × (Stray ≡ sort_next s Stray p)
   outside_is Data is = (refl, refl)
   outside_is RealTime is = (refl, refl)
@@ -319,18 +319,18 @@ module _ (p : Packet) (inner : is_status p ≡ false) where
       )
 
 -- one more byte
-abbrev kept_in : List Packet → Held
+abbrev pub kept_in : List Packet → Held
 kept_in bytes = held_in (last_of (parts is_status bytes))
 
 module _ (p : Packet) (bytes : List Packet) where
-  abbrev ByteGoes : Type 0
+  abbrev pub ByteGoes : Type 0
   ByteGoes =
       (bytes_outs (bytes ++ p ∷ [])
       ≡ bytes_outs bytes ++ sort_gives (sort_of p.a) (kept_in bytes) p)
       × (kept_in (bytes ++ p ∷ []) ≡ sort_next (sort_of p.a) (kept_in bytes) p)
 
   -- a status begins a part
-  status_goes : sort_of p.a ≡ Status → ByteGoes
+  pub status_goes : sort_of p.a ≡ Status → ByteGoes
   status_goes is =
       let mark : is_status p ≡ true = ap is_status_sort is in
       let list = parts is_status bytes in
@@ -350,7 +350,7 @@ module _ (p : Packet) (bytes : List Packet) where
       )
 
   -- any other one joins the last, or those before any status
-  inner_goes : is_status p ≡ false → ByteGoes
+  pub inner_goes : is_status p ≡ false → ByteGoes
   inner_goes is =
       let more = inner_more p is (before_mark is_status bytes) (parts is_status bytes)
       (filled p is bytes) in (

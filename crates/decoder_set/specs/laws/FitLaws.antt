@@ -8,6 +8,7 @@ use Rattle.std.proofs.lemmas.Bool.Decides.{nat_tests}
 use Rattle.la_base.specs.declared.samples.Rate.{Rate}
 use Rattle.decoder_core.specs.declared.faults.OptFault.TheVariants.{Range}
 use Rattle.decoder_core.specs.declared.faults.OptFault.TheVariants as fault
+use Rattle.dec_modbus.specs.Opening as modbus
 use Rattle.dec_onewire.specs.Opening as onewire
 use Rattle.dec_spi.specs.Opening as spi
 use Rattle.dec_uart.specs.Ranges as uart
@@ -16,12 +17,12 @@ use Rattle.dev_eeprom24.specs.Opening as eeprom
 use Rattle.dev_lm75.specs.Opening as lm75
 use Rattle.decoder_set.specs.declared.kinds.Kind.{Kind}
 use Rattle.decoder_set.specs.declared.kinds.Kind.TheVariants.{Spi, Uart, OwLink, Eeprom24, Ds1307}
-use Rattle.decoder_set.specs.declared.kinds.Kind.TheVariants.{Lm75}
+use Rattle.decoder_set.specs.declared.kinds.Kind.TheVariants.{Lm75, Modbus}
 use Rattle.decoder_set.specs.Kinds.{Pin, Number, Choice, eeprom_pages, eeprom_sizes, kind_row}
 use Rattle.decoder_set.specs.Kinds.{parities, spi_modes}
 use Rattle.decoder_set.specs.Faults.{open_fault, too_slow}
 use Rattle.decoder_set.specs.Options.{clock_options, eeprom_options, link_options, lm75_options}
-use Rattle.decoder_set.specs.Options.{spi_options, uart_options}
+use Rattle.decoder_set.specs.Options.{modbus_options, spi_options, uart_options}
 use Rattle.decoder_set.specs.Values.{given_at, in_range, maybe_channel_at}
 use Rattle.decoder_set.specs.laws.RangeLaws.{channel_within, maybe_channel_within}
 use Rattle.decoder_set.specs.laws.RangeLaws.{number_within, range_parts}
@@ -129,6 +130,11 @@ lm75_in_range bits values all =
       gcall = (number_within bits row values 1
           (record { name = codes "gcall"; form = Number 0 1 0 }) all refl refl).1;
     }
+
+pub modbus_in_range : (bits : ℕ) (values : List (Option ℕ)) → in_range bits Modbus values ≡ true
+    → modbus.InRange (modbus_options values)
+modbus_in_range bits values all = number_within bits (kind_row Modbus) values 0
+    (record { name = codes "gap"; form = Number 1 1000000000 4000000 }) all refl refl
 
 pub link_in_range : (bits : ℕ) (values : List (Option ℕ)) → 0 < bits
     → in_range bits OwLink values ≡ true → onewire.LinkInRange bits (link_options values)

@@ -10,6 +10,12 @@ use Rattle.decoder_core.specs.Promises.{GivesNothing, KeepsFront, PacketsInOrder
 use Rattle.dec_i2c.specs.Bus.{i2c_outs}
 use Rattle.dec_i2c.specs.laws.WireLaws.{i2c_on_wire}
 use Rattle.dec_i2c.specs.laws.I2cLaws.{i2c_nothing, i2c_prefix, i2c_order, i2c_few}
+use Rattle.dec_midi.specs.Midi.{midi_outs}
+use Rattle.dec_midi.specs.laws.MidiLaws.{midi_nothing, midi_prefix, midi_order, midi_few}
+use Rattle.dec_midi.specs.laws.MidiLaws.{midi_on_wire}
+use Rattle.dec_modbus.specs.Modbus.{gap_of, modbus_outs}
+use Rattle.dec_modbus.specs.laws.ModbusLaws.{modbus_nothing, modbus_prefix, modbus_order}
+use Rattle.dec_modbus.specs.laws.ModbusLaws.{modbus_few, modbus_on_wire}
 use Rattle.dec_spi.specs.Bus.{spi_outs}
 use Rattle.dec_spi.specs.laws.SpiLaws.{spi_nothing, spi_prefix, spi_order, spi_few, spi_on_wire}
 use Rattle.dec_uart.specs.Frames.{uart_outs}
@@ -43,10 +49,10 @@ use Rattle.decoder_set.specs.Kinds.{kind_row}
 use Rattle.decoder_set.specs.declared.kinds.Kind.{Kind}
 use Rattle.decoder_set.specs.declared.kinds.Kind.TheVariants.{I2c, Spi, Uart, OwLink, OwNet}
 use Rattle.decoder_set.specs.declared.kinds.Kind.TheVariants.{Eeprom24, Ds1307, Lm75, Ds18b20}
-use Rattle.decoder_set.specs.declared.kinds.Kind.TheVariants.{Flash25}
+use Rattle.decoder_set.specs.declared.kinds.Kind.TheVariants.{Flash25, Modbus, Midi}
 use Rattle.decoder_set.specs.Faults.{IsOpened, open_fault}
 use Rattle.decoder_set.specs.Options.{clock_options, eeprom_options, i2c_options, link_options}
-use Rattle.decoder_set.specs.Options.{lm75_options, spi_options, uart_options}
+use Rattle.decoder_set.specs.Options.{lm75_options, modbus_options, spi_options, uart_options}
 use Rattle.decoder_set.specs.Setups.{outs_by, outs_of}
 use Rattle.decoder_set.specs.declared.setup.Setup.{Setup}
 use Rattle.decoder_set.specs.laws.FitLaws.{spi_fits, uart_fits}
@@ -81,6 +87,10 @@ module _ (most : ℕ) (some : 0 < most) (values : List (Option ℕ)) (rate : Rat
       nothing_followed wire.I2c (lm75_outs o) (lm75_nothing o)
   nothing_by Ds18b20 good = nothing_followed wire.OwNet probe_outs probe_nothing
   nothing_by Flash25 good = nothing_followed wire.Spi flash_outs flash_nothing
+  nothing_by Modbus good =
+      let gap = gap_of (modbus_options values) rate in
+      nothing_followed wire.Uart (modbus_outs gap) (modbus_nothing gap)
+  nothing_by Midi good = nothing_followed wire.Uart midi_outs midi_nothing
 
   pub prefix_by : (kind : Kind) → open_fault most kind values rate ≡ None
       → KeepsFront (outs_by kind values rate)
@@ -110,6 +120,10 @@ module _ (most : ℕ) (some : 0 < most) (values : List (Option ℕ)) (rate : Rat
       front_followed wire.I2c (lm75_outs o) (lm75_prefix o)
   prefix_by Ds18b20 good = front_followed wire.OwNet probe_outs probe_prefix
   prefix_by Flash25 good = front_followed wire.Spi flash_outs flash_prefix
+  prefix_by Modbus good =
+      let gap = gap_of (modbus_options values) rate in
+      front_followed wire.Uart (modbus_outs gap) (modbus_prefix gap)
+  prefix_by Midi good = front_followed wire.Uart midi_outs midi_prefix
 
   pub order_by : (kind : Kind) → open_fault most kind values rate ≡ None
       → PacketsInOrder (outs_by kind values rate)
@@ -139,6 +153,10 @@ module _ (most : ℕ) (some : 0 < most) (values : List (Option ℕ)) (rate : Rat
       order_followed wire.I2c (lm75_outs o) (lm75_order o) input
   order_by Ds18b20 good input = order_followed wire.OwNet probe_outs probe_order input
   order_by Flash25 good input = order_followed wire.Spi flash_outs flash_order input
+  order_by Modbus good input =
+      let gap = gap_of (modbus_options values) rate in
+      order_followed wire.Uart (modbus_outs gap) (modbus_order gap) input
+  order_by Midi good input = order_followed wire.Uart midi_outs midi_order input
 
   pub few_by : (kind : Kind) → open_fault most kind values rate ≡ None
       → AddsFew (outs_by kind values rate)
@@ -168,6 +186,10 @@ module _ (most : ℕ) (some : 0 < most) (values : List (Option ℕ)) (rate : Rat
       few_followed wire.I2c (lm75_outs o) (lm75_few o)
   few_by Ds18b20 good = few_followed wire.OwNet probe_outs probe_few
   few_by Flash25 good = few_followed wire.Spi flash_outs flash_few
+  few_by Modbus good =
+      let gap = gap_of (modbus_options values) rate in
+      few_followed wire.Uart (modbus_outs gap) (modbus_few gap)
+  few_by Midi good = few_followed wire.Uart midi_outs midi_few
 
   pub on_wire_by : (kind : Kind) → open_fault most kind values rate ≡ None
       → GivesOn (kind_row kind).output (outs_by kind values rate)
@@ -193,6 +215,10 @@ module _ (most : ℕ) (some : 0 < most) (values : List (Option ℕ)) (rate : Rat
   on_wire_by Ds18b20 good input =
       wire_followed wire.OwNet probe_outs wire.Nothing probe_on_wire input
   on_wire_by Flash25 good input = wire_followed wire.Spi flash_outs wire.Nothing flash_on_wire input
+  on_wire_by Modbus good input =
+      let gap = gap_of (modbus_options values) rate in
+      wire_followed wire.Uart (modbus_outs gap) wire.Nothing (modbus_on_wire gap) input
+  on_wire_by Midi good input = wire_followed wire.Uart midi_outs wire.Nothing midi_on_wire input
 
 some_pins : 0 < MOST_PINS
 some_pins = omega arith

@@ -16,3 +16,5 @@ own_prop setup (machine.Ds1307 x) = hlevel props
 own_prop setup (machine.Lm75 x) = hlevel props
 own_prop setup (machine.Ds18b20 x) = hlevel props
 own_prop setup (machine.Flash25 x) = hlevel props
+own_prop setup (machine.Modbus x) = hlevel props
+own_prop setup (machine.Midi x) = hlevel props

@@ -9,11 +9,14 @@ use Rattle.dev_eeprom24.specs.Opening as eeprom
 use Rattle.dev_flash25.specs.Flash.{flash_outs}
 use Rattle.dev_flash25.specs.Opening as flash
 use Rattle.dev_lm75.specs.Opening as lm75
+use Rattle.dec_midi.specs.Midi.{midi_outs}
+use Rattle.dec_midi.specs.Opening as midi
+use Rattle.dec_modbus.specs.Opening as modbus
 use Rattle.dec_onewire.specs.Opening as onewire
 use Rattle.decoder_set.specs.declared.any_machine.AnyMachine.TheVariants as machine
-use Rattle.decoder_set.specs.Owning.{IsAny, IsClock, IsEeprom, IsLm75}
-use Rattle.decoder_set.specs.Options.{clock_options, eeprom_options, lm75_options}
-use Rattle.decoder_set.proofs.KindLemmas.{clock_gives, clock_outs_are, eeprom_gives, eeprom_outs_are, flash_outs_are, lm75_gives, lm75_outs_are, net_outs_are, probe_outs_are}
+use Rattle.decoder_set.specs.Owning.{IsAny, IsClock, IsEeprom, IsLm75, IsModbus}
+use Rattle.decoder_set.specs.Options.{clock_options, eeprom_options, lm75_options, modbus_options}
+use Rattle.decoder_set.proofs.KindLemmas.{clock_gives, clock_outs_are, eeprom_gives, eeprom_outs_are, flash_outs_are, lm75_gives, lm75_outs_are, midi_outs_are, modbus_gives, modbus_outs_are, net_outs_are, probe_outs_are}
 use Rattle.decoder_set.proofs.Following.{floor_followed}
 use Rattle.decoder_set.proofs.machine.AnyDecoderMachine.floor.Goals as goal
 
@@ -58,3 +61,17 @@ returns-in-Flash25-clause-floor c =
     let f = c.in-Flash25.follower in
     let e = c.floor-in-Flash25 in
     floor_followed s machine.Flash25 flash.StandsFor wire.Spi IsAny (λ follower input has. has) c.args.self.now.machine f (search rules) (λ input. flash_outs (counted_packets wire.Spi input)) (λ is own. flash_outs_are s is) e.result e.ensures.floor
+
+pub returns-in-Modbus-clause-floor : goal.returns-in-Modbus-clause-floor
+returns-in-Modbus-clause-floor c =
+    let s = c.args.self.now.setup in
+    let f = c.in-Modbus.follower in
+    let e = c.floor-in-Modbus in
+    floor_followed s machine.Modbus modbus.StandsFor wire.Uart (IsModbus (modbus_options s.values.given) s.rate) (λ follower input has. has) c.args.self.now.machine f (search rules) (modbus_gives (modbus.line_of f.machine)) (modbus_outs_are s f.machine) e.result e.ensures.floor
+
+pub returns-in-Midi-clause-floor : goal.returns-in-Midi-clause-floor
+returns-in-Midi-clause-floor c =
+    let s = c.args.self.now.setup in
+    let f = c.in-Midi.follower in
+    let e = c.floor-in-Midi in
+    floor_followed s machine.Midi midi.StandsFor wire.Uart IsAny (λ follower input has. has) c.args.self.now.machine f (search rules) (λ input. midi_outs (counted_packets wire.Uart input)) (λ is own. midi_outs_are s is) e.result e.ensures.floor

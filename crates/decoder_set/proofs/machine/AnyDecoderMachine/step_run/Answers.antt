@@ -17,6 +17,9 @@ use Rattle.dev_lm75.specs.declared.chip.Chip.{Chip as Lm75Chip}
 use Rattle.dec_i2c.specs.Opening as i2c
 use Rattle.dec_i2c.specs.Bus.{i2c_outs}
 use Rattle.dec_i2c.specs.declared.held.Bus.{Bus}
+use Rattle.dec_midi.specs.Midi.{midi_outs}
+use Rattle.dec_midi.specs.Opening as midi
+use Rattle.dec_modbus.specs.Opening as modbus
 use Rattle.dec_onewire.specs.Link.{link_outs}
 use Rattle.dec_onewire.specs.Opening as onewire
 use Rattle.dec_onewire.specs.declared.link.held.Line.{Line as DqLine}
@@ -28,11 +31,11 @@ use Rattle.dec_uart.specs.Frames.{uart_outs}
 use Rattle.dec_uart.specs.declared.held.Line.{Line}
 use Rattle.decoder_set.specs.declared.any_machine.AnyMachine.TheVariants as machine
 use Rattle.decoder_set.specs.Opening.{i2c_alts_of}
-use Rattle.decoder_set.specs.Owning.{IsAny, IsClock, IsEeprom, IsI2c, IsLink, IsLm75, IsSpi, IsUart}
-use Rattle.decoder_set.specs.Options.{clock_options, eeprom_options, i2c_options, link_options, lm75_options, spi_options, uart_options}
-use Rattle.decoder_set.proofs.Owned.{link_owned, owned, uart_owned}
+use Rattle.decoder_set.specs.Owning.{IsAny, IsClock, IsEeprom, IsI2c, IsLink, IsLm75, IsModbus, IsSpi, IsUart}
+use Rattle.decoder_set.specs.Options.{clock_options, eeprom_options, i2c_options, link_options, lm75_options, modbus_options, spi_options, uart_options}
+use Rattle.decoder_set.proofs.Owned.{link_owned, modbus_owned, owned, uart_owned}
 use Rattle.decoder_set.proofs.Handing.{steps_by, reaches_by}
-use Rattle.decoder_set.proofs.KindLemmas.{clock_gives, clock_outs_are, eeprom_gives, eeprom_outs_are, flash_outs_are, i2c_outs_are, link_outs_are, lm75_gives, lm75_outs_are, net_outs_are, probe_outs_are, spi_outs_are, uart_outs_are}
+use Rattle.decoder_set.proofs.KindLemmas.{clock_gives, clock_outs_are, eeprom_gives, eeprom_outs_are, flash_outs_are, i2c_outs_are, link_outs_are, lm75_gives, lm75_outs_are, midi_outs_are, modbus_gives, modbus_outs_are, net_outs_are, probe_outs_are, spi_outs_are, uart_outs_are}
 use Rattle.decoder_set.proofs.Following.{steps_followed}
 use Rattle.decoder_set.proofs.machine.AnyDecoderMachine.step_run.Goals as goal
 
@@ -140,6 +143,22 @@ returns-in-Flash25-clause-step c =
     steps_followed s machine.Flash25 flash.StandsFor wire.Spi IsAny (λ follower input has. has) c.args.self.now.machine f (search rules) (λ input. flash_outs (counted_packets wire.Spi input)) (λ is own. flash_outs_are s is) e.new.self (RunFeed c.args.run) (left_feed e.result) e.new._into
     (λ input is own follows. (is, record { own = own; follows = follows })) e.ensures.step
 
+pub returns-in-Modbus-clause-step : goal.returns-in-Modbus-clause-step
+returns-in-Modbus-clause-step c =
+    let s = c.args.self.now.setup in
+    let f = c.in-Modbus.follower in
+    let e = c.step_run-in-Modbus in
+    steps_followed s machine.Modbus modbus.StandsFor wire.Uart (IsModbus (modbus_options s.values.given) s.rate) (λ follower input has. has) c.args.self.now.machine f (search rules) (modbus_gives (modbus.line_of f.machine)) (modbus_outs_are s f.machine) e.new.self (RunFeed c.args.run) (left_feed e.result) e.new._into
+    (λ input is own follows. (is, record { own = modbus_owned (modbus_options s.values.given) s.rate f.machine e.new.self.machine e.ensures.setup own; follows = follows })) e.ensures.step
+
+pub returns-in-Midi-clause-step : goal.returns-in-Midi-clause-step
+returns-in-Midi-clause-step c =
+    let s = c.args.self.now.setup in
+    let f = c.in-Midi.follower in
+    let e = c.step_run-in-Midi in
+    steps_followed s machine.Midi midi.StandsFor wire.Uart IsAny (λ follower input has. has) c.args.self.now.machine f (search rules) (λ input. midi_outs (counted_packets wire.Uart input)) (λ is own. midi_outs_are s is) e.new.self (RunFeed c.args.run) (left_feed e.result) e.new._into
+    (λ input is own follows. (is, record { own = own; follows = follows })) e.ensures.step
+
 -- the machine is of its kind, and has its options, as before
 pub invariant_of-self-in-Spi : goal.invariant_of-self-in-Spi
 invariant_of-self-in-Spi c = record {
@@ -213,6 +232,24 @@ pub invariant_of-self-in-Flash25 : goal.invariant_of-self-in-Flash25
 invariant_of-self-in-Flash25 c = record {
   own = owned c.args.self.now (machine.Flash25 c.in-Flash25.follower)
       (machine.Flash25 c.step_run-in-Flash25.new.self) (search rules) refl
+      (λ own. tt);
+  opened = c.args.self.now.opened;
+}
+
+pub invariant_of-self-in-Modbus : goal.invariant_of-self-in-Modbus
+invariant_of-self-in-Modbus c = record {
+  own = owned c.args.self.now (machine.Modbus c.in-Modbus.follower)
+      (machine.Modbus c.step_run-in-Modbus.new.self) (search rules) refl
+      (λ own. modbus_owned (modbus_options c.args.self.now.setup.values.given)
+      c.args.self.now.setup.rate c.in-Modbus.follower.machine
+      c.step_run-in-Modbus.new.self.machine c.step_run-in-Modbus.ensures.setup own);
+  opened = c.args.self.now.opened;
+}
+
+pub invariant_of-self-in-Midi : goal.invariant_of-self-in-Midi
+invariant_of-self-in-Midi c = record {
+  own = owned c.args.self.now (machine.Midi c.in-Midi.follower)
+      (machine.Midi c.step_run-in-Midi.new.self) (search rules) refl
       (λ own. tt);
   opened = c.args.self.now.opened;
 }
