@@ -1,1 +1,5 @@
 mod Rounds
+mod MessageRounds
+mod MidiRounds
+mod LinkLemmas
+mod NetRounds

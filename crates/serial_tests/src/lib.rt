@@ -5,6 +5,10 @@
 #[cfg(test)]
 mod feeding;
 #[cfg(test)]
+mod made;
+#[cfg(test)]
 mod midi;
 #[cfg(test)]
 mod modbus;
+#[cfg(test)]
+mod traffic;
