@@ -6,7 +6,8 @@ use Rattle.std.proofs.lemmas.Option.{none-some, same_Some}
 use Rattle.std.proofs.lemmas.List.{length-set}
 use Rattle.note_order.specs.declared.entry.Entry.{Entry}
 use Rattle.annot_merge.specs.Bounds.{Allows}
-use Rattle.annot_merge.specs.Limits.{IsBelow, IsLimit}
+use Rattle.annot_merge.specs.Limits.{IsBefore, IsBelow, IsLimit, IsNone, Leads, NoOther}
+use Rattle.annot_merge.specs.declared.limit.Lead.{Lead}
 use Rattle.annot_merge.specs.declared.limit.Limit.{Limit}
 
 -- an element of a list with one more at its end
@@ -44,7 +45,7 @@ get_set_here (x ∷ xs) zero v within = refl
 get_set_here (x ∷ xs) (suc i) v within = get_set_here xs i v (omega (arith, within))
 
 -- what is at a limit or behind it is so for a lower one
-below_lower : (limit lower : Limit) (bound : Option ℕ) (j : ℕ) → lower.start ≤ limit.start → (lower.start ≡ limit.start → lower.instance < limit.instance) → IsBelow limit bound j → IsBelow lower bound j
+pub below_lower : (limit lower : Limit) (bound : Option ℕ) (j : ℕ) → lower.start ≤ limit.start → (lower.start ≡ limit.start → lower.instance < limit.instance) → IsBelow limit bound j → IsBelow lower bound j
 below_lower limit lower None j start instance below = tt
 below_lower limit lower (Some floor) j start instance below = (omega (arith, start, below.0), λ at. let b = below.1 in let i = instance in omega (arith, at, start, below.0, b, i))
 
@@ -153,4 +154,86 @@ past_is limit before now bound at is was from behind here = record { within = by
             let above = behind j floor inside low got in
             (omega (arith, above), λ e. absurd (omega (arith, e, above)))
       ]
+    ]
+
+-- no other stands before a limit
+
+-- the bound that changed
+pub now_here : (before now : List (Option ℕ)) (i : ℕ) (bound : Option ℕ) → now ≡ set before i bound → i < length now → slice_get now i ≡ Some bound
+now_here before now i bound is within = ap (λ l. slice_get l i) is ∙ get_set_here before i bound (long (subst (λ l. i < length l) is within))
+  where
+    long : i < length (set before i bound) → i < length before
+    long w = omega (arith, w, length-set before i bound)
+
+-- and the others
+was_there : (before now : List (Option ℕ)) (i : ℕ) (bound : Option ℕ) → now ≡ set before i bound → (j : ℕ) (one : Option ℕ) → j ≢ i → slice_get now j ≡ Some one → slice_get before j ≡ Some one
+was_there before now i bound is j one differ at = sym (get_set_other before i bound j differ) ∙ (ap (λ l. slice_get l j) (sym is) ∙ at)
+
+-- behind the least of all, the next instance
+pub others_behind : (bounds : List (Option ℕ)) (limit : Limit) (next : ℕ) → next ≤ limit.instance + 1 → IsLimit bounds limit → NoOther bounds limit.instance (record { start = limit.start; instance = next })
+others_behind bounds limit next few is other None differ at = tt
+others_behind bounds limit next few is other (Some floor) differ at =
+    let below = is.within other (Some floor) at in
+    let b = below.1 in
+    (below.0, λ same. omega (arith, few, differ, b, same))
+
+pub others_by : (before now : List (Option ℕ)) (i : ℕ) (bound : Option ℕ) (limit : Limit) → now ≡ set before i bound → IsLimit before limit → NoOther now i limit
+others_by before now i bound limit is was other one differ at = was.within other one (was_there before now i bound is other one differ at)
+
+-- one more bound, or one that changes
+pub others_push : (bounds : List (Option ℕ)) (bound : Option ℕ) (but : ℕ) (limit moved : Limit) → ((j : ℕ) (one : Option ℕ) → IsBelow limit one j → IsBelow moved one j) → (length bounds ≢ but → IsBelow moved bound (length bounds))
+    → NoOther bounds but limit → NoOther (bounds ++ bound ∷ []) but moved
+others_push bounds bound but limit moved still here was other one differ at = elim (get_push_cases bounds bound other one at) [
+  | inl before ↦ still other one (was other one differ before)
+  | inr last ↦ subst (λ b. IsBelow moved b other) last.1 (subst (λ (k : ℕ). IsBelow moved bound k) (sym last.0) (here (λ same. differ (last.0 ∙ same))))
+]
+
+pub others_set : (before now : List (Option ℕ)) (i : ℕ) (bound : Option ℕ) (but : ℕ) (limit moved : Limit) → now ≡ set before i bound → i < length now → ((j : ℕ) (one : Option ℕ) → IsBelow limit one j → IsBelow moved one j) → IsBelow moved bound i
+    → NoOther before but limit → NoOther now but moved
+others_set before now i bound but limit moved is within still here was other one differ at = elim (cases_eq other i) [
+  | inl same ↦ subst (λ b. IsBelow moved b other) (same_Some bound one (sym (now_here before now i bound is within) ∙ (ap (slice_get now) (sym same) ∙ at))) (subst (λ (k : ℕ). IsBelow moved bound k) (sym same) here)
+  | inr d ↦ still other one (was other one differ (was_there before now i bound is other one d at))
+]
+
+-- the first one's bound changes, and stays before the others
+pub leads_on : (before now : List (Option ℕ)) (start : ℕ) (lead : Lead) → now ≡ set before lead.least.instance (Some start) → lead.least.instance < length now → IsBefore start lead.least.instance lead.others → Leads before lead
+    → Leads now (record { least = record { start = start; instance = lead.least.instance }; others = lead.others })
+leads_on before now start lead is within first was = record {
+  least_is = record { within = by; reached = inl here };
+  others_are = others;
+}
+  where
+    i : ℕ
+    i = lead.least.instance
+
+    here : slice_get now i ≡ Some (Some start)
+    here = now_here before now i (Some start) is within
+
+    others : NoOther now i lead.others
+    others j one differ at = was.others_are j one differ (was_there before now i (Some start) is j one differ at)
+
+    by : (j : ℕ) (one : Option ℕ) → slice_get now j ≡ Some one → IsBelow (record { start = start; instance = i }) one j
+    by j None at = tt
+    by j (Some floor) at = elim (cases_eq j i) [
+      | inl same ↦
+          let f : floor ≡ start = same_Some floor start (same_Some (Some floor) (Some start) (sym at ∙ (ap (slice_get now) same ∙ here))) in
+          (omega (arith, f), λ e. omega (arith, same))
+      | inr differ ↦
+          let below = others j (Some floor) differ at in
+          let b = below.1 in
+          let k = first.1 in
+          (omega (arith, below.0, first.0), λ e. omega (arith, e, below.0, first.0, b, k))
+    ]
+
+-- it goes, and no other has one
+pub leads_none : (before now : List (Option ℕ)) (lead : Lead) → now ≡ set before lead.least.instance None → lead.least.instance < length now → IsNone lead.others → Leads before lead → Leads now (record { least = lead.others; others = lead.others })
+leads_none before now lead is within none was = record {
+  least_is = record { within = by; reached = inr none };
+  others_are = λ j one differ at. by j one at;
+}
+  where
+    by : (j : ℕ) (one : Option ℕ) → slice_get now j ≡ Some one → IsBelow lead.others one j
+    by j one at = elim (cases_eq j lead.least.instance) [
+      | inl same ↦ subst (λ b. IsBelow lead.others b j) (same_Some None one (sym (now_here before now lead.least.instance None is within) ∙ (ap (slice_get now) (sym same) ∙ at))) tt
+      | inr differ ↦ was.others_are j one differ (was_there before now lead.least.instance None is j one differ at)
     ]

@@ -4,11 +4,13 @@ use Rattle.std.specs.List.{HoldsAt, insert}
 use Rattle.std.specs.List.Sorted.{ties}
 use Rattle.std.proofs.Math.Seq.{drop-nil}
 use Rattle.std.proofs.lemmas.Bool.{true≢false}
-use Rattle.std.proofs.lemmas.List.{append-nil, drop-append-le, drop-drop, drop-take, drop_more, get_or-drop, get_or-take, length-drop, length-take-le, take-append-drop}
+use Rattle.std.proofs.lemmas.List.{append-nil, drop-append-le, drop-drop, drop-take, drop_more, get_or-drop, get_or-take, length-append, length-drop, length-take-le, take-append-drop}
 use Rattle.std.proofs.lemmas.List.Elements.{filter-append}
 use Rattle.note_order.specs.Order.{is_before}
 use Rattle.note_order.specs.declared.entry.Entry.{Entry}
 use Rattle.note_order.proofs.Entries.{entries_rank}
+use Rattle.std.proofs.lemmas.List.Edits.{insert_end}
+use Rattle.annot_merge.specs.Queues.{head_of}
 use Rattle.annot_merge.specs.Merging.{InOrder, NoneBefore, PutsIn}
 use Rattle.annot_merge.proofs.Orders.{Alike, alike_in_order, alike_to, back_in_order, front_in_order}
 
@@ -142,3 +144,26 @@ drop_past (suc n) (x ∷ list) past = drop_past n list (omega (arith, past))
 -- the first of those from a place on
 pub first_of : (list : List Entry) (i : ℕ) (e : Entry) → i < length list → e ≡ get_or list i e → drop i list ≡ e ∷ drop (i + 1) list
 first_of list i e within is = drop_more list i e within ∙ ap (λ (x : Entry). x ∷ drop (i + 1) list) (sym is)
+
+-- a note put in behind all
+pub puts_last : (first : ℕ) (entries : List Entry) (e : Entry) → first ≤ length entries → (first < length entries → HoldsAt (λ x. is_before e x ≡ false) entries (length entries - 1)) → InOrder (drop first entries)
+    → PutsIn e (drop first entries) (drop first entries ++ e ∷ [])
+puts_last first entries e within late ordered =
+    subst (PutsIn e (drop first entries)) (drop-append-le first entries (e ∷ []) within)
+    (puts_in first (length entries) entries e within (omega arith) (λ past. absurd (omega (arith, past))) late (entries ++ e ∷ []) (sym (insert_end entries e)) ordered)
+
+-- the first stays the first
+pub head_kept : (first : ℕ) (entries : List Entry) (e : Entry) → first < length entries → head_of (drop first entries ++ e ∷ []) ≡ head_of (drop first entries)
+head_kept first [] e within = absurd (omega (arith, within))
+head_kept zero (x ∷ entries) e within = refl
+head_kept (suc first) (x ∷ entries) e within = head_kept first entries e (omega (arith, within))
+
+-- two lists with a last one
+pub last_same : {X : Type 0} (xs ys : List X) (x y : X) → xs ++ x ∷ [] ≡ ys ++ y ∷ [] → (xs ≡ ys) × (x ≡ y)
+last_same [] [] x y is = (refl, ap (λ l. get_or l 0 x) is)
+last_same [] (z ∷ ys) x y is = absurd (omega (arith, ap length is, length-append ys (y ∷ [])))
+last_same (z ∷ xs) [] x y is = absurd (omega (arith, ap length is, length-append xs (x ∷ [])))
+last_same (z ∷ xs) (v ∷ ys) x y is =
+    let more = last_same xs ys x y (ap (drop 1) is) in
+    let head : z ≡ v = ap (λ l. get_or l 0 z) is in
+    ((λ i. head i ∷ more.0 i), more.1)

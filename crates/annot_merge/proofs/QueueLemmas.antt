@@ -12,10 +12,10 @@ use Rattle.std.proofs.lemmas.List.Elements.{filter-append}
 use Rattle.note_order.specs.Order.{in_order, is_before}
 use Rattle.note_order.specs.Sorting.{inserted}
 use Rattle.note_order.specs.declared.entry.Entry.{Entry}
-use Rattle.annot_merge.specs.Limits.{IsLimit}
+use Rattle.annot_merge.specs.Limits.{Leads}
 use Rattle.annot_merge.specs.Merging.{InOrder, NoneBefore, PutsIn}
 use Rattle.annot_merge.specs.Queues.{AreOf, AreQueues, Arranged, IsQueue, all_of, head_of}
-use Rattle.annot_merge.specs.declared.limit.Limit.{Limit}
+use Rattle.annot_merge.specs.declared.limit.Lead.{Lead}
 use Rattle.annot_merge.proofs.MergeLemmas.{never_ties}
 use Rattle.annot_merge.proofs.Orders.{alike_in_order, alike_to, in_order_alike, one_order, none_before_append, none_before_chain, none_before_order, order_is_in_order}
 
@@ -176,30 +176,31 @@ map_length f (x ∷ xs) = ap suc (map_length f xs)
 not_sooner : (a b i j : ℕ) → b ≤ a → (a ≡ b → j ≤ i) → is_lt (ordering_then (nat_cmp a b) (nat_cmp i j)) ≡ false
 not_sooner a b i j start instance = grind (arith, nat_tests, start, instance)
 
+-- the first of the least queue starts there
+pub first_starts : (lists : List (List Entry)) (heads : List (Option ℕ)) (lead : Lead) (e : Entry) (rest : List Entry) → Arranged lists heads lead → slice_get lists lead.least.instance ≡ Some (e ∷ rest) → e.note.start ≡ lead.least.start
+first_starts lists heads lead e rest a at = elim a.leads.least_is.reached [
+  | inl reached ↦ same_Some e.note.start lead.least.start (same_Some (Some e.note.start) (Some lead.least.start) (sym (ap (λ (l : List (Option ℕ)). slice_get l lead.least.instance) a.heads_are ∙ get_map head_of lists lead.least.instance (e ∷ rest) at) ∙ reached))
+  | inr top ↦ absurd (omega (arith, top.1, slice_get_within lists lead.least.instance (e ∷ rest) at, a.few))
+]
+
 -- the first of all is the first of the least queue
-pub takes_first : (lists : List (List Entry)) (heads : List (Option ℕ)) (least : Limit) (e : Entry) (rest : List Entry) → Arranged lists heads least → slice_get lists least.instance ≡ Some (e ∷ rest)
-    → in_order (all_of lists) ≡ e ∷ in_order (all_of (set lists least.instance rest))
-takes_first lists heads least e rest a at =
-    let one : e.instance ≡ least.instance = (queue_at lists least.instance (e ∷ rest) a.queues at).of.0 in
-    let is : in_order (all_of lists) ≡ inserted is_before e (in_order (all_of (set lists least.instance rest))) =
-    alike_in_order (all_of lists) (e ∷ all_of (set lists least.instance rest)) (λ x. take_alike 0 lists least.instance e rest x a.queues at (omega (arith, one))) in
+pub takes_first : (lists : List (List Entry)) (heads : List (Option ℕ)) (lead : Lead) (e : Entry) (rest : List Entry) → Arranged lists heads lead → slice_get lists lead.least.instance ≡ Some (e ∷ rest)
+    → in_order (all_of lists) ≡ e ∷ in_order (all_of (set lists lead.least.instance rest))
+takes_first lists heads lead e rest a at =
+    let one : e.instance ≡ lead.least.instance = (queue_at lists lead.least.instance (e ∷ rest) a.queues at).of.0 in
+    let is : in_order (all_of lists) ≡ inserted is_before e (in_order (all_of (set lists lead.least.instance rest))) =
+    alike_in_order (all_of lists) (e ∷ all_of (set lists lead.least.instance rest)) (λ x. take_alike 0 lists lead.least.instance e rest x a.queues at (omega (arith, one))) in
     let none = none_before_order e (all_of lists) (none_before_all e 0 lists a.queues (λ i h t got. after i h t got one)) in
-    is ∙ first_inserted_back e (in_order (all_of (set lists least.instance rest))) (subst (NoneBefore e) is none)
+    is ∙ first_inserted_back e (in_order (all_of (set lists lead.least.instance rest))) (subst (NoneBefore e) is none)
   where
     head_at : (i : ℕ) (list : List Entry) → slice_get lists i ≡ Some list → slice_get heads i ≡ Some (head_of list)
     head_at i list got = ap (λ (l : List (Option ℕ)). slice_get l i) a.heads_are ∙ get_map head_of lists i list got
 
-    starts : e.note.start ≡ least.start
-    starts = elim a.least_is.reached [
-      | inl reached ↦ same_Some e.note.start least.start (same_Some (Some e.note.start) (Some least.start) (sym (head_at least.instance (e ∷ rest) at) ∙ reached))
-      | inr top ↦ absurd (omega (arith, top.1, slice_get_within lists least.instance (e ∷ rest) at, a.few))
-    ]
-
-    after : (i : ℕ) (h : Entry) (t : List Entry) → slice_get lists i ≡ Some (h ∷ t) → e.instance ≡ least.instance → is_before h e ≡ false
+    after : (i : ℕ) (h : Entry) (t : List Entry) → slice_get lists i ≡ Some (h ∷ t) → e.instance ≡ lead.least.instance → is_before h e ≡ false
     after i h t got one =
-        let below = a.least_is.within i (Some h.note.start) (head_at i (h ∷ t) got) in
+        let below = a.leads.least_is.within i (Some h.note.start) (head_at i (h ∷ t) got) in
         let mine : h.instance ≡ i = (queue_at lists i (h ∷ t) a.queues got).of.0 in
-        let s = starts in
+        let s = first_starts lists heads lead e rest a at in
         let b = below.1 in
         not_sooner h.note.start e.note.start h.instance e.instance (omega (arith, below.0, s)) (λ same. omega (arith, b, same, s, mine, one))
 
@@ -209,33 +210,38 @@ all_empty [] never = refl
 all_empty ([] ∷ ls) never = all_empty ls (λ i h t at. never (suc i) h t at)
 all_empty ((e ∷ l) ∷ ls) never = absurd (never zero e l refl)
 
-pub holds_none : (lists : List (List Entry)) (heads : List (Option ℕ)) (least : Limit) → Arranged lists heads least → length lists ≤ least.instance → in_order (all_of lists) ≡ []
-holds_none lists heads least a past = ap in_order (all_empty lists (λ i h t got.
+pub holds_none : (lists : List (List Entry)) (heads : List (Option ℕ)) (lead : Lead) → Arranged lists heads lead → length lists ≤ lead.least.instance → in_order (all_of lists) ≡ []
+holds_none lists heads lead a past = ap in_order (all_empty lists (λ i h t got.
     let at : slice_get heads i ≡ Some (Some h.note.start) = ap (λ (l : List (Option ℕ)). slice_get l i) a.heads_are ∙ get_map head_of lists i (h ∷ t) got in
-    let below = a.least_is.within i (Some h.note.start) at in
+    let below = a.leads.least_is.within i (Some h.note.start) at in
     let within = slice_get_within lists i (h ∷ t) got in
     let fits : h.note.start < 2 ^ 64 = (queue_at lists i (h ∷ t) a.queues got).fits in
-    elim a.least_is.reached [
-      | inl reached ↦ omega (arith, past, slice_get_within heads least.instance (Some least.start) reached, ap length a.heads_are, map_length head_of lists)
+    elim a.leads.least_is.reached [
+      | inl reached ↦ omega (arith, past, slice_get_within heads lead.least.instance (Some lead.least.start) reached, ap length a.heads_are, map_length head_of lists)
       | inr top ↦ (let b = below.1 in omega (arith, top.0, top.1, fits, below.0, b, within, a.few))
     ]))
 
 -- the least queue holds a note
-pub holds_some : (lists : List (List Entry)) (heads : List (Option ℕ)) (least : Limit) → Arranged lists heads least → least.instance < length lists → slice_get lists least.instance ≡ Some [] → ⊥
-holds_some lists heads least a within at =
-    let empty : slice_get heads least.instance ≡ Some None = ap (λ (l : List (Option ℕ)). slice_get l least.instance) a.heads_are ∙ get_map head_of lists least.instance [] at in
-    elim a.least_is.reached [
-      | inl reached ↦ none-some least.start (same_Some None (Some least.start) (sym empty ∙ reached))
+pub holds_some : (lists : List (List Entry)) (heads : List (Option ℕ)) (lead : Lead) → Arranged lists heads lead → lead.least.instance < length lists → slice_get lists lead.least.instance ≡ Some [] → ⊥
+holds_some lists heads lead a within at =
+    let empty : slice_get heads lead.least.instance ≡ Some None = ap (λ (l : List (Option ℕ)). slice_get l lead.least.instance) a.heads_are ∙ get_map head_of lists lead.least.instance [] at in
+    elim a.leads.least_is.reached [
+      | inl reached ↦ none-some lead.least.start (same_Some None (Some lead.least.start) (sym empty ∙ reached))
       | inr top ↦ omega (arith, top.1, within, a.few)
     ]
 
+pub set_same : {X : Type 0} (xs : List X) (i : ℕ) (x : X) → slice_get xs i ≡ Some x → set xs i x ≡ xs
+set_same [] i x at = refl
+set_same (y ∷ ys) zero x at = ap (λ z. z ∷ ys) (sym (same_Some y x at))
+set_same (y ∷ ys) (suc i) x at = ap (λ zs. y ∷ zs) (set_same ys i x at)
+
 -- one queue changes
-pub arranged_set : (lists : List (List Entry)) (heads : List (Option ℕ)) (least : Limit) (i : ℕ) (list : List Entry) (now : List (Option ℕ)) (moved : Limit) → Arranged lists heads least → IsQueue i list
-    → now ≡ set heads i (head_of list) → (IsLimit heads least → IsLimit now moved) → Arranged (set lists i list) now moved
-arranged_set lists heads least i list now moved a queue is limits = record {
+pub arranged_set : (lists : List (List Entry)) (heads : List (Option ℕ)) (lead : Lead) (i : ℕ) (list : List Entry) (now : List (Option ℕ)) (moved : Lead) → Arranged lists heads lead → IsQueue i list
+    → now ≡ set heads i (head_of list) → (Leads heads lead → Leads now moved) → Arranged (set lists i list) now moved
+arranged_set lists heads lead i list now moved a queue is limits = record {
   queues = let sum : i ≡ 0 + i = omega arith in set_queue 0 lists i list a.queues (subst (λ (n : ℕ). IsQueue n list) sum queue);
   heads_are = is ∙ (ap (λ (l : List (Option ℕ)). set l i (head_of list)) a.heads_are ∙ sym (map_set head_of lists i list));
-  least_is = limits a.least_is;
+  leads = limits a.leads;
   few = subst (λ (n : ℕ). n < 2 ^ 32) (sym (length-set lists i list)) a.few;
 }
 

@@ -17,12 +17,15 @@ bound_behind bound (EndMark ∷ marks) = bound_behind None marks
 abbrev pub bound_of : List Mark → Option ℕ
 bound_of marks = bound_behind (Some 0) marks
 
--- an instance of this bound allows a note: it has ended, or its floor is above the note's start;
--- or that is its floor, and it isn't below the instance of the note
+-- an instance of this bound allows a note of some instance that starts here: it has ended, or its
+-- floor is above that start; or that is its floor, and it isn't below the instance of the note
+abbrev pub AllowsAt : Option ℕ → ℕ → ℕ → ℕ → Type 0
+AllowsAt None instance start of = Unit {0}
+AllowsAt (Some floor) instance start of =
+    (start ≤ floor) × (floor ≡ start → of ≤ instance)
+
 abbrev pub Allows : Option ℕ → ℕ → Entry → Type 0
-Allows None instance entry = Unit {0}
-Allows (Some floor) instance entry =
-    (entry.note.start ≤ floor) × (floor ≡ entry.note.start → entry.instance ≤ instance)
+Allows bound instance entry = AllowsAt bound instance entry.note.start entry.instance
 
 -- each of `count` instances allows a note
 abbrev pub IsAllowed : ℕ → (ℕ → List Mark) → Entry → Type 0

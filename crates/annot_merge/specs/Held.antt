@@ -6,11 +6,11 @@ use Rattle.la_base.specs.declared.wires.Mark.{Mark}
 use Rattle.la_base.specs.declared.wires.Note.{Note}
 use Rattle.note_order.specs.Order.{entry_of}
 use Rattle.note_order.specs.declared.entry.Entry.{Entry}
-use Rattle.annot_merge.specs.Bounds.{HaveEnded, IsAllowed, bound_of}
+use Rattle.annot_merge.specs.Bounds.{Allows, HaveEnded, IsAllowed, bound_of}
 use Rattle.annot_merge.specs.Marks.{Continues, Pushes, sorted_notes}
 use Rattle.annot_merge.specs.Merging.{Merges}
 use Rattle.annot_merge.specs.Limits.{IsLimit}
-use Rattle.annot_merge.specs.Queues.{listing_of}
+use Rattle.annot_merge.specs.Queues.{RunAt, listing_of}
 use Rattle.annot_merge.specs.declared.limit.Limit.{Limit}
 use Rattle.annot_merge.specs.declared.merge.Merge.{Merge}
 
@@ -58,6 +58,18 @@ pub record Gives (old new : Merge) (found : ℕ × Note) : Type 0 where
   pub stands : (marks : ℕ → List Mark) (given : List Entry) → Stands old marks given
       → IsAllowed (count_of old) marks (entry_of found.0 found.1)
       × Stands new marks (given ++ entry_of found.0 found.1 ∷ [])
+
+-- these notes are the first that are held, of one instance, and are allowed
+pub record AreReady (merge : Merge) (notes : List Entry) : Type 0 where
+  pub run : RunAt merge.held.queues.items merge.held.lead.least.instance notes
+  pub within : All (λ entry. Allows (Some merge.limit.start) merge.limit.instance entry) notes
+
+-- they are given
+pub record GivesAll (old new : Merge) (notes : List Entry) : Type 0 where
+  pub first : held_in old ≡ notes ++ held_in new
+  pub stands : (marks : ℕ → List Mark) (given : List Entry) → Stands old marks given
+      → All (λ entry. IsAllowed (count_of old) marks entry) notes
+      × Stands new marks (given ++ notes)
 
 -- the least note that is held is allowed
 pub record CanGive (merge : Merge) : Type 0 where

@@ -1,6 +1,7 @@
 -- The last place at which a note may be given, of all bounds.
-use Rattle.std.specs.Prelude.{ℕ, ◌≡◌, ◌≤◌, ◌⊎◌, ◌-◌, ◌^◌, List, []}
+use Rattle.std.specs.Prelude.{ℕ, ◌≡◌, ◌≢◌, ◌≤◌, ◌<◌, ◌⊎◌, ◌-◌, ◌^◌, List, []}
 use Rattle.std.specs.Prelude.{◌∷◌, ◌++◌, length, slice_get, Option, Some, None}
+use Rattle.annot_merge.specs.declared.limit.Lead.{Lead}
 use Rattle.annot_merge.specs.declared.limit.Limit.{Limit}
 
 -- a limit is at the bound of an instance or before it
@@ -21,3 +22,23 @@ abbrev pub IsNearer : Limit → ℕ → Option ℕ → Limit → Type 0
 IsNearer limit instance bound result =
     (bounds : List (Option ℕ)) → length bounds ≡ instance → IsLimit bounds limit
     → IsLimit (bounds ++ bound ∷ []) result
+
+-- a limit is behind all places
+abbrev pub IsNone : Limit → Type 0
+IsNone limit = (limit.start ≡ 2 ^ 64 - 1) × (limit.instance ≡ 2 ^ 32 - 1)
+
+-- an instance that starts here stands before a limit
+abbrev pub IsBefore : ℕ → ℕ → Limit → Type 0
+IsBefore start instance limit =
+    (start ≤ limit.start) × (start ≡ limit.start → instance < limit.instance)
+
+-- no bound but that of one instance stands before a limit
+abbrev pub NoOther : List (Option ℕ) → ℕ → Limit → Type 0
+NoOther bounds instance limit =
+    (other : ℕ) (bound : Option ℕ) → other ≢ instance → slice_get bounds other ≡ Some bound
+    → IsBelow limit bound other
+
+-- the least of the bounds, and a place before which none of the others stands
+pub record Leads (bounds : List (Option ℕ)) (lead : Lead) : Type 0 where
+  pub least_is : IsLimit bounds lead.least
+  pub others_are : NoOther bounds lead.least.instance lead.others

@@ -7,3 +7,10 @@ pub struct Limit {
     pub start: u64,
     pub instance: u32,
 }
+
+/// Which of all instances is the first, and a place before which no other one is.
+#[derive(Clone, Copy, Debug, PartialEq, Eq)]
+pub struct Lead {
+    pub least: Limit,
+    pub others: Limit,
+}

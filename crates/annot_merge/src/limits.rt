@@ -1,32 +1,29 @@
 // The limit that the bounds of all instances set.
-ghost use Rattle.std.specs.Prelude.{◌≡◌, ◌≢◌, ◌≤◌, ◌<◌, ◌^◌, ℕ, List, MatchBool, Option, Some, length};
-ghost use Rattle.std.specs.Prelude.{slice_set};
-ghost use Rattle.annot_merge.specs.Bounds.{Allows};
-ghost use Rattle.annot_merge.specs.Limits.{IsLimit, IsNearer};
+ghost use Rattle.std.specs.Prelude.{◌≡◌, ◌≢◌, ◌≤◌, ◌<◌, ◌^◌, ◌∷◌, ◌++◌, [], ℕ, List, MatchBool};
+ghost use Rattle.std.specs.Prelude.{Option, Some, length, slice_set};
+ghost use Rattle.annot_merge.specs.Bounds.{AllowsAt};
+ghost use Rattle.annot_merge.specs.Limits.{IsBefore, IsBelow, IsLimit, IsNearer, IsNone, Leads};
+ghost use Rattle.annot_merge.specs.Limits.{NoOther};
 
-use crate::limit::Limit;
-use note_order::Entry;
+use crate::limit::{Lead, Limit};
 
-/// Whether a note isn't behind the limit.
+/// Whether a note that starts here isn't behind the limit.
 #[inline(always)]
-pub fn allows(limit: &Limit, entry: &Entry) -> bool
-    ensures start { entry.now.note.start < 2 ^ 64 }
-    ensures instance { entry.now.instance < 2 ^ 32 }
-    ensures allowed { MatchBool result (Allows (Some limit.now.start) limit.now.instance entry.now)
-        (¬ Allows (Some limit.now.start) limit.now.instance entry.now) }
+pub fn allows(limit: &Limit, place: &Limit) -> bool
+    ensures { MatchBool result
+        (AllowsAt (Some limit.now.start) limit.now.instance place.now.start place.now.instance)
+        (¬ AllowsAt (Some limit.now.start) limit.now.instance place.now.start place.now.instance) }
 {
-    let start = entry.note.start;
-    let instance = entry.instance;
-    if start == limit.start {
-        return instance <= limit.instance;
+    if place.start == limit.start {
+        return place.instance <= limit.instance;
     }
-    start < limit.start
+    place.start < limit.start
 }
 
-// Whether a floor of an instance stands before the limit.
-fn is_lower(floor: u64, instance: u32, limit: &Limit) -> bool
-    ensures { MatchBool result
-        ((floor ≤ limit.now.start) × (floor ≡ limit.now.start → instance < limit.now.instance))
+/// Whether a floor of an instance stands before the limit.
+#[inline(always)]
+pub fn is_lower(floor: u64, instance: u32, limit: &Limit) -> bool
+    ensures { MatchBool result (IsBefore floor instance limit.now)
         ((limit.now.start ≤ floor) × (floor ≡ limit.now.start → limit.now.instance ≤ instance)) }
 {
     if floor == limit.start {
@@ -38,6 +35,10 @@ fn is_lower(floor: u64, instance: u32, limit: &Limit) -> bool
 // The nearer of a limit and the bound of one more instance.
 fn nearer(limit: Limit, instance: u32, bound: Option<u64>) -> Limit
     ensures next { IsNearer limit instance bound result }
+    ensures here { IsBelow result bound instance }
+    ensures still { (other : ℕ) (one : Option ℕ) → IsBelow limit one other
+        → IsBelow result one other }
+    ensures same { result.instance ≢ instance → result ≡ limit }
     ensures sets { (before now : List (Option ℕ)) → now ≡ slice_set before instance bound
         → instance < length now → instance ≢ limit.instance
         → IsLimit before limit → IsLimit now result }
@@ -70,6 +71,132 @@ pub fn limit_of(bounds: &[Option<u64>]) -> Limit
         limit = nearer(limit, place as u32, *bound);
     }
     limit
+}
+
+// The nearer of a limit and the bound of one more instance, unless it is that of one.
+fn nearer_but(limit: Limit, instance: u32, bound: Option<u64>, but: u32) -> Limit
+    ensures { (bounds : List (Option ℕ)) → length bounds ≡ instance → NoOther bounds but limit
+        → NoOther (bounds ++ bound ∷ []) but result }
+{
+    if instance == but {
+        return limit;
+    }
+    nearer(limit, instance, bound)
+}
+
+// The least of the bounds, but for that of one instance.
+fn limit_but(bounds: &[Option<u64>], but: u32) -> Limit
+    requires { length bounds.now < 2 ^ 32 }
+    ensures { NoOther bounds.now but result }
+{
+    let mut limit = Limit {
+        start: u64::MAX,
+        instance: u32::MAX,
+    };
+    for (place, bound) in bounds.iter().enumerate() {
+        limit = nearer_but(limit, place as u32, *bound, but);
+    }
+    limit
+}
+
+/// The first of so many, and how far it is the first.
+pub fn lead_of(bounds: &[Option<u64>]) -> Lead
+    requires { length bounds.now < 2 ^ 32 }
+    ensures { Leads bounds.now result }
+{
+    let least = limit_of(bounds);
+    Lead {
+        least,
+        others: limit_but(bounds, least.instance),
+    }
+}
+
+// Whether a limit is behind all places.
+fn is_none(limit: &Limit) -> bool
+    ensures { MatchBool result (IsNone limit.now) (Unit {0}) }
+{
+    limit.start == u64::MAX && limit.instance == u32::MAX
+}
+
+// A place.
+fn placed(start: u64, instance: u32) -> Limit
+    ensures is { result ≡ record { start = start; instance = instance } }
+    ensures low { start < 2 ^ 64 }
+{
+    Limit { start, instance }
+}
+
+// The same behind a change of the bound of the first, where no other one has a bound.
+fn lead_alone(lead: Lead, bounds: &[Option<u64>]) -> Lead
+    requires within { lead.least.instance < length bounds.now }
+    requires few { length bounds.now < 2 ^ 32 }
+    requires alone { IsNone lead.others }
+    ensures { (before : List (Option ℕ)) (bound : Option ℕ)
+        → bounds.now ≡ slice_set before lead.least.instance bound
+        → Leads before lead → Leads bounds.now result }
+{
+    let place = lead.least.instance as usize;
+    match bounds[place] {
+        Some(start) => Lead {
+            least: placed(start, lead.least.instance),
+            others: lead.others,
+        },
+        None => Lead {
+            least: lead.others,
+            others: lead.others,
+        },
+    }
+}
+
+/// The same behind a change of the bound of the first. Often many instances have the same bounds.
+#[inline(never)]
+pub fn lead_past(lead: Lead, bounds: &[Option<u64>]) -> Lead
+    requires within { lead.least.instance < length bounds.now }
+    requires few { length bounds.now < 2 ^ 32 }
+    ensures { (before : List (Option ℕ)) (bound : Option ℕ)
+        → bounds.now ≡ slice_set before lead.least.instance bound
+        → Leads before lead → Leads bounds.now result }
+{
+    if is_none(&lead.others) {
+        return lead_alone(lead, bounds);
+    }
+    let least = limit_past(lead.least, bounds);
+    if least.start == lead.least.start {
+        return Lead {
+            least,
+            others: Limit {
+                start: least.start,
+                instance: least.instance.saturating_add(1),
+            },
+        };
+    }
+    Lead {
+        least,
+        others: limit_but(bounds, least.instance),
+    }
+}
+
+/// The same behind a change of one bound.
+pub fn lead_behind(lead: Lead, bounds: &[Option<u64>], instance: u32, bound: Option<u64>) -> Lead
+    requires within { instance < length bounds.now }
+    requires few { length bounds.now < 2 ^ 32 }
+    ensures { (before : List (Option ℕ)) → bounds.now ≡ slice_set before instance bound
+        → Leads before lead → Leads bounds.now result }
+{
+    if instance == lead.least.instance {
+        return lead_past(lead, bounds);
+    }
+    let least = nearer(lead.least, instance, bound);
+    if least.instance == instance {
+        return Lead {
+            least,
+            others: lead.least,
+        };
+    }
+    Lead {
+        least,
+        others: nearer(lead.others, instance, bound),
+    }
 }
 
 // Whether a bound is behind a start, or there is none.

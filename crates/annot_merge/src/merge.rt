@@ -1,14 +1,17 @@
 // The merge.
-ghost use Rattle.std.specs.Prelude.{◌≡◌, ◌≤◌, ◌<◌, ◌+◌, ◌^◌, ◌∷◌, [], IfNone, IfOk, IfSome};
+ghost use Rattle.std.specs.Prelude.{◌≡◌, ◌≤◌, ◌<◌, ◌+◌, ◌^◌, ◌∷◌, [], IfNone, IfOk, IfSome, List};
 ghost use Rattle.std.specs.Prelude.{MatchBool, OnErr, OnOk, length, slice_set, vec_len};
 ghost use Rattle.annot_merge.specs.Limits.{IsLimit};
 ghost use Rattle.annot_merge.specs.Marks.{notes_in};
+ghost use Rattle.note_order.specs.declared.entry.Entry.{Entry};
 
 use crate::bounds::same_bounds;
 use crate::limit::Limit;
 use crate::limits::{allows, limit_behind, limit_of};
+use crate::queue::stands_at;
 use crate::queues::Queues;
 use la_base::{Mark, NoMemory, Note};
+use note_order::Entry;
 use std::alloc::Global;
 
 /// Takes the marks of several instances, each in its order, and gives their notes in the order of a
@@ -29,7 +32,8 @@ pub struct Merge {
 }
 
 impl Merge {
-    ghost use Rattle.annot_merge.specs.Held.{CanGive, Gives, GivesNone, Keeps, Stands, Takes};
+    ghost use Rattle.annot_merge.specs.Held.{AreReady, CanGive, Gives, GivesAll, GivesNone, Keeps};
+    ghost use Rattle.annot_merge.specs.Held.{Stands, Takes};
     ghost use Rattle.annot_merge.specs.Held.{count_of, held_in};
 
     /// A merge of so many instances, of which nothing was pushed.
@@ -110,15 +114,38 @@ impl Merge {
     pub fn is_ready(&self) -> bool
         ensures { MatchBool result (CanGive self.now) (GivesNone self.now self.now) }
     {
-        match self.held.first() {
-            Some(entry) => allows(&self.limit, &entry),
+        if self.held.lead.least.start > self.limit.start {
+            return false;
+        }
+        match self.held.first_place() {
+            Some(place) => allows(&self.limit, &place),
             None => false,
         }
     }
 
+    /// The first notes of the order that are held and before which no later note can come, of one
+    /// instance: none where there is no such note. They stay held.
+    #[inline(always)]
+    pub fn ready_notes(&self) -> &[Entry]
+        ensures ready { 0 < length result.now → AreReady self.now result.now }
+        ensures none { result.now ≡ [] → GivesNone self.now self.now }
+    {
+        self.held.front(&self.limit)
+    }
+
+    /// Gives the first `count` of those. It takes no memory.
+    #[inline(always)]
+    pub fn let_go(&mut self, count: usize)
+        requires { (notes : List Entry) × (length notes ≡ count) × AreReady self.old notes }
+        ensures count { count_of self.new ≡ count_of self.old }
+        ensures gives { (notes : List Entry) → length notes ≡ count → AreReady self.old notes
+            → GivesAll self.old self.new notes }
+    {
+        self.held.let_go(count);
+    }
+
     /// Gives the note that is held and is the first of the order, with its instance, where no later
     /// note can come before it. It takes no memory.
-    #[inline(always)]
     pub fn ready(&mut self) -> Option<(u32, Note)>
         ensures count { count_of self.new ≡ count_of self.old }
         ensures gives { IfSome result (Gives self.old self.new) }
@@ -126,10 +153,10 @@ impl Merge {
     {
         match self.held.first() {
             Some(entry) => {
-                if !allows(&self.limit, &entry) {
+                if !allows(&self.limit, &stands_at(&entry)) {
                     return None;
                 }
-                self.held.drop_first();
+                self.held.let_go(1);
                 Some((entry.instance, entry.note))
             }
             None => None,

@@ -1,6 +1,6 @@
 // Where a note is put among those that are in order.
-ghost use Rattle.std.specs.Prelude.{◌≡◌, ◌≤◌, ◌<◌, ◌+◌, ◌-◌, OnErr, OnOk, drop, length, true};
-ghost use Rattle.std.specs.Prelude.{false};
+ghost use Rattle.std.specs.Prelude.{◌≡◌, ◌≤◌, ◌<◌, ◌+◌, ◌-◌, ◌∷◌, ◌++◌, [], List, drop, length};
+ghost use Rattle.std.specs.Prelude.{false, true};
 ghost use Rattle.std.specs.List.{HoldsAt};
 ghost use Rattle.note_order.specs.Order.{is_before};
 ghost use Rattle.annot_merge.specs.Merging.{InOrder, PutsIn};
@@ -57,9 +57,9 @@ fn place_of(entries: &[Entry], first: usize, entry: &Entry) -> usize
     low
 }
 
-// Whether a note stands before none of those from `first` on.
+/// Whether a note stands before none of those from `first` on.
 #[inline(always)]
-fn is_late(entries: &[Entry], first: usize, entry: &Entry) -> bool
+pub fn is_late(entries: &[Entry], first: usize, entry: &Entry) -> bool
     ensures { result ≡ true → first < length entries.now
         → HoldsAt (λ other. is_before entry.now other ≡ false) entries.now
         (length entries.now - 1) }
@@ -70,39 +70,24 @@ fn is_late(entries: &[Entry], first: usize, entry: &Entry) -> bool
     !is_before(entry, &entries[entries.len() - 1])
 }
 
-// Puts a note among those from `first` on, behind all that don't stand behind it.
-#[inline(never)]
-fn put_earlier(entries: &mut Vec<Entry>, first: usize, entry: Entry) -> Result<(), NoMemory>
-    requires { first ≤ length entries.old.items }
-    ensures puts { OnOk result
-        (InOrder (drop first entries.old.items)
-        → PutsIn entry (drop first entries.old.items) (drop first entries.new.items)) }
-    ensures longer { OnOk result (length entries.new.items ≡ length entries.old.items + 1) }
-    ensures kept { OnErr result (entries.new.items ≡ entries.old.items) }
+/// Puts the last note among those from `first` on, behind all that don't stand behind it.
+pub fn settle_last(entries: &mut Vec<Entry>, first: usize)
+    requires { first < length entries.old.items }
+    ensures puts { (before : List Entry) (entry : Entry)
+        → drop first entries.old.items ≡ before ++ entry ∷ [] → InOrder before
+        → PutsIn entry before (drop first entries.new.items) }
+    ensures many { length entries.new.items ≡ length entries.old.items }
 {
-    let at = place_of(entries, first, &entry);
-    match entries.insert(at, entry) {
-        Ok(()) => Ok(()),
-        Err(_) => Err(NoMemory),
+    if entries.len() - first == 1 {
+        return;
     }
-}
-
-/// The same. Mostly it is the last.
-#[inline(always)]
-pub fn put(entries: &mut Vec<Entry>, first: usize, entry: Entry) -> Result<(), NoMemory>
-    requires { first ≤ length entries.old.items }
-    ensures puts { OnOk result
-        (InOrder (drop first entries.old.items)
-        → PutsIn entry (drop first entries.old.items) (drop first entries.new.items)) }
-    ensures longer { OnOk result (length entries.new.items ≡ length entries.old.items + 1) }
-    ensures kept { OnErr result (entries.new.items ≡ entries.old.items) }
-{
-    if !is_late(entries, first, &entry) {
-        return put_earlier(entries, first, entry);
-    }
-    match entries.push(entry) {
-        Ok(()) => Ok(()),
-        Err(_) => Err(NoMemory),
+    if let Some(entry) = entries.pop() {
+        let at = place_of(entries, first, &entry);
+        match entries.insert(at, entry) {
+            Ok(()) => {}
+            // There was room for it before.
+            Err(_) => {}
+        }
     }
 }
 

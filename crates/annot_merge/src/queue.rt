@@ -1,10 +1,15 @@
 // The notes of one instance that are held.
-ghost use Rattle.std.specs.Prelude.{◌≡◌, ◌+◌, ◌≤◌, ◌<◌, ◌^◌, IfSome, IfNone, OnErr, OnOk, Some, List};
-ghost use Rattle.std.specs.Prelude.{vec_len, ◌∷◌, [], drop};
+ghost use Rattle.std.specs.Prelude.{◌≡◌, ◌+◌, ◌≤◌, ◌<◌, ◌^◌, ◌∷◌, ◌++◌, [], ℕ, IfSome, IfNone, OnErr};
+ghost use Rattle.std.specs.Prelude.{OnOk, Some, List, vec_len, drop, length, true};
+ghost use Rattle.std.specs.List.{All, HoldsAt};
 ghost use Rattle.note_order.specs.declared.entry.Entry.{Entry};
+ghost use Rattle.annot_merge.specs.Bounds.{Allows};
 ghost use Rattle.annot_merge.specs.Merging.{InOrder, PutsIn};
+ghost use Rattle.annot_merge.specs.Places.{GoesOn, StopsAt};
 
-use crate::place::{behind_given, put};
+use crate::limit::Limit;
+use crate::limits::{allows, is_lower};
+use crate::place::{behind_given, is_late, settle_last};
 use la_base::NoMemory;
 use note_order::Entry;
 use std::alloc::Global;
@@ -27,6 +32,14 @@ fn start_of(entry: &Entry) -> u64
     entry.note.start
 }
 
+// The instance of a note.
+#[inline(always)]
+fn instance_of(entry: &Entry) -> u32
+    ensures { result ≡ entry.now.instance }
+{
+    entry.instance
+}
+
 impl Queue {
     ghost use Rattle.annot_merge.specs.Queues.{head_of, live};
 
@@ -40,14 +53,40 @@ impl Queue {
         }
     }
 
-    /// Holds one more note. Mostly it is the last.
+    /// Whether some are held, and a note that starts here stands before none of them.
     #[inline(always)]
-    pub fn put(&mut self, entry: Entry) -> Result<(), NoMemory>
-        ensures puts { OnOk result
-            (InOrder (live self.old) → PutsIn entry (live self.old) (live self.new)) }
+    pub fn goes_last(&self, entry: &Entry) -> bool
+        ensures puts { result ≡ true → InOrder (live self.now)
+            → PutsIn entry.now (live self.now) (live self.now ++ entry.now ∷ []) }
+        ensures head { result ≡ true
+            → head_of (live self.now ++ entry.now ∷ []) ≡ head_of (live self.now) }
+    {
+        if self.first >= self.entries.len() {
+            return false;
+        }
+        is_late(&self.entries, self.first, entry)
+    }
+
+    /// Puts a note behind those that are held.
+    #[inline(always)]
+    pub fn push(&mut self, entry: Entry) -> Result<(), NoMemory>
+        ensures last { OnOk result (live self.new ≡ live self.old ++ entry ∷ []) }
+        ensures some { OnOk result (self.new.first < vec_len self.new.entries) }
         ensures kept { OnErr result (live self.new ≡ live self.old) }
     {
-        put(&mut self.entries, self.first, entry)
+        match self.entries.push(entry) {
+            Ok(()) => Ok(()),
+            Err(_) => Err(NoMemory),
+        }
+    }
+
+    /// Puts the last one in its place.
+    pub fn settle(&mut self)
+        requires { self.old.first < vec_len self.old.entries }
+        ensures { (before : List Entry) (entry : Entry) → live self.old ≡ before ++ entry ∷ []
+            → InOrder before → PutsIn entry before (live self.new) }
+    {
+        settle_last(&mut self.entries, self.first);
     }
 
     /// The start of the first.
@@ -63,7 +102,6 @@ impl Queue {
     }
 
     /// The first.
-    #[inline(always)]
     pub fn first(&self) -> Option<Entry>
         ensures some { IfSome result (λ entry. live self.now ≡ entry ∷ drop 1 (live self.now)) }
         ensures none { IfNone result (live self.now ≡ []) }
@@ -74,14 +112,77 @@ impl Queue {
         Some(self.entries[self.first])
     }
 
-    /// Lets go of the first.
+    // Those that are held.
     #[inline(always)]
-    pub fn drop_first(&mut self)
-        ensures { live self.new ≡ drop 1 (live self.old) }
+    fn held(&self) -> &[Entry]
+        ensures { result.now ≡ live self.now }
     {
-        if self.first >= self.entries.len() {
-            return;
-        }
-        self.first = behind_given(&mut self.entries, self.first + 1);
+        &self.entries[self.first..]
     }
+
+    /// Those that are held, up to the first that is behind the limit, or not before the others.
+    #[inline(always)]
+    pub fn front(&self, limit: &Limit, others: &Limit) -> &[Entry]
+        ensures parts { (rest : List Entry) × (live self.now ≡ result.now ++ rest) }
+        ensures within { All (λ entry. Allows (Some limit.now.start) limit.now.instance entry)
+            result.now }
+        ensures before { All (λ entry. GoesOn others.now entry) (drop 1 result.now) }
+        ensures none { result.now ≡ [] → (entry : Entry) (rest : List Entry)
+            → live self.now ≡ entry ∷ rest
+            → StopsAt limit.now entry }
+    {
+        let held = self.held();
+        let count = front_of(held, limit, others);
+        &held[..count]
+    }
+
+    /// Lets go of the first `count`.
+    #[inline(always)]
+    pub fn let_go(&mut self, count: usize)
+        requires { count ≤ length (live self.old) }
+        ensures { live self.new ≡ drop count (live self.old) }
+    {
+        self.first = behind_given(&mut self.entries, self.first + count);
+    }
+}
+
+// How many notes there are before the first that is behind the limit or not before the others. The
+// first is before the others.
+#[inline(always)]
+fn front_of(held: &[Entry], limit: &Limit, others: &Limit) -> usize
+    ensures most { result ≤ length held.now }
+    ensures within { (k : ℕ) → k < result
+        → HoldsAt (λ entry. Allows (Some limit.now.start) limit.now.instance entry) held.now k }
+    ensures before { (k : ℕ) → 0 < k → k < result
+        → HoldsAt (λ entry. GoesOn others.now entry) held.now k }
+    ensures none { result ≡ 0 → 0 < length held.now
+        → HoldsAt (λ entry. StopsAt limit.now entry) held.now 0 }
+{
+    let mut count = 0;
+    while count < held.len() {
+        let place = stands_at(&held[count]);
+        if !allows(limit, &place) {
+            break;
+        }
+        if count > 0 {
+            if !is_lower(place.start, place.instance, others) {
+                break;
+            }
+        }
+        count += 1;
+    }
+    count
+}
+
+/// Where a note stands.
+#[inline(always)]
+pub fn stands_at(entry: &Entry) -> Limit
+    ensures start { result.start ≡ entry.now.note.start }
+    ensures instance { result.instance ≡ entry.now.instance }
+    ensures low { result.start < 2 ^ 64 }
+    ensures few { result.instance < 2 ^ 32 }
+{
+    let start = start_of(entry);
+    let instance = instance_of(entry);
+    Limit { start, instance }
 }

@@ -1,11 +1,11 @@
 // Lists that are cut, and notes that are put in order.
-ghost use Rattle.std.specs.Prelude.{◌==◌};
+ghost use Rattle.std.specs.Prelude.{◌==◌, ◌≡◌, ◌<◌};
+ghost use Rattle.annot_merge.specs.Held.{count_of};
 
-use la_base::Note;
+use annot_merge::Merge;
+use la_base::{Mark, Note};
 use list_cuts::*;
-use note_order::{
-    Entry, instances_make_the_listing, one_order, order_keeps_each_instance, sort_entries,
-};
+use note_order::{Entry, instances_make_the_listing, one_order, order_keeps_each_instance};
 
 // The numbers that equal one.
 #[derive(Clone, Copy)]
@@ -107,6 +107,8 @@ fn the_last_and_the_rising(rt: HostRuntime) {
     place_laws::<u64>();
 }
 
+const INSTANCES: u32 = 71;
+
 // A note of an instance that starts there; its class tells it apart.
 fn entry(instance: u32, start: u64, class: u16) -> Entry {
     Entry {
@@ -118,6 +120,29 @@ fn entry(instance: u32, start: u64, class: u16) -> Entry {
             a: 0,
             b: 0,
         },
+    }
+}
+
+// A merge of so many instances.
+#[derive(Drop)]
+struct Many {
+    merge: Merge,
+    ghost count: { count_of merge ≡ 71 },
+}
+
+impl Many {
+    fn push(&mut self, instance: u32, mark: Mark) -> bool
+        requires { instance < 71 }
+    {
+        self.merge.push(instance, mark).is_ok()
+    }
+
+    // The class of the next note, if there is one that may be given.
+    fn next_class(&mut self) -> Option<u16> {
+        match self.merge.ready() {
+            Some((_, note)) => Some(note.class),
+            None => None,
+        }
     }
 }
 
@@ -142,7 +167,7 @@ fn entries_stand_by_start_then_instance_then_as_given(rt: HostRuntime) {
             ],
             &[4, 2, 3, 1],
         ),
-        // also of more instances than are grouped
+        // also of many instances
         (
             &[
                 entry(70, 4, 1),
@@ -166,13 +191,27 @@ fn entries_stand_by_start_then_instance_then_as_given(rt: HostRuntime) {
         ),
     ];
     for (given, classes) in cases {
-        let mut entries = given.to_vec(alloc).expect(&rt, "memory");
-        assert!(rt; sort_entries(alloc, &mut entries).is_ok());
-        let mut sorted = Vec::new(alloc);
+        let entries = given.to_vec(alloc).expect(&rt, "memory");
+        let mut many = Many {
+            merge: Merge::new(alloc, INSTANCES).expect(&rt, "memory"),
+        };
         for entry in &entries {
-            sorted.push(entry.note.class).expect(&rt, "memory");
+            let instance = entry.instance.min(INSTANCES - 1);
+            assert!(rt; many.push(instance, Mark::Note(entry.note)));
         }
-        assert!(rt; sorted.as_slice() == classes);
+        for instance in 0..INSTANCES {
+            assert!(rt; many.push(instance, Mark::End));
+        }
+        let mut given_back = Vec::new(alloc);
+        for _ in &entries {
+            given_back.push(many.next_class()).expect(&rt, "memory");
+        }
+        let mut wanted = Vec::new(alloc);
+        for class in &classes.to_vec(alloc).expect(&rt, "memory") {
+            wanted.push(Some(*class)).expect(&rt, "memory");
+        }
+        assert!(rt; given_back.as_slice() == wanted.as_slice());
+        assert!(rt; many.next_class().is_none());
     }
     one_order();
     order_keeps_each_instance();

@@ -8,11 +8,11 @@ use Rattle.la_base.specs.declared.wires.Note.{Note}
 use Rattle.la_base.specs.declared.wires.Piece.{Piece}
 use Rattle.la_io.specs.Feeds.{AddsMark}
 use Rattle.listing_out.specs.declared.summaries.Tally.{Tally}
-use Rattle.ldecode.specs.Feeding.{notes_in}
+use Rattle.annot_merge.specs.Marks.{notes_in}
 use Rattle.ldecode.specs.Making.{sum_of}
 use Rattle.ldecode.specs.Tallies.{Counted, with_note, word_tally}
 use Rattle.ldecode.specs.declared.tally_taker.TallyTaker.{TallyTaker}
-use Rattle.ldecode.proofs.NoteLemmas.{notes_in-append}
+use Rattle.annot_merge.proofs.MergeLemmas.{notes_append}
 
 -- the sum of more notes
 sum_more : (xs : List Note) (note : Note) → sum_of (xs ++ note ∷ []) ≡ sum_of xs + note.a
@@ -35,7 +35,7 @@ module _ (before after : ℕ → List Mark) (instance : ℕ) (mark : Mark) (adds
 
   -- those of the instance, with those of the mark
   grown : notes_in (after instance) ≡ notes_in (before instance) ++ notes_in (mark ∷ [])
-  grown = ap notes_in adds.here ∙ notes_in-append (before instance) (mark ∷ [])
+  grown = ap notes_in adds.here ∙ notes_append (before instance) (mark ∷ [])
 
   here : (note : Note) → mark ≡ NoteMark note → (i : ℕ) → i ≡ instance → (old new : Tally) → new ≡ with_note old note → old ≡ word_tally (notes_in (before i)) → new ≡ word_tally (notes_in (after i))
   here note is i same old new counts was =

@@ -1,8 +1,3 @@
-pub mod NoteLemmas
-pub mod FeedLemmas
-pub mod TakerLemmas
-pub mod Collecting
-pub mod NoteLines
 pub mod Choosing
 pub mod Working
 pub mod Asked

@@ -26,14 +26,15 @@ use Rattle.stack_direct.proofs.Telling.{given_at}
 use Rattle.stack_spec.specs.declared.bound.Bound.{Bound}
 use Rattle.listing_out.specs.Summaries.{summary}
 use Rattle.listing_out.specs.declared.summaries.Tally.{Tally}
-use Rattle.ldecode.specs.Decoding.{notes_of}
-use Rattle.ldecode.specs.Feeding.{notes_in}
+use Rattle.decode_job.specs.Listing.{notes_of}
+use Rattle.annot_merge.specs.Marks.{notes_in}
 use Rattle.ldecode.specs.MadeTrees.{IsMadeTree}
 use Rattle.ldecode.specs.Making.{bus_setup, line_setup, made_listing, made_nodes, tally_of}
 use Rattle.ldecode.specs.Tallies.{Counted, word_tally}
 use Rattle.ldecode.specs.declared.tally_taker.TallyTaker.{TallyTaker}
 use Rattle.ldecode.proofs.MadeLaws.{bus_tally, line_tally, made_nothing}
-use Rattle.ldecode.proofs.NoteLemmas.{notes_in-append, notes_in_outs, notes_in_shown}
+use Rattle.annot_merge.proofs.MergeLemmas.{notes_append}
+use Rattle.decode_job.proofs.Listed.{notes_outs, notes_shown}
 
 -- both decoders stand on the samples
 both_roots : IsForest (None ∷ None ∷ [])
@@ -68,11 +69,11 @@ told_notes at_end whole near was now feeds taken told nothing =
     let closed = told.closes refl in
     let reached : shown told.body ≡ marks_of told.new = subst (λ (b : Bool). Reaches b (shown told.body) (marks_of told.new)) closed told.shows in
     ap notes_in (told.made ∙ ap (λ (b : Bool). told.body ++ (if b then EndMark ∷ [] else [])) closed)
-    ∙ notes_in-append told.body (EndMark ∷ [])
+    ∙ notes_append told.body (EndMark ∷ [])
     ∙ append-nil (notes_in told.body)
-    ∙ sym (notes_in_shown told.body)
+    ∙ sym (notes_shown told.body)
     ∙ ap notes_in reached
-    ∙ notes_in_outs told.new
+    ∙ notes_outs told.new
     ∙ sym (ap notes_of (told.adds ∙ ap (λ (l : List Out). l ++ told.new) nothing))
 
 same_some : {X : Type 0} (x y : X) → Some x ≡ Some y → x ≡ y

@@ -1,6 +1,4 @@
 pub mod Decoding
-pub mod Feeding
-pub mod Gathering
 pub mod Asking
 pub mod Chosen
 pub mod Notices

@@ -3,7 +3,7 @@ use Rattle.std.specs.Prelude.{ℕ, ◌≡◌, ◌+◌, ◌%◌, ◌^◌, List, l
 use Rattle.la_base.specs.declared.wires.Mark.{Mark}
 use Rattle.la_base.specs.declared.wires.Note.{Note}
 use Rattle.listing_out.specs.declared.summaries.Tally.{Tally}
-use Rattle.ldecode.specs.Feeding.{notes_in}
+use Rattle.annot_merge.specs.Marks.{notes_in}
 use Rattle.ldecode.specs.Making.{sum_of}
 use Rattle.ldecode.specs.declared.tally_taker.TallyTaker.{TallyTaker}
 

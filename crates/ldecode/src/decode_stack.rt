@@ -7,10 +7,10 @@ ghost use Rattle.words.specs.declared.kinds.Job.TheVariants.{Decode};
 ghost use Rattle.ldecode.specs.Asking.{NamesNoHead};
 ghost use Rattle.ldecode.specs.Headline.{WorksOn, SourceCause, SinkCause, WhereUnread};
 
-use crate::decode::decode;
 use crate::form::form_of;
 use crate::status::{Status, status_at_head};
 use capture_any::Capture;
+use decode_job::decode;
 use la_io::{Sink, Source};
 use stack_spec::{BindError, StackError, bind, read_stack};
 use std::alloc::Global;

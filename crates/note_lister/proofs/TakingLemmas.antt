@@ -1,7 +1,9 @@
 -- What is written of one more mark.
-use Rattle.std.proofs.Common.{◌≡◌, ◌≢◌, inl, inr, ℕ, ◌==◌, ◌≤◌, ◌<◌, Bool, true, false, cond, List, [], ◌∷◌, ◌++◌, length, get_or, Option, Some, None, Ok, Err, refl, sym, ◌∙◌, ap, subst, append_assoc, arith}
-use Rattle.std.specs.Prelude.{IsSome}
-use Rattle.std.specs.Io.KnownBytes.{Appends}
+use Rattle.std.proofs.Common.{◌≡◌, ◌≢◌, inl, inr, ℕ, ◌==◌, ◌≤◌, ◌<◌, Bool, true, false, cond, List, [], ◌∷◌, ◌++◌, ◌+◌, length, get_or, take, drop, Option, Some, None, Ok, Err, refl, sym, ◌∙◌, ap, subst, append_assoc, take-append-drop, arith}
+use Rattle.std.specs.Prelude.{IsNone, IsSome}
+use Rattle.std.specs.Io.KnownBytes.{Appends, Keeps}
+use Rattle.std.proofs.KnownBytes.{Appends-kept}
+use Rattle.std.proofs.lemmas.Option.{none-some}
 use Rattle.std.proofs.lemmas.Bool.{cases_eq}
 use Rattle.std.proofs.lemmas.Bool.Decides.{nat_tests}
 use Rattle.std.proofs.lemmas.Grind.{flat_map-append}
@@ -20,6 +22,7 @@ use Rattle.annot_merge.specs.Bounds.{IsAllowed}
 use Rattle.annot_merge.specs.Held.{Stands, StandsStill, Takes, count_of, held_in}
 use Rattle.annot_merge.specs.Marks.{Begins, Pushes}
 use Rattle.annot_merge.specs.declared.merge.Merge.{Merge}
+use Rattle.annot_merge.proofs.PutLemmas.{first_of}
 use Rattle.note_lister.specs.Data.{bytes_in, wanted_by, wanted_of}
 use Rattle.note_lister.specs.Lines.{shown_line, shown_lines}
 use Rattle.note_lister.specs.Prompt.{Prompts}
@@ -67,6 +70,16 @@ bytes_after wanted before after instance mark adds = by (wanted.0 == instance) r
         differ : (wanted.0 == instance) ≡ false → wanted.0 ≡ instance → ⊥
         differ other same = let equal : (wanted.0 == instance) ≡ true = grind (arith, nat_tests, same) in absurd cc
 
+pub none_is : {X : Type 0} (o : Option X) → IsNone o → o ≡ None
+none_is None is = refl
+none_is (Some x) is = absurd cc
+
+some-none : {X : Type 0} (x : X) → Some x ≡ None → ⊥
+some-none x is = none-some x (sym is)
+
+nothing_front : (old : Option (List ℕ)) (bytes : List ℕ) → AppendsFront old old bytes
+nothing_front old bytes = front_longer old old [] bytes (front_whole old old [] (appends_nothing old))
+
 module _ (accepted : Accepted) where
   -- nothing was taken
   pub nothing_taken : (binary : Option (ℕ × ℕ)) (merge : Merge) (old : Option (List ℕ)) → Stands merge (λ _. []) [] → held_in merge ≡ [] → WritesAll accepted binary merge old old (λ _. [])
@@ -88,12 +101,44 @@ module _ (accepted : Accepted) where
     front = w.front;
   }
 
-  -- it was never stopped
-  pub never_stopped : (merge : Merge) (cause : Option ListStop) (stops : ℕ) (old new : Option (List ℕ)) (failed_old failed_new : ℕ) (marks : ℕ → List Mark) → stops ≡ 0 → Writes accepted merge cause stops old new failed_old failed_new marks
-      → (cause ≡ None) × (failed_new ≡ failed_old) × WritesAll accepted accepted.binary merge old new marks
-  never_stopped merge None stops old new failed_old failed_new marks never w = (refl, w.1, w.2)
-  never_stopped merge (Some Write) stops old new failed_old failed_new marks never w = absurd (w.0 never)
-  never_stopped merge (Some NoMemory) stops old new failed_old failed_new marks never w = absurd (w.0 never)
+  -- there is no cause
+  pub never_stopped : (merge : Merge) (cause : Option ListStop) (stops : ℕ) (old new : Option (List ℕ)) (failed_old failed_new : ℕ) (marks : ℕ → List Mark) → cause ≡ None → Writes accepted merge cause stops old new failed_old failed_new marks
+      → (stops ≡ 0) × (failed_new ≡ failed_old) × WritesAll accepted accepted.binary merge old new marks
+  never_stopped merge None stops old new failed_old failed_new marks never w = w
+  never_stopped merge (Some why) stops old new failed_old failed_new marks never w = absurd (some-none why never)
+
+  -- what was written at once is a front of itself
+  pub all_front : (binary : Option (ℕ × ℕ)) → accepted.binary ≡ binary → (merge : Merge) (old new : Option (List ℕ)) (marks : ℕ → List Mark) → WritesAll accepted binary merge old new marks → WritesFrontOf accepted (count_of merge) old new marks
+  all_front None is merge old new marks w = record {
+    out = shown_lines accepted w.given;
+    prompts = subst (λ b. Prompts accepted b (count_of merge) marks (shown_lines accepted w.given)) (sym is) (record { given = w.given; held = held_in merge; merges = w.stands.merges; prompt = w.prompt; lines = refl });
+    front = front_whole old new (shown_lines accepted w.given) w.lines;
+  }
+  all_front (Some wanted) is merge old new marks w = record {
+    out = bytes_in wanted.1 (marks wanted.0);
+    prompts = subst (λ b. Prompts accepted b (count_of merge) marks (bytes_in wanted.1 (marks wanted.0))) (sym is) refl;
+    front = front_whole old new (bytes_in wanted.1 (marks wanted.0)) w;
+  }
+
+  -- it stays written
+  all_kept : (binary : Option (ℕ × ℕ)) (merge : Merge) (old mid new : Option (List ℕ)) (marks : ℕ → List Mark) → Keeps mid new → WritesAll accepted binary merge old mid marks → WritesAll accepted binary merge old new marks
+  all_kept None merge old mid new marks kept w = record { given = w.given; stands = w.stands; prompt = w.prompt; lines = Appends-kept old mid new (shown_lines accepted w.given) w.lines kept }
+  all_kept (Some wanted) merge old mid new marks kept w = Appends-kept old mid new (bytes_in wanted.1 (marks wanted.0)) w kept
+
+  -- a pause
+  module _ (merge : Merge) (cause : Option ListStop) (stops : ℕ) (old mid new : Option (List ℕ)) (failed_old failed_mid failed_new : ℕ) (marks : ℕ → List Mark) (never : cause ≡ None) (kept : Keeps mid new) (w : Writes accepted merge cause stops old mid failed_old failed_mid marks) where
+    all_still : WritesAll accepted accepted.binary merge old new marks
+    all_still = all_kept accepted.binary merge old mid new marks kept (never_stopped merge cause stops old mid failed_old failed_mid marks never w).2
+
+    pub pause_kept : failed_new ≡ failed_mid → Writes accepted merge cause stops old new failed_old failed_new marks × WritesAll accepted accepted.binary merge old new marks
+    pause_kept same =
+        let had = never_stopped merge cause stops old mid failed_old failed_mid marks never w in
+        (subst (λ c. Writes accepted merge c stops old new failed_old failed_new marks) (sym never) (had.0, same ∙ had.1, all_still), all_still)
+
+    pub pause_fails : failed_mid ≤ failed_new → Rose failed_mid failed_new → Writes accepted merge (Some Write) stops old new failed_old failed_new marks × WritesAll accepted accepted.binary merge old new marks
+    pause_fails later rose =
+        let had = never_stopped merge cause stops old mid failed_old failed_mid marks never w in
+        ((omega (arith, had.1, later), subst (λ (n : ℕ). Rose n failed_new) had.1 rose, stopped_now (count_of merge) old new marks (all_front accepted.binary refl merge old new marks all_still)), all_still)
 
   module _ (before after : ℕ → List Mark) (instance : ℕ) (mark : Mark) (adds : AddsMark before after instance mark) where
     -- it was stopped before
@@ -109,10 +154,10 @@ module _ (accepted : Accepted) where
       front = w.front;
     }
 
-    pub stopped_again : (merge : Merge) (cause : Option ListStop) (stops more : ℕ) (old new : Option (List ℕ)) (failed_old failed_new : ℕ) → stops ≢ 0 → more ≢ 0 → Writes accepted merge cause stops old new failed_old failed_new before
+    pub stopped_again : (merge : Merge) (cause : Option ListStop) (stops more : ℕ) (old new : Option (List ℕ)) (failed_old failed_new : ℕ) → IsSome cause → more ≢ 0 → Writes accepted merge cause stops old new failed_old failed_new before
         → Writes accepted merge cause more old new failed_old failed_new after
-    stopped_again merge None stops more old new failed_old failed_new some again w = absurd (some w.0)
-    stopped_again merge (Some Write) stops more old new failed_old failed_new some again w = (again, w.1, w.2, front_later (count_of merge) old new w.3)
+    stopped_again merge None stops more old new failed_old failed_new some again w = absurd cc
+    stopped_again merge (Some Write) stops more old new failed_old failed_new some again w = (w.0, w.1, front_later (count_of merge) old new w.2)
     stopped_again merge (Some NoMemory) stops more old new failed_old failed_new some again w = (again, w.1, front_later (count_of merge) old new w.2)
 
     -- binary data is wanted
@@ -171,21 +216,26 @@ module _ (accepted : Accepted) where
           front_of (count_of last) old new w.given (one_more (count_of last) before after w.given (held_in last) instance mark within (still before w.given w.stands).merges (as_pushed before after instance mark adds))
           (front_whole old new (shown_lines accepted w.given) w.lines)
 
+    -- nothing is written of it
+    pub cut_first : (binary : Option (ℕ × ℕ)) → accepted.binary ≡ binary → (merge : Merge) (old new : Option (List ℕ)) → instance < count_of merge → WritesAll accepted binary merge old new before → WritesFrontOf accepted (count_of merge) old new after
+    cut_first None is merge old new within w = lines_cut is merge merge old new within w (λ marks given s. s)
+    cut_first (Some wanted) is merge old new within w = data_front (Some wanted) refl is merge old new new w (nothing_front new (wanted_of wanted instance mark))
+
     -- what was written before, and how often the sink had failed
-    module _ (merge : Merge) (cause : Option ListStop) (stops : ℕ) (old mid new : Option (List ℕ)) (failed_old failed_mid failed_new : ℕ) (never : stops ≡ 0) (w : Writes accepted merge cause stops old mid failed_old failed_mid before) where
-      had : (cause ≡ None) × (failed_mid ≡ failed_old) × WritesAll accepted accepted.binary merge old mid before
+    module _ (merge : Merge) (cause : Option ListStop) (stops : ℕ) (old mid new : Option (List ℕ)) (failed_old failed_mid failed_new : ℕ) (never : cause ≡ None) (w : Writes accepted merge cause stops old mid failed_old failed_mid before) where
+      had : (stops ≡ 0) × (failed_mid ≡ failed_old) × WritesAll accepted accepted.binary merge old mid before
       had = never_stopped merge cause stops old mid failed_old failed_mid before never w
 
       -- all of it
       goes_well : (last : Merge) → failed_new ≡ failed_mid → WritesAll accepted accepted.binary last old new after → Writes accepted last cause stops old new failed_old failed_new after
-      goes_well last kept all = subst (λ c. Writes accepted last c stops old new failed_old failed_new after) (sym had.0) (never, kept ∙ had.1, all)
+      goes_well last kept all = subst (λ c. Writes accepted last c stops old new failed_old failed_new after) (sym never) (had.0, kept ∙ had.1, all)
 
       -- a write failed
       fails : (last : Merge) (now : Option ListStop) (more : ℕ) → now ≡ Some Write → more ≢ 0 → failed_mid ≤ failed_new → Rose failed_mid failed_new → WritesFrontOf accepted (count_of last) old new after
           → Writes accepted last now more old new failed_old failed_new after × WritesFrontOf accepted (count_of last) old new after
       fails last now more is some later rose front = (
         subst (λ c. Writes accepted last c more old new failed_old failed_new after) (sym is)
-            (some, omega (arith, had.1, later), subst (λ (n : ℕ). Rose n failed_new) had.1 rose, stopped_now (count_of last) old new after front),
+            (omega (arith, had.1, later), subst (λ (n : ℕ). Rose n failed_new) had.1 rose, stopped_now (count_of last) old new after front),
         front,
       )
 
@@ -209,7 +259,7 @@ module _ (accepted : Accepted) where
         mark_fails failed now more is again later rose takes lists = fails last now more is again later rose (lines_front notes merge mid_merge last old mid new failed lines takes lists)
 
     -- there was no memory for it
-    pub mark_cut : (merge : Merge) (cause : Option ListStop) (stops : ℕ) (old new : Option (List ℕ)) (failed_old failed_new : ℕ) → stops ≡ 0 → Writes accepted merge cause stops old new failed_old failed_new before → accepted.binary ≡ None
+    pub mark_cut : (merge : Merge) (cause : Option ListStop) (stops : ℕ) (old new : Option (List ℕ)) (failed_old failed_new : ℕ) → cause ≡ None → Writes accepted merge cause stops old new failed_old failed_new before → accepted.binary ≡ None
         → (last : Merge) (now : Option ListStop) (more : ℕ) → now ≡ Some NoMemory → more ≢ 0 → instance < count_of last → StandsStill merge last → Writes accepted last now more old new failed_old failed_new after × WritesFrontOf accepted (count_of last) old new after
     mark_cut merge cause stops old new failed_old failed_new never w notes last now more is again within still =
         let h = never_stopped merge cause stops old new failed_old failed_new before never w in
@@ -218,13 +268,29 @@ module _ (accepted : Accepted) where
           front,
         )
 
--- a note more that was given
-pub listed_more : (accepted : Accepted) (old mid new : Option (List ℕ)) (more : List Entry) (e : Entry) → Appends old mid (shown_lines accepted more) → Appends mid new (shown_line accepted e) → Appends old new (shown_lines accepted (more ++ e ∷ []))
-listed_more accepted old mid new more e had one =
-    appends_on old mid new (shown_lines accepted more) (shown_line accepted e) (shown_lines accepted (more ++ e ∷ [])) had one
-    (ap (λ (l : List ℕ). shown_lines accepted more ++ l) (sym (append-nil (shown_line accepted e))) ∙ sym (flat_map-append (shown_line accepted) more (e ∷ [])))
+-- more notes that were given
+pub listed_more : (accepted : Accepted) (old mid new : Option (List ℕ)) (more run : List Entry) → Appends old mid (shown_lines accepted more) → Appends mid new (shown_lines accepted run) → Appends old new (shown_lines accepted (more ++ run))
+listed_more accepted old mid new more run had one =
+    appends_on old mid new (shown_lines accepted more) (shown_lines accepted run) (shown_lines accepted (more ++ run)) had one
+    (sym (flat_map-append (shown_line accepted) more run))
 
-pub listed_front : (accepted : Accepted) (old mid new : Option (List ℕ)) (more : List Entry) (e : Entry) → Appends old mid (shown_lines accepted more) → AppendsFront mid new (shown_line accepted e) → AppendsFront old new (shown_lines accepted (more ++ e ∷ []))
-listed_front accepted old mid new more e had one =
-    subst (AppendsFront old new) (ap (λ (l : List ℕ). shown_lines accepted more ++ l) (sym (append-nil (shown_line accepted e))) ∙ sym (flat_map-append (shown_line accepted) more (e ∷ [])))
-    (front_on old mid new (shown_lines accepted more) (shown_line accepted e) had one)
+pub listed_front : (accepted : Accepted) (old mid new : Option (List ℕ)) (more run : List Entry) → Appends old mid (shown_lines accepted more) → AppendsFront mid new (shown_lines accepted run) → AppendsFront old new (shown_lines accepted (more ++ run))
+listed_front accepted old mid new more run had one =
+    subst (AppendsFront old new) (sym (flat_map-append (shown_line accepted) more run))
+    (front_on old mid new (shown_lines accepted more) (shown_lines accepted run) had one)
+
+-- the lines of some notes, and a front of the next one's
+pub front_so_far : (accepted : Accepted) (old mid new : Option (List ℕ)) (es : List Entry) (i : ℕ) (e : Entry) → i < length es → e ≡ get_or es i e → Appends old mid (shown_lines accepted (take i es)) → AppendsFront mid new (shown_line accepted e)
+    → AppendsFront old new (shown_lines accepted es)
+front_so_far accepted old mid new es i e within is had one =
+    subst (λ (l : List Entry). AppendsFront old new (shown_lines accepted l)) (ap (λ (l : List Entry). take i es ++ l) (sym (first_of es i e within is)) ∙ take-append-drop i es)
+    (listed_front accepted old mid new (take i es) (e ∷ drop (i + 1) es) had (front_longer mid new (shown_line accepted e) (shown_lines accepted (drop (i + 1) es)) one))
+
+pub front_of_some : (accepted : Accepted) (old new : Option (List ℕ)) (es : List Entry) (i : ℕ) → Appends old new (shown_lines accepted (take i es)) → AppendsFront old new (shown_lines accepted es)
+front_of_some accepted old new es i had =
+    subst (λ (l : List Entry). AppendsFront old new (shown_lines accepted l)) (take-append-drop i es)
+    (listed_front accepted old new new (take i es) (drop i es) had (nothing_front new (shown_lines accepted (drop i es))))
+
+pub no_entries : (es : List Entry) → length es ≡ 0 → es ≡ []
+no_entries [] none = refl
+no_entries (e ∷ es) none = absurd (omega (arith, none))

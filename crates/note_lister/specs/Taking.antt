@@ -52,14 +52,14 @@ pub record WritesFront (accepted : Accepted) (count : ℕ) (old new : Option (Li
   pub prompts : Prompts accepted accepted.binary count first out
   pub front : AppendsFront old new out
 
--- what was written, by the cause for which the taking was stopped, if it was; and how often the
--- sink failed
+-- what was written, by the cause for which nothing more is written, if there is one; and how often
+-- the sink failed
 abbrev pub Writes : Accepted → Merge → Option ListStop → ℕ → Option (List ℕ) → Option (List ℕ) → ℕ
     → ℕ → (ℕ → List Mark) → Type 0
 Writes accepted merge None stops old new failed_old failed_new marks =
     (stops ≡ 0) × (failed_new ≡ failed_old) × WritesAll accepted accepted.binary merge old new marks
 Writes accepted merge (Some Write) stops old new failed_old failed_new marks =
-    (stops ≢ 0) × (failed_old ≤ failed_new) × Rose failed_old failed_new
+    (failed_old ≤ failed_new) × Rose failed_old failed_new
     × WritesFront accepted (count_of merge) old new marks
 Writes accepted merge (Some NoMemory) stops old new failed_old failed_new marks =
     (stops ≢ 0) × (failed_new ≡ failed_old) × WritesFront accepted (count_of merge) old new marks
@@ -109,6 +109,10 @@ pub record Took {K : Type 0} (written : K → Option (List ℕ)) (faults : K →
   pub writes : Writes (stack_meaning lister.stack.now) lister.merge lister.cause lister.stops
       (written (first_sink lister)) (written (sink_of lister)) (faults (first_sink lister))
       (faults (sink_of lister)) marks
+  -- where it wasn't stopped yet, all was written at once
+  pub at_pause : lister.stops ≡ 0 → WritesAll (stack_meaning lister.stack.now)
+      (stack_meaning lister.stack.now).binary lister.merge (written (first_sink lister))
+      (written (sink_of lister)) marks
   -- where it was stopped once, that was at the last of these marks
   pub at_stop : lister.stops ≡ 1 → WritesFrontOf (stack_meaning lister.stack.now)
       (count_of lister.merge) (written (first_sink lister)) (written (sink_of lister)) marks
@@ -121,7 +125,7 @@ SameOrigin old new = (new.stack ≡ old.stack) × (new.first ≡ old.first)
 
 -- with true: it wasn't stopped yet; with false: it was stopped once, and its cause is there
 abbrev pub Goes : {K : Type 0} → Bool → Lister K → Type 0
-Goes true lister = (stops_of lister ≡ 0) × (cause_of lister ≡ None)
+Goes true lister = stops_of lister ≡ 0
 Goes false lister = (stops_of lister ≡ 1) × IsSome (cause_of lister)
 
 -- a call is stopped for this cause, by how often the sink had failed before it and has now
@@ -130,7 +134,7 @@ StopsFor None before now = ⊥
 StopsFor (Some Write) before now = Rose before now
 StopsFor (Some NoMemory) before now = now ≡ before
 
--- behind a stop a call is stopped again: nothing is written, and the cause stays
+-- where there is a cause, a call is stopped for it: nothing is written, and the cause stays
 pub record StaysStopped {K : Type 0} (old new : Lister K) (result : Result (Unit {0}) Stopped)
     : Type 0 where
   pub stopped : IsErr result

@@ -6,7 +6,7 @@ ghost use Rattle.note_order.specs.declared.entry.Entry.{Entry};
 ghost use Rattle.la_io.specs.Causes.{HasCause, AppendsFront};
 ghost use Rattle.stack_spec.specs.Stacks.{stack_meaning};
 ghost use Rattle.annot_merge.specs.Held.{Stands, count_of};
-ghost use Rattle.note_lister.specs.Lines.{shown_line};
+ghost use Rattle.note_lister.specs.Lines.{shown_line, shown_lines};
 ghost use Rattle.note_lister.specs.Ready.{ListsReady};
 
 use annot_merge::{Entry, Merge};
@@ -44,6 +44,31 @@ fn write_shown<K: Sink>(
     )
 }
 
+// Writes the lines of notes, those of instances that are shown.
+#[inline(always)]
+fn write_lines<K: Sink>(
+    line: &mut NoteLine,
+    stack: &Stack,
+    entries: &[Entry],
+    sink: &mut K,
+) -> Result<(), Failed>
+    ensures whole { OnOk result
+        (Appends (K.written sink.old) (K.written sink.new)
+        (shown_lines (stack_meaning stack.now) entries.now)) }
+    ensures front { AppendsFront (K.written sink.old) (K.written sink.new)
+        (shown_lines (stack_meaning stack.now) entries.now) }
+    ensures cause { HasCause (K.faults sink.old) (K.faults sink.new) result }
+    ensures goes_on { K.goes_on sink.old sink.new }
+{
+    for entry in entries {
+        match write_shown(line, stack, entry, sink) {
+            Ok(()) => {}
+            Err(Failed) => return Err(Failed),
+        }
+    }
+    Ok(())
+}
+
 /// Writes the lines of all notes that may be given.
 #[inline(never)]
 pub fn list_ready<K: Sink>(
@@ -59,12 +84,17 @@ pub fn list_ready<K: Sink>(
     ensures cause { HasCause (K.faults sink.old) (K.faults sink.new) result }
     ensures goes_on { K.goes_on sink.old sink.new }
 {
-    while let Some((instance, note)) = merge.ready() {
-        let entry = Entry { instance, note };
-        match write_shown(line, stack, &entry, sink) {
+    loop {
+        let entries = merge.ready_notes();
+        let count = entries.len();
+        if count == 0 {
+            return Ok(());
+        }
+        let written = write_lines(line, stack, entries, sink);
+        merge.let_go(count);
+        match written {
             Ok(()) => {}
             Err(Failed) => return Err(Failed),
         }
     }
-    Ok(())
 }

@@ -18,14 +18,15 @@ pub struct Lister<'a, 'b, K> {
     pub sink: &'b mut K,
     pub(crate) merge: Merge,
     pub(crate) line: NoteLine,
-    /// Why the taking was stopped; none where it wasn't.
+    /// Why nothing more is written; none where there was no fault. The next mark is stopped for it.
     pub cause: Option<ListStop>,
     pub(crate) stops: u64,
-    // Each mark goes to the merge: notes are listed, and it wasn't stopped.
+    // Each mark goes to the merge: notes are listed, and there was no fault.
     pub(crate) merges: bool,
     // What it was lent. Contracts alone read it.
     pub(crate) first: Snapshot<&'b mut K>,
-    ghost going: { merges ≡ true → stops ≡ 0 },
+    ghost quiet: { cause ≡ None → stops ≡ 0 },
+    ghost going: { merges ≡ true → cause ≡ None },
     ghost notes: { merges ≡ true → (stack_meaning stack.now).binary ≡ None },
-    ghost wanted: { merges ≡ false → stops ≡ 0 → IsSome (stack_meaning stack.now).binary },
+    ghost wanted: { merges ≡ false → cause ≡ None → IsSome (stack_meaning stack.now).binary },
 }

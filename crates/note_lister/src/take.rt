@@ -1,5 +1,6 @@
 // Taking marks.
-ghost use Rattle.std.specs.Prelude.{◌≡◌, ◌≢◌, ◌<◌, [], IfOk, IsErr, IsSome, OnErr, OnOk, Some};
+ghost use Rattle.std.specs.Prelude.{◌≡◌, ◌≢◌, ◌<◌, [], IfOk, IsErr, IsSome, None, OnErr, OnOk};
+ghost use Rattle.std.specs.Prelude.{Some};
 ghost use Rattle.std.specs.Prelude.{false, length, true};
 ghost use Rattle.annot_merge.specs.Held.{Stands, count_of, held_in};
 ghost use Rattle.std.specs.Result.{is_ok};
@@ -74,11 +75,11 @@ fn stop(
     Err(Stopped)
 }
 
-// It was stopped before.
+// There is a cause already.
 #[cold]
 fn stop_again(stops: &mut u64) -> Result<(), Stopped>
-    requires { stops.old ≢ 0 }
-    ensures stops { 1 < stops.new }
+    ensures first { stops.old ≡ 0 → stops.new ≡ 1 }
+    ensures again { stops.old ≢ 0 → 1 < stops.new }
     ensures rose { HasCause stops.old stops.new result }
     ensures stopped { IsErr result }
 {
@@ -175,7 +176,7 @@ impl<'a, 'b, K: Sink> Lister<'a, 'b, K> {
 
     // Takes a mark where binary data is wanted.
     fn take_data(&mut self, instance: u32, mark: Mark) -> Result<(), Stopped>
-        requires never { stops_of self.old ≡ 0 }
+        requires never { cause_of self.old ≡ None }
         requires wanted { IsSome (stack_meaning (stack_of self.old)).binary }
         ensures adds { TakesMark (Took K.written K.faults K.goes_on self.old)
             (Took K.written K.faults K.goes_on self.new) instance mark }
@@ -200,18 +201,19 @@ impl<'a, 'b, K: Sink> Lister<'a, 'b, K> {
     // Takes a mark that doesn't go to the merge.
     #[inline(never)]
     fn take_apart(&mut self, instance: u32, mark: Mark) -> Result<(), Stopped>
-        requires { merges_in self.old ≡ false }
+        requires within { instance < instances_of self.old }
+        requires apart { merges_in self.old ≡ false }
         ensures adds { TakesMark (Took K.written K.faults K.goes_on self.old)
             (Took K.written K.faults K.goes_on self.new) instance mark }
         ensures instances { instances_of self.new ≡ instances_of self.old }
         ensures cause { HasCause (stops_of self.old) (stops_of self.new) result }
         ensures going { Goes true self.old → Goes (is_ok result) self.new }
         ensures origin { SameOrigin self.old self.new }
-        ensures why { stops_of self.old ≡ 0 → OnErr result (StopsFor (cause_of self.new)
+        ensures why { cause_of self.old ≡ None → OnErr result (StopsFor (cause_of self.new)
             (K.faults (sink_of self.old)) (K.faults (sink_of self.new))) }
-        ensures behind { stops_of self.old ≢ 0 → StaysStopped self.old self.new result }
+        ensures behind { IsSome (cause_of self.old) → StaysStopped self.old self.new result }
     {
-        if self.stops > 0 {
+        if self.cause.is_some() {
             return stop_again(&mut self.stops);
         }
         self.take_data(instance, mark)
@@ -224,7 +226,7 @@ impl<'a, 'b, K: Sink> Lister<'a, 'b, K> {
         self.merge.held()
     }
 
-    /// Why the taking was stopped; none where it wasn't.
+    /// Why nothing more is written; none where there was no fault.
     pub fn cause(&self) -> Option<ListStop>
         ensures { result ≡ cause_of self.now }
     {
@@ -247,7 +249,7 @@ impl<'a, 'b, K: Sink> MarkTake for Lister<'a, 'b, K> {
 
     ghost origin = { λ lister. (lister.stack, lister.first) };
 
-    /// Takes the next mark of an instance. Once it has stopped, it stops at each mark, and writes
+    /// Takes the next mark of an instance. Once there is a cause, it stops at each mark, and writes
     /// nothing.
     #[inline(always)]
     fn take(&mut self, instance: u32, mark: Mark) -> Result<(), Stopped>
@@ -258,14 +260,29 @@ impl<'a, 'b, K: Sink> MarkTake for Lister<'a, 'b, K> {
         ensures cause { HasCause (stops_of self.old) (stops_of self.new) result }
         ensures going { Goes true self.old → Goes (is_ok result) self.new }
         ensures origin { SameOrigin self.old self.new }
-        ensures why { stops_of self.old ≡ 0 → OnErr result (StopsFor (cause_of self.new)
+        ensures why { cause_of self.old ≡ None → OnErr result (StopsFor (cause_of self.new)
             (K.faults (sink_of self.old)) (K.faults (sink_of self.new))) }
-        ensures behind { stops_of self.old ≢ 0 → StaysStopped self.old self.new result }
+        ensures behind { IsSome (cause_of self.old) → StaysStopped self.old self.new result }
     {
         if self.merges {
             self.take_mark(instance, mark)
         } else {
             self.take_apart(instance, mark)
+        }
+    }
+
+    /// Has the sink hand on what it keeps back. Where the sink fails, the next mark is stopped for
+    /// it.
+    fn pause(&mut self) {
+        if self.cause.is_some() {
+            return;
+        }
+        match self.sink.hand_on() {
+            Ok(()) => {}
+            Err(Failed) => {
+                self.cause = Some(ListStop::Write);
+                self.merges = false;
+            }
         }
     }
 }

@@ -1,4 +1,2 @@
 pub mod SortLemmas
 pub mod Entries
-mod Groups
-pub mod Swaps

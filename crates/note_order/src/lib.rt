@@ -3,11 +3,7 @@
 #![tactic(auto)]
 
 mod entry;
-mod group;
 mod laws;
-mod settle;
-mod sort;
 
 pub use entry::Entry;
 pub use laws::{instances_make_the_listing, one_order, order_keeps_each_instance};
-pub use sort::sort_entries;

@@ -33,6 +33,8 @@ mod sheets;
 #[cfg(test)]
 mod stacks;
 #[cfg(test)]
+mod streaming;
+#[cfg(test)]
 mod streams;
 #[cfg(test)]
 mod tables;

@@ -18,7 +18,7 @@ use Rattle.decoder_set.specs.Setups.{outs_of}
 use Rattle.stack_direct.specs.Passing.{IsForest}
 use Rattle.stack_direct.specs.Runs.{nodes_of as tree_nodes}
 use Rattle.decoder_set.specs.declared.setup.Setup.{Setup}
-use Rattle.ldecode.specs.Decoding.{tree_output}
+use Rattle.decode_job.specs.Listing.{tree_output}
 use Rattle.ldecode.specs.Headline.{WorksOn}
 use Rattle.ldecode.specs.declared.status.Status.{Status}
 use Rattle.ldecode.specs.declared.status.Status.TheVariants.{Bind}

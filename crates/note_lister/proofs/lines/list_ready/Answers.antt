@@ -1,25 +1,25 @@
-use Rattle.std.proofs.Common.{List, [], ◌∷◌, ◌++◌, ◌∙◌, subst, append_assoc}
-use Rattle.note_order.specs.Order.{entry_of}
+use Rattle.std.proofs.Common.{List, ◌++◌, ◌∙◌, refl, subst, append_assoc, arith}
 use Rattle.note_order.specs.declared.entry.Entry.{Entry}
 use Rattle.stack_spec.specs.Stacks.{stack_meaning}
-use Rattle.annot_merge.specs.Held.{Stands}
-use Rattle.note_lister.proofs.TakingLemmas.{listed_front, listed_more}
+use Rattle.annot_merge.specs.Held.{GivesAll, GivesNone, Stands}
+use Rattle.note_lister.proofs.TakingLemmas.{listed_front, listed_more, no_entries}
 use Rattle.note_lister.proofs.lines.list_ready.Goals as goal
 
-pub loop-instance-preserved : goal.loop-instance-preserved
-loop-instance-preserved g c =
+pub loop-entries-preserved : goal.loop-entries-preserved
+loop-entries-preserved g c =
     let k = g.K.Sink in
-    let i = c.loop-instance.invariant in
+    let i = c.loop-entries.invariant in
     let e = c.in-Ok.ensures in
-    let entry = entry_of c.in-Some.instance c.in-Some.note in
+    let run = c.ready_notes-entries.result.now in
+    let given_all : GivesAll c.loop-entries.merge c.let_go.new.self run = c.let_go.ensures.gives run refl (c.ready_notes-entries.ensures.ready (omega (arith, c.if-count-eq0.false))) in
     record {
-      count = c.ready.ensures.count ∙ i.count;
+      count = c.let_go.ensures.count ∙ i.count;
       lists = λ marks given s.
           let had = i.lists marks given s in
           record {
-            more = had.more ++ entry ∷ [];
-            stands = subst (λ (l : List Entry). Stands c.ready.new.self marks l) (append_assoc given had.more (entry ∷ [])) (c.in-Some.ensures.gives.stands marks (given ++ had.more) had.stands).1;
-            lines = listed_more (stack_meaning c.args.stack.now) (k.written c.args.sink.now) (k.written c.loop-instance.sink) (k.written c.write_shown.new.sink) had.more entry had.lines e.whole;
+            more = had.more ++ run;
+            stands = subst (λ (l : List Entry). Stands c.let_go.new.self marks l) (append_assoc given had.more run) (given_all.stands marks (given ++ had.more) had.stands).1;
+            lines = listed_more (stack_meaning c.args.stack.now) (k.written c.args.sink.now) (k.written c.loop-entries.sink) (k.written c.write_lines-written.new.sink) had.more run had.lines e.whole;
           };
       faults = e.cause.kept ∙ i.faults;
       goes_on = g.met.K.Sink.goes_on_further _ _ _ i.goes_on e.goes_on;
@@ -28,17 +28,18 @@ loop-instance-preserved g c =
 pub returns-in-Err-clause-lists : goal.returns-in-Err-clause-lists
 returns-in-Err-clause-lists g c = λ marks given s.
     let k = g.K.Sink in
-    let had = c.loop-instance.invariant.lists marks given s in
-    let entry = entry_of c.in-Some.instance c.in-Some.note in
+    let had = c.loop-entries.invariant.lists marks given s in
+    let run = c.ready_notes-entries.result.now in
+    let given_all : GivesAll c.loop-entries.merge c.let_go.new.self run = c.let_go.ensures.gives run refl (c.ready_notes-entries.ensures.ready (omega (arith, c.if-count-eq0.false))) in
     record {
-      more = had.more ++ entry ∷ [];
-      stands = subst (λ (l : List Entry). Stands c.ready.new.self marks l) (append_assoc given had.more (entry ∷ [])) (c.in-Some.ensures.gives.stands marks (given ++ had.more) had.stands).1;
-      front = listed_front (stack_meaning c.args.stack.now) (k.written c.args.sink.now) (k.written c.loop-instance.sink) (k.written c.write_shown.new.sink) had.more entry had.lines c.in-Err.ensures.front;
+      more = had.more ++ run;
+      stands = subst (λ (l : List Entry). Stands c.let_go.new.self marks l) (append_assoc given had.more run) (given_all.stands marks (given ++ had.more) had.stands).1;
+      front = listed_front (stack_meaning c.args.stack.now) (k.written c.args.sink.now) (k.written c.loop-entries.sink) (k.written c.write_lines-written.new.sink) had.more run had.lines c.in-Err.ensures.front;
     }
 
-pub returns-clause-lists : goal.returns-clause-lists
-returns-clause-lists g c = λ marks given s.
-    let had = c.loop-instance.invariant.lists marks given s in
-    let none = c.in_default.ensures.none in
+pub returns-then-count-eq0-clause-lists : goal.returns-then-count-eq0-clause-lists
+returns-then-count-eq0-clause-lists g c = λ marks given s.
+    let had = c.loop-entries.invariant.lists marks given s in
+    let none : GivesNone c.loop-entries.merge c.loop-entries.merge = c.ready_notes-entries.ensures.none (no_entries c.ready_notes-entries.result.now c.if-count-eq0.true) in
     let still = none.stands marks (given ++ had.more) had.stands in
     (record { more = had.more; stands = still; lines = had.lines }, none.none marks (given ++ had.more) still)

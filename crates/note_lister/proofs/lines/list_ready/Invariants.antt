@@ -7,8 +7,8 @@ use Rattle.note_lister.specs.Ready.{ListsAll}
 use Rattle.note_lister.proofs.lines.list_ready.Given as goal
 
 -- the lines of the notes given so far are written
-abbrev pub invariant-loop-instance : goal.invariant-loop-instance
-invariant-loop-instance g l =
+abbrev pub invariant-loop-entries : goal.invariant-loop-entries
+invariant-loop-entries g l =
     let k = g.K.Sink in
     record {
       count : count_of l.merge ≡ count_of l.fn.merge;
@@ -17,5 +17,5 @@ invariant-loop-instance g l =
       goes_on : k.goes_on l.fn.sink l.sink;
     }
 
-abbrev pub decreases-loop-instance : goal.decreases-loop-instance
-decreases-loop-instance g l = length (held_in l.merge)
+abbrev pub decreases-loop-entries : goal.decreases-loop-entries
+decreases-loop-entries g l = length (held_in l.merge)

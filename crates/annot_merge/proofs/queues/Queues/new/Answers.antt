@@ -1,5 +1,5 @@
 use Rattle.std.proofs.Common.{◌∙◌, sym, ap, subst, List, Option, ℕ, length, arith}
-use Rattle.annot_merge.specs.Limits.{IsLimit}
+use Rattle.annot_merge.specs.Limits.{Leads}
 use Rattle.annot_merge.proofs.HoldLemmas.{arranged_empty, empty_queues_hold}
 use Rattle.annot_merge.proofs.queues.Queues.new.Goals as goal
 
@@ -10,7 +10,7 @@ invariant_of-result c =
     let many = c.in-Ok.ensures.0 in
     let wide = c.in-Ok-same_bounds.ensures.0 in
     record {
-      arranged = arranged_empty queues heads c.limit_of-least.result c.in-Ok.ensures.1 c.in-Ok-same_bounds.ensures.1 (wide ∙ sym many) (omega (arith, many, c.ranges.count.fits))
-          (subst (λ (l : List (Option ℕ)). IsLimit l c.limit_of-least.result) c.deref.ensures.value c.limit_of-least.ensures);
+      arranged = arranged_empty queues heads c.lead_of-lead.result c.in-Ok.ensures.1 c.in-Ok-same_bounds.ensures.1 (wide ∙ sym many) (omega (arith, many, c.ranges.count.fits))
+          (subst (λ (l : List (Option ℕ)). Leads l c.lead_of-lead.result) c.deref.ensures.value c.lead_of-lead.ensures);
       many_are = ap length (sym (empty_queues_hold queues c.in-Ok.ensures.1));
     }

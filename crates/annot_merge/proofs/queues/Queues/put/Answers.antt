@@ -1,12 +1,13 @@
-use Rattle.std.proofs.Common.{◌∙◌, refl, sym, ap, subst, Some, List, ℕ, Option, arith, ◌≡◌, ◌<◌, length, slice_get, set}
-use Rattle.std.proofs.lemmas.Option.{slice_get-get_or}
-use Rattle.std.proofs.lemmas.List.{get_or-set_same}
+use Rattle.std.proofs.Common.{◌∙◌, refl, sym, ap, subst, Some, List, arith, ◌≡◌, [], ◌∷◌, ◌++◌, length, slice_get, set}
+use Rattle.std.proofs.lemmas.Option.{same_Some, slice_get-get_or}
 use Rattle.note_order.specs.Order.{entry_of, in_order}
 use Rattle.note_order.specs.declared.entry.Entry.{Entry}
-use Rattle.annot_merge.specs.Limits.{IsLimit}
-use Rattle.annot_merge.specs.Queues.{Arranged, all_of, head_of, listing_of, live}
+use Rattle.annot_merge.specs.Merging.{InOrder, PutsIn}
+use Rattle.annot_merge.specs.Queues.{Arranged, all_of, head_of, listing_of, lists_of, live}
 use Rattle.annot_merge.specs.declared.queue.Queue.{Queue}
-use Rattle.annot_merge.proofs.HoldLemmas.{arranged_more, few, many_more, put_listing, same_lists, same_option, set_same, width}
+use Rattle.annot_merge.proofs.HoldLemmas.{arranged_last, arranged_more, fits_back, many_more, put_listing, same_lists}
+use Rattle.annot_merge.proofs.LimitLemmas.{get_set_here}
+use Rattle.annot_merge.proofs.RunLemmas.{set_set}
 use Rattle.annot_merge.proofs.queues.Queues.put.Goals as goal
 
 pub invariant_of-self : goal.invariant_of-self
@@ -14,9 +15,9 @@ invariant_of-self c =
     let m = c.args.self.now in
     let q = c.index_mut.result.now in
     let at : slice_get m.queues.items c.args.instance ≡ Some q = slice_get-get_or m.queues.items c.args.instance q (omega (arith, c.requires, m.queues.ok.0)) ∙ ap (λ (x : Queue). Some x) (sym c.index_mut.ensures.value) in
-    let same = same_lists m.queues.items m.heads.items m.least m.arranged c.args.instance q c.put.new.self at c.in-Err.ensures.kept in
+    let same = same_lists m.queues.items m.heads.items m.lead m.arranged c.args.instance q c.push.new.self at c.in-Err.ensures.kept in
     record {
-      arranged = subst (λ (l : List (List Entry)). ∥ Arranged l m.heads.items m.least ∥₁) (sym same) m.arranged;
+      arranged = subst (λ (l : List (List Entry)). ∥ Arranged l m.heads.items m.lead ∥₁) (sym same) m.arranged;
       many_are = m.many_are ∙ ap (λ (l : List (List Entry)). length (in_order (all_of l))) (sym same);
     }
 
@@ -25,90 +26,65 @@ returns-in-Err-clause-kept c =
     let m = c.args.self.now in
     let q = c.index_mut.result.now in
     let at : slice_get m.queues.items c.args.instance ≡ Some q = slice_get-get_or m.queues.items c.args.instance q (omega (arith, c.requires, m.queues.ok.0)) ∙ ap (λ (x : Queue). Some x) (sym c.index_mut.ensures.value) in
-    ap (λ (l : List (List Entry)). in_order (all_of l)) (same_lists m.queues.items m.heads.items m.least m.arranged c.args.instance q c.put.new.self at c.in-Err.ensures.kept)
+    ap (λ (l : List (List Entry)). in_order (all_of l)) (same_lists m.queues.items m.heads.items m.lead m.arranged c.args.instance q c.push.new.self at c.in-Err.ensures.kept)
 
-pub index_mut-requires-2 : goal.index_mut-requires-2
-index_mut-requires-2 c =
-    let m = c.args.self.now in
-    omega (arith, c.requires, width m.queues.items m.heads.items m.least m.arranged, m.queues.ok.0, m.heads.ok.0)
-
-pub limit_behind-self-requires-clause-within : goal.limit_behind-self-requires-clause-within
-limit_behind-self-requires-clause-within c =
-    let m = c.args.self.now in
-    omega (arith, c.requires, c.deref.ensures.len, width m.queues.items m.heads.items m.least m.arranged, m.queues.ok.0, m.heads.ok.0)
-
-pub limit_behind-self-requires-clause-few : goal.limit_behind-self-requires-clause-few
-limit_behind-self-requires-clause-few c =
-    let m = c.args.self.now in
-    omega (arith, c.deref.ensures.len, few m.queues.items m.heads.items m.least m.arranged, width m.queues.items m.heads.items m.least m.arranged, m.heads.ok.0)
-
-pub invariant_of-self-2 : goal.invariant_of-self-2
-invariant_of-self-2 c =
+pub invariant_of-self-then-not-goes_last : goal.invariant_of-self-then-not-goes_last
+invariant_of-self-then-not-goes_last c =
     let m = c.args.self.now in
     let i = c.args.instance in
     let e = entry_of i c.args.note in
     let q = c.index_mut.result.now in
-    let after = c.put.new.self in
+    let pushed = c.push.new.self in
+    let s = c.settle.ensures in
     let at : slice_get m.queues.items i ≡ Some q = slice_get-get_or m.queues.items i q (omega (arith, c.requires, m.queues.ok.0)) ∙ ap (λ (x : Queue). Some x) (sym c.index_mut.ensures.value) in
-    let now : c.index.result.now ≡ after = c.index.ensures ∙ get_or-set_same m.queues.items i after c.index.result.now (omega (arith, c.requires, m.queues.ok.0)) in
+    let puts : InOrder (live q) → PutsIn e (live q) (live s.after) = λ ordered. s.puts pushed (live q) e (get_set_here m.queues.items i pushed (omega (arith, c.requires, m.queues.ok.0))) c.in-Ok.ensures.last ordered in
+    let is : set m.queues.items i s.after ≡ c.settle.new.queues.items = sym (s.set_is ∙ set_set m.queues.items i pushed s.after) in
     record {
-      arranged = arranged_more m.queues.items m.heads.items m.least m.arranged i e q after at refl c.in-Ok.ensures.puts c.head-head.result (set m.heads.items i c.head-head.result) c.limit_behind-self.result
-          (c.head-head.ensures.head ∙ ap (λ (x : Queue). head_of (live x)) now) c.head-head.ensures.fits refl
-          (λ l. subst (λ (b : List (Option ℕ)). IsLimit b c.limit_behind-self.result) c.deref.ensures.value (c.limit_behind-self.ensures m.heads.items c.deref.ensures.value l));
-      many_are = many_more m.queues.items m.heads.items m.least m.arranged i e q after at refl c.in-Ok.ensures.puts m.many m.many_are;
+      arranged = subst (λ (l : List Queue). ∥ Arranged (lists_of l) c.settle.new.heads.items c.settle.new.lead ∥₁) is
+          (arranged_more m.queues.items m.heads.items m.lead m.arranged i e q s.after at refl puts (head_of (live s.after)) c.settle.new.heads.items c.settle.new.lead refl (fits_back (head_of (live s.after)) s.fits) s.heads_are s.leads);
+      many_are = many_more m.queues.items m.heads.items m.lead m.arranged i e q s.after at refl puts m.many m.many_are ∙ ap (λ (l : List Queue). length (listing_of l)) is;
     }
 
-pub returns-clause-puts : goal.returns-clause-puts
-returns-clause-puts c =
-    let m = c.args.self.now in
-    let i = c.args.instance in
-    let q = c.index_mut.result.now in
-    let at : slice_get m.queues.items i ≡ Some q = slice_get-get_or m.queues.items i q (omega (arith, c.requires, m.queues.ok.0)) ∙ ap (λ (x : Queue). Some x) (sym c.index_mut.ensures.value) in
-    put_listing m.queues.items m.heads.items m.least m.arranged i (entry_of i c.args.note) q c.put.new.self at refl c.in-Ok.ensures.puts
-
-pub returns-clause-longer : goal.returns-clause-longer
-returns-clause-longer c =
-    let m = c.args.self.now in
-    let i = c.args.instance in
-    let q = c.index_mut.result.now in
-    let at : slice_get m.queues.items i ≡ Some q = slice_get-get_or m.queues.items i q (omega (arith, c.requires, m.queues.ok.0)) ∙ ap (λ (x : Queue). Some x) (sym c.index_mut.ensures.value) in
-    sym (many_more m.queues.items m.heads.items m.least m.arranged i (entry_of i c.args.note) q c.put.new.self at refl c.in-Ok.ensures.puts (length (listing_of m.queues.items)) refl)
-
-pub index-requires-2 : goal.index-requires-2
-index-requires-2 c =
-    let m = c.args.self.now in
-    omega (arith, c.requires, width m.queues.items m.heads.items m.least m.arranged, m.queues.ok.0, m.heads.ok.0)
-
-pub invariant_of-self-then-eq : goal.invariant_of-self-then-eq
-invariant_of-self-then-eq c =
+pub returns-then-not-goes_last-clause-puts : goal.returns-then-not-goes_last-clause-puts
+returns-then-not-goes_last-clause-puts c =
     let m = c.args.self.now in
     let i = c.args.instance in
     let e = entry_of i c.args.note in
     let q = c.index_mut.result.now in
-    let after = c.put.new.self in
+    let pushed = c.push.new.self in
+    let s = c.settle.ensures in
     let at : slice_get m.queues.items i ≡ Some q = slice_get-get_or m.queues.items i q (omega (arith, c.requires, m.queues.ok.0)) ∙ ap (λ (x : Queue). Some x) (sym c.index_mut.ensures.value) in
-    let now : c.index.result.now ≡ after = c.index.ensures ∙ get_or-set_same m.queues.items i after c.index.result.now (omega (arith, c.requires, m.queues.ok.0)) in
-    let same : c.index-2.result.now ≡ c.head-head.result = same_option c.index-2.result.now c.head-head.result c.if-eq.ensures in
-    let short : i < length m.heads.items = omega (arith, c.requires, width m.queues.items m.heads.items m.least m.arranged, m.queues.ok.0) in
-    let kept : slice_get m.heads.items i ≡ Some c.head-head.result = slice_get-get_or m.heads.items i c.index-2.result.now short ∙ ap (λ (h : Option ℕ). Some h) (sym c.index-2.ensures ∙ same) in
+    let puts : InOrder (live q) → PutsIn e (live q) (live s.after) = λ ordered. s.puts pushed (live q) e (get_set_here m.queues.items i pushed (omega (arith, c.requires, m.queues.ok.0))) c.in-Ok.ensures.last ordered in
+    let is : set m.queues.items i s.after ≡ c.settle.new.queues.items = sym (s.set_is ∙ set_set m.queues.items i pushed s.after) in
+    subst (λ (l : List Queue). PutsIn e (listing_of m.queues.items) (listing_of l)) is (put_listing m.queues.items m.heads.items m.lead m.arranged i e q s.after at refl puts)
+
+pub invariant_of-self-else-not-goes_last : goal.invariant_of-self-else-not-goes_last
+invariant_of-self-else-not-goes_last c =
+    let m = c.args.self.now in
+    let i = c.args.instance in
+    let e = entry_of i c.args.note in
+    let q = c.index_mut.result.now in
+    let pushed = c.push.new.self in
+    let at : slice_get m.queues.items i ≡ Some q = slice_get-get_or m.queues.items i q (omega (arith, c.requires, m.queues.ok.0)) ∙ ap (λ (x : Queue). Some x) (sym c.index_mut.ensures.value) in
+    let there : slice_get m.queues.items i ≡ Some c.index.result.now = slice_get-get_or m.queues.items i c.index.result.now (omega (arith, c.requires, m.queues.ok.0)) ∙ ap (λ (x : Queue). Some x) (sym c.index.ensures) in
+    let same : c.index.result.now ≡ q = same_Some c.index.result.now q (sym there ∙ at) in
+    let last = c.in-Ok.ensures.last in
+    let puts : InOrder (live q) → PutsIn e (live q) (live pushed) = λ ordered. subst (PutsIn e (live q)) (sym last) (subst (λ (x : Queue). InOrder (live x) → PutsIn e (live x) (live x ++ e ∷ [])) same (c.if-not-goes_last.ensures.puts refl) ordered) in
+    let head : head_of (live pushed) ≡ head_of (live q) = ap head_of last ∙ subst (λ (x : Queue). head_of (live x ++ e ∷ []) ≡ head_of (live x)) same (c.if-not-goes_last.ensures.head refl) in
     record {
-      arranged = arranged_more m.queues.items m.heads.items m.least m.arranged i e q after at refl c.in-Ok.ensures.puts c.head-head.result m.heads.items m.least
-          (c.head-head.ensures.head ∙ ap (λ (x : Queue). head_of (live x)) now) c.head-head.ensures.fits (sym (set_same m.heads.items i c.head-head.result kept)) (λ l. l);
-      many_are = many_more m.queues.items m.heads.items m.least m.arranged i e q after at refl c.in-Ok.ensures.puts m.many m.many_are;
+      arranged = arranged_last m.queues.items m.heads.items m.lead m.arranged i e q pushed at refl puts head;
+      many_are = many_more m.queues.items m.heads.items m.lead m.arranged i e q pushed at refl puts m.many m.many_are;
     }
 
-pub returns-then-eq-clause-puts : goal.returns-then-eq-clause-puts
-returns-then-eq-clause-puts c =
+pub returns-else-not-goes_last-clause-puts : goal.returns-else-not-goes_last-clause-puts
+returns-else-not-goes_last-clause-puts c =
     let m = c.args.self.now in
     let i = c.args.instance in
+    let e = entry_of i c.args.note in
     let q = c.index_mut.result.now in
+    let pushed = c.push.new.self in
     let at : slice_get m.queues.items i ≡ Some q = slice_get-get_or m.queues.items i q (omega (arith, c.requires, m.queues.ok.0)) ∙ ap (λ (x : Queue). Some x) (sym c.index_mut.ensures.value) in
-    put_listing m.queues.items m.heads.items m.least m.arranged i (entry_of i c.args.note) q c.put.new.self at refl c.in-Ok.ensures.puts
-
-pub returns-then-eq-clause-longer : goal.returns-then-eq-clause-longer
-returns-then-eq-clause-longer c =
-    let m = c.args.self.now in
-    let i = c.args.instance in
-    let q = c.index_mut.result.now in
-    let at : slice_get m.queues.items i ≡ Some q = slice_get-get_or m.queues.items i q (omega (arith, c.requires, m.queues.ok.0)) ∙ ap (λ (x : Queue). Some x) (sym c.index_mut.ensures.value) in
-    sym (many_more m.queues.items m.heads.items m.least m.arranged i (entry_of i c.args.note) q c.put.new.self at refl c.in-Ok.ensures.puts (length (listing_of m.queues.items)) refl)
+    let there : slice_get m.queues.items i ≡ Some c.index.result.now = slice_get-get_or m.queues.items i c.index.result.now (omega (arith, c.requires, m.queues.ok.0)) ∙ ap (λ (x : Queue). Some x) (sym c.index.ensures) in
+    let same : c.index.result.now ≡ q = same_Some c.index.result.now q (sym there ∙ at) in
+    let puts : InOrder (live q) → PutsIn e (live q) (live pushed) = λ ordered. subst (PutsIn e (live q)) (sym c.in-Ok.ensures.last) (subst (λ (x : Queue). InOrder (live x) → PutsIn e (live x) (live x ++ e ∷ [])) same (c.if-not-goes_last.ensures.puts refl) ordered) in
+    put_listing m.queues.items m.heads.items m.lead m.arranged i e q pushed at refl puts

@@ -9,15 +9,17 @@ returns-clause-took g c =
     let accepted = stack_meaning c.args.stack.now in
     let k = g.K.Sink in
     let is = sym c.of-first.ensures in
+    let all = subst (λ (r : MutBor g.row.K.Denot). WritesAll accepted accepted.binary c.args.merge (k.written r.now) (k.written c.args.sink.now) (λ _. [])) is
+    (nothing_taken accepted accepted.binary c.args.merge (k.written c.args.sink.now) c.requires.stands c.requires.none) in
     record {
       same_sink = ap (λ (r : MutBor g.row.K.Denot). r.ghost_name) is;
       goes_on_is = subst (λ (r : MutBor g.row.K.Denot). k.goes_on r.now c.args.sink.now) is (g.met.K.Sink.goes_on_still c.args.sink.now);
       writes = (
         refl,
         ap (λ (r : MutBor g.row.K.Denot). k.faults r.now) is,
-        subst (λ (r : MutBor g.row.K.Denot). WritesAll accepted accepted.binary c.args.merge (k.written r.now) (k.written c.args.sink.now) (λ _. [])) is
-            (nothing_taken accepted accepted.binary c.args.merge (k.written c.args.sink.now) c.requires.stands c.requires.none),
+        all,
       );
+      at_pause = λ _. all;
       at_stop = λ is. absurd cc;
       holds_none = λ _. c.requires.none;
     }

@@ -1,7 +1,7 @@
 use Rattle.std.proofs.Common.{arith}
 use Rattle.stack_spec.specs.Stacks.{stack_meaning}
 use Rattle.note_lister.specs.Taking.{first_sink, sink_of}
-use Rattle.note_lister.proofs.TakingLemmas.{data_fails, data_writes}
+use Rattle.note_lister.proofs.TakingLemmas.{data_fails, data_writes, never_stopped}
 use Rattle.note_lister.proofs.lister.Lister.take_data.Goals as goal
 
 pub returns-in-Ok-clause-adds : goal.returns-in-Ok-clause-adds
@@ -9,12 +9,14 @@ returns-in-Ok-clause-adds g c = λ before after took adds.
     let k = g.K.Sink in
     let old = c.args.self.now in
     let e = c.in-Ok.ensures in
+    let writes = data_writes (stack_meaning old.stack.now) before after c.args.instance c.args.mark adds old.merge old.cause old.stops (k.written (first_sink old)) (k.written (sink_of old)) (k.written c.write_wanted.new.sink)
+    (k.faults (first_sink old)) (k.faults (sink_of old)) (k.faults c.write_wanted.new.sink) c.requires.never took.writes c.requires.wanted e.cause.kept e.whole in
     record {
       same_sink = took.same_sink;
       goes_on_is = g.met.K.Sink.goes_on_further _ _ _ took.goes_on_is e.goes_on;
-      writes = data_writes (stack_meaning old.stack.now) before after c.args.instance c.args.mark adds old.merge old.cause old.stops (k.written (first_sink old)) (k.written (sink_of old)) (k.written c.write_wanted.new.sink)
-          (k.faults (first_sink old)) (k.faults (sink_of old)) (k.faults c.write_wanted.new.sink) c.requires.never took.writes c.requires.wanted e.cause.kept e.whole;
-      at_stop = λ is. absurd (omega (arith, is, c.requires.never));
+      writes = writes;
+      at_pause = λ _. (never_stopped (stack_meaning old.stack.now) old.merge old.cause old.stops (k.written (first_sink old)) (k.written c.write_wanted.new.sink) (k.faults (first_sink old)) (k.faults c.write_wanted.new.sink) after c.requires.never writes).2;
+      at_stop = λ is. absurd (omega (arith, is, old.quiet c.requires.never));
       holds_none = took.holds_none;
     }
 
@@ -30,6 +32,7 @@ returns-in-Err-clause-adds g c = λ before after took adds.
       same_sink = took.same_sink;
       goes_on_is = g.met.K.Sink.goes_on_further _ _ _ took.goes_on_is e.goes_on;
       writes = both.0;
+      at_pause = λ is. absurd (omega (arith, is, s.stops));
       at_stop = λ _. both.1;
       holds_none = took.holds_none;
     }

@@ -5,7 +5,7 @@ use Rattle.note_order.specs.declared.entry.Entry.{Entry}
 use Rattle.annot_merge.specs.Held.{Stands}
 use Rattle.stack_spec.specs.Stacks.{stack_meaning}
 use Rattle.note_lister.specs.Taking.{first_sink, sink_of}
-use Rattle.note_lister.proofs.TakingLemmas.{mark_cut, mark_fails, mark_writes, wants_none}
+use Rattle.note_lister.proofs.TakingLemmas.{mark_cut, mark_fails, mark_writes, never_stopped, wants_none}
 use Rattle.note_lister.proofs.lister.Lister.take_mark.Goals as goal
 
 pub returns-in-Ok-list_ready-clause-adds : goal.returns-in-Ok-list_ready-clause-adds
@@ -13,13 +13,16 @@ returns-in-Ok-list_ready-clause-adds g c = λ before after took adds.
     let k = g.K.Sink in
     let old = c.args.self.now in
     let e = c.in-Ok-list_ready.ensures in
+    let accepted = stack_meaning old.stack.now in
+    let writes = mark_writes accepted before after c.args.instance c.args.mark adds old.merge old.cause old.stops (k.written (first_sink old)) (k.written (sink_of old)) (k.written c.list_ready.new.sink)
+    (k.faults (first_sink old)) (k.faults (sink_of old)) (k.faults c.list_ready.new.sink) (old.going c.requires.merges) took.writes (old.notes c.requires.merges) c.push.new.self c.list_ready.new.merge tt e.cause.kept c.in-Ok.ensures.takes e.lists in
     record {
       same_sink = took.same_sink;
       goes_on_is = g.met.K.Sink.goes_on_further _ _ _ took.goes_on_is e.goes_on;
-      writes = mark_writes (stack_meaning old.stack.now) before after c.args.instance c.args.mark adds old.merge old.cause old.stops (k.written (first_sink old)) (k.written (sink_of old)) (k.written c.list_ready.new.sink)
-          (k.faults (first_sink old)) (k.faults (sink_of old)) (k.faults c.list_ready.new.sink) (old.going c.requires.merges) took.writes (old.notes c.requires.merges) c.push.new.self c.list_ready.new.merge tt e.cause.kept c.in-Ok.ensures.takes e.lists;
-      at_stop = λ is. absurd (omega (arith, is, old.going c.requires.merges));
-      holds_none = λ some. absurd (wants_none (stack_meaning old.stack.now).binary (old.notes c.requires.merges) some);
+      writes = writes;
+      at_pause = λ _. (never_stopped accepted c.list_ready.new.merge old.cause old.stops (k.written (first_sink old)) (k.written c.list_ready.new.sink) (k.faults (first_sink old)) (k.faults c.list_ready.new.sink) after (old.going c.requires.merges) writes).2;
+      at_stop = λ is. absurd (omega (arith, is, old.quiet (old.going c.requires.merges)));
+      holds_none = λ some. absurd (wants_none accepted.binary (old.notes c.requires.merges) some);
     }
 
 pub returns-in-Err-list_ready-clause-adds : goal.returns-in-Err-list_ready-clause-adds
@@ -34,6 +37,7 @@ returns-in-Err-list_ready-clause-adds g c = λ before after took adds.
       same_sink = took.same_sink;
       goes_on_is = g.met.K.Sink.goes_on_further _ _ _ took.goes_on_is e.goes_on;
       writes = both.0;
+      at_pause = λ is. absurd (omega (arith, is, s.stops));
       at_stop = λ _. both.1;
       holds_none = λ some. absurd (wants_none (stack_meaning old.stack.now).binary (old.notes c.requires.merges) some);
     }
@@ -51,6 +55,7 @@ returns-in-Err-clause-adds g c = λ before after took adds.
       same_sink = took.same_sink;
       goes_on_is = took.goes_on_is;
       writes = both.0;
+      at_pause = λ is. absurd (omega (arith, is, s.stops));
       at_stop = λ _. both.1;
       holds_none = λ some. absurd (wants_none (stack_meaning old.stack.now).binary (old.notes c.requires.merges) some);
     }
@@ -60,12 +65,15 @@ returns-then-not-is_ready-clause-adds g c = λ before after took adds.
     let k = g.K.Sink in
     let old = c.args.self.now in
     let none = c.if-not-is_ready.ensures in
+    let accepted = stack_meaning old.stack.now in
+    let writes = mark_writes accepted before after c.args.instance c.args.mark adds old.merge old.cause old.stops (k.written (first_sink old)) (k.written (sink_of old)) (k.written (sink_of old))
+    (k.faults (first_sink old)) (k.faults (sink_of old)) (k.faults (sink_of old)) (old.going c.requires.merges) took.writes (old.notes c.requires.merges) c.push.new.self c.push.new.self tt refl c.in-Ok.ensures.takes
+    (λ marks given s. (record { more = []; stands = subst (λ (l : List Entry). Stands c.push.new.self marks l) (sym (append-nil given)) s; lines = appends_nothing (k.written (sink_of old)) }, none.none marks given s)) in
     record {
       same_sink = took.same_sink;
       goes_on_is = took.goes_on_is;
-      writes = mark_writes (stack_meaning old.stack.now) before after c.args.instance c.args.mark adds old.merge old.cause old.stops (k.written (first_sink old)) (k.written (sink_of old)) (k.written (sink_of old))
-          (k.faults (first_sink old)) (k.faults (sink_of old)) (k.faults (sink_of old)) (old.going c.requires.merges) took.writes (old.notes c.requires.merges) c.push.new.self c.push.new.self tt refl c.in-Ok.ensures.takes
-          (λ marks given s. (record { more = []; stands = subst (λ (l : List Entry). Stands c.push.new.self marks l) (sym (append-nil given)) s; lines = appends_nothing (k.written (sink_of old)) }, none.none marks given s));
-      at_stop = λ is. absurd (omega (arith, is, old.going c.requires.merges));
-      holds_none = λ some. absurd (wants_none (stack_meaning old.stack.now).binary (old.notes c.requires.merges) some);
+      writes = writes;
+      at_pause = λ _. (never_stopped accepted c.push.new.self old.cause old.stops (k.written (first_sink old)) (k.written (sink_of old)) (k.faults (first_sink old)) (k.faults (sink_of old)) after (old.going c.requires.merges) writes).2;
+      at_stop = λ is. absurd (omega (arith, is, old.quiet (old.going c.requires.merges)));
+      holds_none = λ some. absurd (wants_none accepted.binary (old.notes c.requires.merges) some);
     }

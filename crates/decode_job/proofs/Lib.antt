@@ -1,0 +1,6 @@
+pub mod FeedLemmas
+mod Growing
+mod Showing
+pub mod Listed
+mod Ends
+mod Handing
