@@ -11,17 +11,17 @@ before and behind them.
 import sys
 
 
-def bits_of(text):
+def bits_of(data):
     """The levels of a line, bit by bit."""
-    for byte in text.encode():
+    for byte in data:
         yield 0
         for place in range(8):
             yield byte >> place & 1
         yield 1
 
 
-def samples(text, rate, baud, times):
-    levels = [1] * 10 + list(bits_of(text)) * times + [1] * 10
+def sampled(levels, rate, baud):
+    """The samples of levels that each last a bit."""
     line = bytearray()
     for number, level in enumerate(levels, 1):
         line += bytes([level]) * (number * rate // baud - len(line))
@@ -33,7 +33,8 @@ def main():
     if not 1 <= len(words) <= 4:
         sys.exit(__doc__)
     rate, baud, times = [int(word) for word in words[1:]] + [1000000, 115200, 1][len(words) - 1:]
-    sys.stdout.buffer.write(samples(words[0], rate, baud, times))
+    levels = [1] * 10 + list(bits_of(words[0].encode())) * times + [1] * 10
+    sys.stdout.buffer.write(sampled(levels, rate, baud))
 
 
 if __name__ == "__main__":

@@ -1,0 +1,60 @@
+#!/usr/bin/env python3
+"""Prints the most memory that a decode takes, by the length of its capture.
+
+usage: bench/memory.py [TRANSACTIONS..]
+
+The capture is that of bench/decode.py, of 100,000 and of 1,000,000 transactions where none are named,
+and goes through a pipe as it is made. It is decoded as I2C, and as I2C with an EEPROM that stands on it
+and a serial line beside it. Exits with 1 where a run takes more than 12 MB.
+"""
+import subprocess
+import sys
+
+import decode
+
+STACKS = [
+    ["i2c:scl=D0:sda=D1"],
+    ["i2c:scl=D0:sda=D1,eeprom24", "uart:rx=D2:baud=100000"],
+]
+MOST = 12 * 1000
+
+
+def most_resident(process):
+    with open(f"/proc/{process}/status", encoding="ascii") as file:
+        for line in file:
+            if line.startswith("VmHWM:"):
+                return int(line.split()[1])
+    sys.exit("the kernel doesn't tell the memory of a process")
+
+
+def kilobytes(words, count):
+    numbers = decode.draws(7)
+    part = bytearray()
+    for _ in range(1000):
+        address = 8 + next(numbers) % 112
+        part += decode.transaction(address, next(numbers), next(numbers), next(numbers))
+    run = subprocess.Popen([decode.LDECODE] + words, stdin=subprocess.PIPE, stdout=subprocess.DEVNULL)
+    for _ in range(count // 1000):
+        run.stdin.write(part)
+    run.stdin.flush()
+    taken = most_resident(run.pid)
+    run.stdin.close()
+    if run.wait() != 0:
+        sys.exit(f"ldecode ended with {run.returncode}")
+    return taken
+
+
+def main():
+    counts = [int(word) for word in sys.argv[1:]] or [100000, 1000000]
+    most = 0
+    for words in STACKS:
+        for count in counts:
+            taken = kilobytes(words, count)
+            most = max(most, taken)
+            print(f"{count * decode.LENGTH} samples, {' '.join(words)}: {taken / 1000:.1f} MB")
+    if most > MOST:
+        sys.exit(1)
+
+
+if __name__ == "__main__":
+    main()

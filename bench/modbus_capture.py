@@ -1,0 +1,49 @@
+#!/usr/bin/env python3
+"""Writes samples of a serial line that carries messages of Modbus RTU, one byte a sample at 1 MHz, with the
+line on D0.
+
+usage: bench/modbus_capture.py MESSAGE.. > capture.raw
+
+Each word is a message: its bytes in hexadecimal, with commas between them, to which its CRC is added; with a
+`!` in front the lowest bit of the CRC's last byte is turned. A byte has a start bit, eight data bits and a
+stop bit at 19200 baud, and the bytes of a message follow one another without a pause. The line is high for
+5 ms before and behind each message.
+
+    bench/modbus_capture.py 11,03,00,6B,00,03 11,03,06,AE,41,56,52,43,40 > capture.raw
+"""
+import sys
+
+from uart_capture import bits_of, sampled
+
+RATE, BAUD = 1000000, 19200
+PAUSE = [1] * (5 * BAUD // 1000)
+
+
+def crc(data):
+    """The CRC of bytes, its low byte first."""
+    register = 0xFFFF
+    for byte in data:
+        register ^= byte
+        for _ in range(8):
+            register = register >> 1 ^ (0xA001 if register & 1 else 0)
+    return register.to_bytes(2, "little")
+
+
+def message(word):
+    """The bytes of a message with its CRC."""
+    data = bytes(int(byte, 16) for byte in word.lstrip("!").split(","))
+    low, high = crc(data)
+    return data + bytes([low, high ^ word.startswith("!")])
+
+
+def main():
+    if len(sys.argv) < 2:
+        sys.exit(__doc__)
+    levels = list(PAUSE)
+    for word in sys.argv[1:]:
+        levels += list(bits_of(message(word))) + PAUSE
+    sys.stdout.buffer.write(sampled(levels, RATE, BAUD))
+
+
+if __name__ == "__main__":
+    main()
