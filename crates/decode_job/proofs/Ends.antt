@@ -5,7 +5,7 @@ use Rattle.std.specs.Option.{is_some}
 use Rattle.std.proofs.lemmas.Bool.{true≢false}
 use Rattle.decoder_core.specs.declared.end.RunEnd.{RunEnd}
 use Rattle.decoder_core.specs.declared.end.RunEnd.TheVariants.{Ended, Stopped}
-use Rattle.stack_direct.specs.Runs.{is_ended}
+use Rattle.tree_runs.specs.Runs.{is_ended}
 use Rattle.la_base.specs.declared.wires.Mark.{Mark}
 use Rattle.la_io.specs.Capture.{Told}
 use Rattle.capture_any.specs.Listings.{Lists, ReadCause, WriteCause}

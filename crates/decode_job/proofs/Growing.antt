@@ -5,12 +5,12 @@ use Rattle.la_base.specs.declared.wires.Out.{Out}
 use Rattle.decoder_core.specs.Inputs.{Item, Sample}
 use Rattle.decoder_core.specs.Promises.{KeepsFront}
 use Rattle.decoder_core.specs.Trees.{packets_of}
-use Rattle.stack_direct.specs.Machines.{whole_of}
-use Rattle.stack_direct.specs.Passing.{IsForest}
-use Rattle.stack_direct.specs.Runs.{input_at, nodes_of}
-use Rattle.stack_direct.proofs.Lists.{packets-append}
-use Rattle.stack_direct.proofs.Running.{items-append}
-use Rattle.stack_direct.proofs.Telling.{child_input, root_input}
+use Rattle.tree_runs.specs.Machines.{whole_of}
+use Rattle.tree_runs.specs.Passing.{IsForest}
+use Rattle.tree_runs.specs.Runs.{input_at, nodes_of}
+use Rattle.tree_runs.proofs.Lists.{packets-append}
+use Rattle.tree_runs.proofs.Running.{items-append}
+use Rattle.tree_runs.proofs.Telling.{child_input, root_input}
 
 module _ {S : Type 0} (outputs : S → List Item → List Out) (setups : List S) (parents : List (Option ℕ)) (forest : IsForest parents) (count : length setups ≡ length parents)
     (keeps : (j : ℕ) → j < length parents → KeepsFront (whole_of outputs setups j)) (samples rest : List ℕ) where

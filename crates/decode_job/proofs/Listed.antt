@@ -19,13 +19,13 @@ use Rattle.decoder_core.specs.Trees.{given}
 use Rattle.decoder_core.specs.declared.end.RunEnd.{RunEnd}
 use Rattle.decoder_core.specs.declared.end.RunEnd.TheVariants.{Ended}
 use Rattle.note_order.specs.Order.{listed}
-use Rattle.stack_direct.specs.Machines.{whole_of}
-use Rattle.stack_direct.specs.Passing.{IsForest, NoEnd}
-use Rattle.stack_direct.specs.Reaching.{Reaches}
-use Rattle.stack_direct.specs.Runs.{Told as ToldOf, input_at, nodes_of}
-use Rattle.stack_direct.proofs.Fresh.{reads_nothing}
-use Rattle.stack_direct.proofs.Lists.{marks-append}
-use Rattle.stack_direct.proofs.Telling.{given_at, given_len}
+use Rattle.tree_runs.specs.Machines.{whole_of}
+use Rattle.tree_runs.specs.Passing.{IsForest, NoEnd}
+use Rattle.tree_runs.specs.Reaching.{Reaches}
+use Rattle.tree_runs.specs.Runs.{Told as ToldOf, input_at, nodes_of}
+use Rattle.tree_runs.proofs.Fresh.{reads_nothing}
+use Rattle.tree_runs.proofs.Lists.{marks-append}
+use Rattle.tree_runs.proofs.Telling.{given_at, given_len}
 use Rattle.stack_spec.specs.Accepting.{Accepted}
 use Rattle.annot_merge.specs.Bounds.{bound_of}
 use Rattle.annot_merge.specs.Marks.{AreTrue, Begins, Continues, StartFrom, notes_from, notes_in, sorted_notes}
@@ -37,7 +37,8 @@ use Rattle.note_lister.specs.Lines.{shown_line, shown_lines}
 use Rattle.note_lister.specs.Prompt.{Prompts}
 use Rattle.note_lister.specs.Taking.{WritesAll}
 use Rattle.note_lister.proofs.TakingLemmas.{begins_itself, bytes_in-append}
-use Rattle.decode_job.specs.Listing.{bytes_by, bytes_of, notes_of, output_by}
+use Rattle.tree_runs.specs.Listings.{notes_of}
+use Rattle.decode_job.specs.Listing.{bytes_by, bytes_of, output_by}
 use Rattle.decode_job.proofs.Growing.{grows}
 use Rattle.decode_job.proofs.Showing.{shown_listing}
 

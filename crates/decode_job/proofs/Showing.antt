@@ -10,7 +10,7 @@ use Rattle.annot_merge.specs.Merging.{InOrder, NoneBefore}
 use Rattle.annot_merge.proofs.Orders.{in_order_alike, one_order, order_is_in_order}
 use Rattle.note_lister.specs.Lines.{note_line, note_lines, shown_lines}
 use Rattle.stack_spec.specs.Accepting.{Accepted, is_shown}
-use Rattle.decode_job.specs.Listing.{shown_from, where_shown}
+use Rattle.tree_runs.specs.Listings.{shown_from, where_shown}
 
 -- two tests, one after another
 filter_swap : {X : Type 0} (p q : X → Bool) (xs : List X) → filter p (filter q xs) ≡ filter q (filter p xs)

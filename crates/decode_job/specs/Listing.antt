@@ -1,34 +1,17 @@
 -- What a tree of decoders is to write: the notes of the instances in order, a line each; or the
 -- binary data of one of them.
-use Rattle.std.specs.Prelude.{ℕ, ◌==◌, ◌+◌, Bool, if◌then◌else◌, List, [], ◌∷◌, map, slice_get}
+use Rattle.std.specs.Prelude.{ℕ, ◌==◌, Bool, if◌then◌else◌, List, [], ◌∷◌, map, slice_get}
 use Rattle.std.specs.Prelude.{Option, Some, None}
-use Rattle.la_base.specs.declared.wires.Note.{Note}
 use Rattle.la_base.specs.declared.wires.Out.{Out}
 use Rattle.la_base.specs.declared.wires.Out.TheVariants.{Note as NoteOut, Piece as PieceOut}
 use Rattle.la_base.specs.declared.wires.Out.TheVariants.{Packet as PacketOut}
 use Rattle.decoder_core.specs.Inputs.{Item}
 use Rattle.decoder_core.specs.Trees.{Node, given}
 use Rattle.note_order.specs.Order.{listed}
+use Rattle.tree_runs.specs.Listings.{notes_of, shown_from}
 use Rattle.note_lister.specs.Lines.{note_lines}
 use Rattle.stack_spec.specs.Accepting.{Accepted, is_shown}
 use Rattle.stack_spec.specs.Instances.{Instance}
-
--- the notes among outputs
-abbrev pub notes_of : List Out → List Note
-notes_of [] = []
-notes_of (NoteOut note ∷ outs) = note ∷ notes_of outs
-notes_of (PieceOut piece ∷ outs) = notes_of outs
-notes_of (PacketOut packet ∷ outs) = notes_of outs
-
--- notes, or none where they aren't shown
-abbrev pub where_shown : Bool → List Note → List Note
-where_shown shown notes = if shown then notes else []
-
--- the notes of those instances that are shown, and none of the others; the first has this number
-abbrev pub shown_from : (ℕ → Bool) → ℕ → List (List Note) → List (List Note)
-shown_from shown instance [] = []
-shown_from shown instance (notes ∷ others) =
-    where_shown (shown instance) notes ∷ shown_from shown (instance + 1) others
 
 -- the listing of a tree of decoders: the notes of all instances that are shown, by start, then by
 -- instance, then as they were given

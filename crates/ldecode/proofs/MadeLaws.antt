@@ -15,7 +15,7 @@ use Rattle.made_i2c.specs.laws.Blocks.{made_told}
 use Rattle.made_uart.specs.Told as line
 use Rattle.made_uart.specs.Told.{made_opts}
 use Rattle.made_uart.specs.laws.MadeLines.{made_tell}
-use Rattle.decode_job.specs.Listing.{notes_of}
+use Rattle.tree_runs.specs.Listings.{notes_of}
 use Rattle.ldecode.specs.Making.{bus_setup, line_setup, made_rate, sum_of, tally_of}
 use Rattle.ldecode.specs.Sums.{ReadBack, bus_sum, line_sum}
 use Rattle.listing_out.specs.Summaries.{summary}

@@ -14,8 +14,8 @@ use Rattle.text_parts.specs.declared.chain.ChainWord.{ChainWord}
 use Rattle.words.specs.Settings.{Values, meaning_of}
 use Rattle.words.specs.declared.kinds.Job.TheVariants.{Decode}
 use Rattle.words.specs.declared.settings.Settings.{Settings}
-use Rattle.stack_direct.specs.Passing.{IsForest as IsTree}
-use Rattle.stack_direct.specs.Runs.{nodes_of as tree_nodes}
+use Rattle.tree_runs.specs.Passing.{IsForest as IsTree}
+use Rattle.tree_runs.specs.Runs.{nodes_of as tree_nodes}
 use Rattle.stack_spec.specs.Accepting.{Accepted, stack_of}
 use Rattle.stack_spec.specs.BindSteps.{IsBound}
 use Rattle.stack_spec.specs.Binding.{BoundInstance, bound_of}

@@ -16,17 +16,17 @@ use Rattle.decoder_set.specs.Opening.{HasConsumed, setup_of}
 use Rattle.decoder_set.specs.Setups.{outs_of}
 use Rattle.decoder_set.specs.declared.any.AnyDecoder.{AnyDecoder}
 use Rattle.decoder_set.specs.declared.setup.Setup.{Setup}
-use Rattle.stack_direct.specs.Machines.{Stand, whole_of}
-use Rattle.stack_direct.specs.Passing.{IsForest}
-use Rattle.stack_direct.specs.Reaching.{Reaches}
-use Rattle.stack_direct.specs.Runs.{Told, input_at, nodes_of}
-use Rattle.stack_direct.specs.Taking.{IsTree}
-use Rattle.stack_direct.proofs.Fresh.{reads_nothing}
-use Rattle.stack_direct.proofs.Telling.{given_at}
+use Rattle.tree_runs.specs.Machines.{Stand, whole_of}
+use Rattle.tree_runs.specs.Passing.{IsForest}
+use Rattle.tree_runs.specs.Reaching.{Reaches}
+use Rattle.tree_runs.specs.Runs.{Told, input_at, nodes_of}
+use Rattle.tree_runs.specs.Taking.{IsTree}
+use Rattle.tree_runs.proofs.Fresh.{reads_nothing}
+use Rattle.tree_runs.proofs.Telling.{given_at}
 use Rattle.stack_spec.specs.declared.bound.Bound.{Bound}
 use Rattle.listing_out.specs.Summaries.{summary}
 use Rattle.listing_out.specs.declared.summaries.Tally.{Tally}
-use Rattle.decode_job.specs.Listing.{notes_of}
+use Rattle.tree_runs.specs.Listings.{notes_of}
 use Rattle.annot_merge.specs.Marks.{notes_in}
 use Rattle.ldecode.specs.MadeTrees.{IsMadeTree}
 use Rattle.ldecode.specs.Making.{bus_setup, line_setup, made_listing, made_nodes, tally_of}

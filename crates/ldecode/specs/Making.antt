@@ -15,7 +15,7 @@ use Rattle.decoder_set.specs.declared.kinds.Kind.TheVariants.{I2c, Uart}
 use Rattle.decoder_set.specs.declared.setup.Setup.{Setup}
 use Rattle.listing_out.specs.Summaries.{summary}
 use Rattle.listing_out.specs.declared.summaries.Tally.{Tally}
-use Rattle.decode_job.specs.Listing.{notes_of}
+use Rattle.tree_runs.specs.Listings.{notes_of}
 use Rattle.ldecode.specs.declared.status.Status.{Status}
 use Rattle.ldecode.specs.declared.status.Status.TheVariants.{Done, Words, Stack, Bind, ReadFault}
 use Rattle.ldecode.specs.declared.status.Status.TheVariants.{Capture, WriteFault, NoMemory}

@@ -1,7 +1,7 @@
 -- Marks taken behind marks.
 use Rattle.std.proofs.Common.{ℕ, Bool, Result, Ok, refl, ◌∙◌, subst, arith}
 use Rattle.la_io.specs.Causes.{HasCause}
-use Rattle.stack_direct.specs.Taking.{GoesOn, KeepsOn}
+use Rattle.tree_runs.specs.Taking.{GoesOn, KeepsOn}
 
 module _ {A O : Type 0} (instances : A → ℕ) (origin : A → O) (stops : A → ℕ)
     (going : A → Bool → Type 0) where

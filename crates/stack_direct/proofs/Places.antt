@@ -7,7 +7,7 @@ use Rattle.la_base.specs.declared.wires.Feed.{Feed}
 use Rattle.la_base.specs.declared.wires.Out.{Out}
 use Rattle.decoder_core.specs.Driving.{Steps, StepsRuns}
 use Rattle.decoder_core.specs.Inputs.{Item}
-use Rattle.stack_direct.specs.Machines.{Stand, StepsAt, StepsRunsAt, whole_of, outputs_at}
+use Rattle.tree_runs.specs.Machines.{Stand, StepsAt, StepsRunsAt, whole_of, outputs_at}
 
 module _ {M S : Type 0} (setup : M → S) (consumed : M → List Item → Type 0) (outputs : S → List Item → List Out) where
   -- a machine of the same setup leaves the setups

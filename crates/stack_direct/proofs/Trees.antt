@@ -7,13 +7,13 @@ use Rattle.la_base.specs.declared.wires.Out.{Out}
 use Rattle.la_io.specs.declared.feeds.MarkTake.{Ghosts as TakeGhosts}
 use Rattle.decoder_core.specs.declared.machine.Machine.{Ghosts as MachineGhosts}
 use Rattle.decoder_core.specs.Inputs.{Item}
-use Rattle.stack_direct.specs.Machines.{Definitions, defined}
-use Rattle.stack_direct.specs.Passing.{Hands, Feeds, Gives, Consumes, IsForest, first_on, same_place, up_to}
-use Rattle.stack_direct.specs.Taking.{GoesOn}
+use Rattle.tree_runs.specs.Machines.{Definitions, defined}
+use Rattle.tree_runs.specs.Passing.{Hands, Feeds, Gives, Consumes, IsForest, first_on, same_place, up_to}
+use Rattle.tree_runs.specs.Taking.{GoesOn}
 use Rattle.stack_direct.specs.Trees.{SameTree, TakesAll, TakesOn, GoesStill, defined_in, machines_of, parents_of, stand_in}
 use Rattle.stack_direct.specs.declared.tree.Tree.{Tree}
 use Rattle.stack_direct.proofs.Going.{goes_nowhere, goes_then}
-use Rattle.stack_direct.proofs.Joining.{feeds_are_hands, hands_next, hands_not}
+use Rattle.tree_runs.proofs.Joining.{feeds_are_hands, hands_next, hands_not}
 
 module _ {M S : Type 0} (m : MachineGhosts M S) where
   pub same_still : (tree : Tree M) → SameTree m tree tree

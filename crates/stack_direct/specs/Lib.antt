@@ -1,7 +1,1 @@
-pub mod Reaching
-pub mod Floors
-pub mod Passing
-pub mod Machines
-pub mod Taking
-pub mod Runs
 pub mod Trees

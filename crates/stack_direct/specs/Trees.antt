@@ -6,10 +6,10 @@ use Rattle.la_base.specs.declared.wires.Out.{Out}
 use Rattle.la_io.specs.declared.feeds.MarkTake.{Ghosts as TakeGhosts}
 use Rattle.decoder_core.specs.declared.machine.Machine.{Ghosts as MachineGhosts}
 use Rattle.decoder_core.specs.Inputs.{Item}
-use Rattle.stack_direct.specs.Machines.{Definitions, Stand, defined}
-use Rattle.stack_direct.specs.Passing.{Hands, Feeds, Consumes, Gives}
-use Rattle.stack_direct.specs.Runs.{FedRuns}
-use Rattle.stack_direct.specs.Taking.{GoesOn, KeepsOn}
+use Rattle.tree_runs.specs.Machines.{Definitions, Stand, defined}
+use Rattle.tree_runs.specs.Passing.{Hands, Feeds, Consumes, Gives}
+use Rattle.tree_runs.specs.Runs.{FedRuns}
+use Rattle.tree_runs.specs.Taking.{GoesOn, KeepsOn}
 use Rattle.stack_direct.specs.declared.tree.Tree.{Tree}
 
 abbrev pub machines_of : {M : Type 0} → Tree M → List M

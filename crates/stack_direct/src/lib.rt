@@ -2,11 +2,9 @@
 #![tactic(auto)]
 
 mod down;
-mod laws;
 mod parts;
 mod roots;
 mod run;
 mod tree;
 
-pub use laws::new_machines_stand;
 pub use run::run_direct;

@@ -2,9 +2,9 @@
 ghost use Rattle.std.specs.Prelude.{◌≡◌, ◌<◌, ◌≤◌, ◌∷◌, [], ℕ, List, length, map, take};
 ghost use Rattle.la_base.specs.Runs.{samples_of};
 ghost use Rattle.decoder_core.specs.Inputs.{left_feed};
-ghost use Rattle.stack_direct.specs.Passing.{Took, only, same_place};
-ghost use Rattle.stack_direct.specs.Taking.{GoesOn};
-ghost use Rattle.stack_direct.specs.Machines.{Stand, StepsAt, StepsRunsAt, whole_of};
+ghost use Rattle.tree_runs.specs.Passing.{Took, only, same_place};
+ghost use Rattle.tree_runs.specs.Taking.{GoesOn};
+ghost use Rattle.tree_runs.specs.Machines.{Stand, StepsAt, StepsRunsAt, whole_of};
 
 use decoder_core::{Machine, Outs, Taken};
 use la_base::{Feed, Mark, Packet, Run};

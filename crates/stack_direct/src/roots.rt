@@ -3,8 +3,8 @@ ghost use Rattle.std.specs.Prelude.{◌≡◌, ◌<◌, ◌≤◌, ◌∷◌, []
 ghost use Rattle.std.specs.Prelude.{length, map};
 ghost use Rattle.la_base.specs.Samples.{samples};
 ghost use Rattle.decoder_core.specs.Inputs.{Item, Sample};
-ghost use Rattle.stack_direct.specs.Machines.{taken_of};
-ghost use Rattle.stack_direct.specs.Runs.{run_items};
+ghost use Rattle.tree_runs.specs.Machines.{taken_of};
+ghost use Rattle.tree_runs.specs.Runs.{run_items};
 ghost use Rattle.stack_direct.specs.Trees.{SameTree, TakesAll, TakesOn, TreeConsumes, TreeFeeds};
 ghost use Rattle.stack_direct.specs.Trees.{TreeGives, TreeHands, parents_of};
 

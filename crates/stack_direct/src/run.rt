@@ -5,9 +5,9 @@ ghost use Rattle.std.specs.Result.{is_ok};
 ghost use Rattle.decoder_core.specs.declared.end.RunEnd.TheVariants.{Ended, Stopped as RunStopped};
 ghost use Rattle.la_base.specs.declared.wires.Mark.{Mark};
 ghost use Rattle.la_io.specs.Causes.{Rose};
-ghost use Rattle.stack_direct.specs.Machines.{Stand, defined};
-ghost use Rattle.stack_direct.specs.Runs.{FedRuns, RunsOn, TookEnds, is_ended};
-ghost use Rattle.stack_direct.specs.Taking.{IsTree};
+ghost use Rattle.tree_runs.specs.Machines.{Stand, defined};
+ghost use Rattle.tree_runs.specs.Runs.{FedRuns, RunsOn, TookEnds, is_ended};
+ghost use Rattle.tree_runs.specs.Taking.{IsTree};
 ghost use Rattle.stack_direct.specs.Trees.{GoesStill, SameTree, TakesAll, TakesOn, TreeFed};
 
 use crate::parts::mark;

@@ -1,6 +1,6 @@
 // A tree of machines.
 ghost use Rattle.std.specs.Prelude.{◌≡◌, ◌≤◌, length};
-ghost use Rattle.stack_direct.specs.Passing.{IsForest};
+ghost use Rattle.tree_runs.specs.Passing.{IsForest};
 
 use decoder_core::Machine;
 

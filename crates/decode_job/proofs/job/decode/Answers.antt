@@ -4,7 +4,7 @@ use Rattle.la_io.specs.Causes.{AppendsFront}
 use Rattle.capture_any.specs.Listings.{Lists}
 use Rattle.capture_any.specs.Reading.{form_of, pins_of}
 use Rattle.capture_any.specs.declared.end.ListingEnd.TheVariants.{NoMemory}
-use Rattle.stack_direct.specs.Runs.{nodes_of}
+use Rattle.tree_runs.specs.Runs.{nodes_of}
 use Rattle.stack_spec.specs.Stacks.{stack_meaning}
 use Rattle.decode_job.specs.Listing.{tree_output}
 use Rattle.decode_job.proofs.Ends.{lists_moved}

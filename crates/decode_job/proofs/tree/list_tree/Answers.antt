@@ -2,7 +2,7 @@ use Rattle.std.proofs.Common.{rules, List, ℕ, map}
 use Rattle.std.specs.Io.KnownBytes.{Appends}
 use Rattle.la_io.specs.Causes.{AppendsFront}
 use Rattle.capture_any.specs.Reading.{form_of, pins_of}
-use Rattle.stack_direct.specs.Runs.{nodes_of}
+use Rattle.tree_runs.specs.Runs.{nodes_of}
 use Rattle.stack_spec.specs.Stacks.{stack_meaning}
 use Rattle.decode_job.specs.Listing.{tree_output}
 use Rattle.decode_job.proofs.Ends.{lists_moved}

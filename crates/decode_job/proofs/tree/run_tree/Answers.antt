@@ -9,10 +9,10 @@ use Rattle.capture_any.specs.Reading.{form_of, is_open_of, pins_of}
 use Rattle.capture_any.specs.declared.end.ListingEnd.{ListingEnd}
 use Rattle.capture_any.proofs.ListingLemmas.{lists_on}
 use Rattle.decoder_core.specs.Promises.{GivesNothing, KeepsFront}
-use Rattle.stack_direct.specs.Machines.{Stand, near_of, whole_of}
-use Rattle.stack_direct.specs.Runs.{feeds_on, nodes_of, samples_in}
-use Rattle.stack_direct.proofs.Ending.{keeps_at}
-use Rattle.stack_direct.proofs.Fresh.{fresh, nothing_at}
+use Rattle.tree_runs.specs.Machines.{Stand, near_of, whole_of}
+use Rattle.tree_runs.specs.Runs.{feeds_on, nodes_of, samples_in}
+use Rattle.tree_runs.proofs.Ending.{keeps_at}
+use Rattle.tree_runs.proofs.Fresh.{fresh, nothing_at}
 use Rattle.stack_spec.specs.Stacks.{stack_meaning}
 use Rattle.stack_spec.specs.declared.stack.Stack.{Stack}
 use Rattle.note_lister.specs.Prompt.{Prompts}

@@ -15,8 +15,8 @@ use Rattle.capture_any.specs.Listings.{Lists}
 use Rattle.decoder_core.specs.Trees.{Node}
 use Rattle.decoder_set.specs.Opening.{setup_of}
 use Rattle.decoder_set.specs.Setups.{outs_of}
-use Rattle.stack_direct.specs.Passing.{IsForest}
-use Rattle.stack_direct.specs.Runs.{nodes_of as tree_nodes}
+use Rattle.tree_runs.specs.Passing.{IsForest}
+use Rattle.tree_runs.specs.Runs.{nodes_of as tree_nodes}
 use Rattle.decoder_set.specs.declared.setup.Setup.{Setup}
 use Rattle.decode_job.specs.Listing.{tree_output}
 use Rattle.ldecode.specs.Headline.{WorksOn}

@@ -5,9 +5,9 @@ use Rattle.capture_make.specs.Made.{made}
 use Rattle.decoder_set.specs.Opening.{HasConsumed, setup_of}
 use Rattle.decoder_set.specs.Setups.{near_of, outs_of}
 use Rattle.decoder_set.specs.declared.any.AnyDecoder.{AnyDecoder}
-use Rattle.stack_direct.specs.Machines as at
-use Rattle.stack_direct.specs.Runs.{feeds_on, samples_in}
-use Rattle.stack_direct.proofs.Fresh.{fresh}
+use Rattle.tree_runs.specs.Machines as at
+use Rattle.tree_runs.specs.Runs.{feeds_on, samples_in}
+use Rattle.tree_runs.proofs.Fresh.{fresh}
 use Rattle.ldecode.proofs.Tallying.{as_many, counted_is, forest, machines_stand, nothing}
 use Rattle.ldecode.proofs.make.count_notes.Goals as goal
 

@@ -1,5 +1,5 @@
 use Rattle.std.proofs.Common.{◌+◌, arith}
-use Rattle.stack_direct.proofs.Running.{ends_next, ends_none}
+use Rattle.tree_runs.proofs.Running.{ends_next, ends_none}
 use Rattle.stack_direct.proofs.Going.{goes_then, goes_nowhere}
 use Rattle.stack_direct.proofs.run.end_all.Goals as goal
 

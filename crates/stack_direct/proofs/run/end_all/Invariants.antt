@@ -1,5 +1,5 @@
-use Rattle.stack_direct.specs.Runs.{TookEnds}
-use Rattle.stack_direct.specs.Taking.{KeepsOn}
+use Rattle.tree_runs.specs.Runs.{TookEnds}
+use Rattle.tree_runs.specs.Taking.{KeepsOn}
 use Rattle.stack_direct.proofs.run.end_all.Given as goal
 
 abbrev pub invariant-loop-instance : goal.invariant-loop-instance

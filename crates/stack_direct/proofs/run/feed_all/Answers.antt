@@ -1,9 +1,9 @@
 use Rattle.std.proofs.Common.{◌∷◌, [], ◌∙◌, List, None, true, false, refl, subst, arith}
 use Rattle.la_base.specs.declared.samples.Run.{Run}
-use Rattle.stack_direct.specs.Passing.{Hands}
-use Rattle.stack_direct.specs.Runs.{run_items}
+use Rattle.tree_runs.specs.Passing.{Hands}
+use Rattle.tree_runs.specs.Runs.{run_items}
 use Rattle.stack_direct.specs.Trees.{defined_in, parents_of, stand_in}
-use Rattle.stack_direct.proofs.Running.{fed_none, fed_nothing, fed_paused, fed_runs}
+use Rattle.tree_runs.proofs.Running.{fed_none, fed_nothing, fed_paused, fed_runs}
 use Rattle.stack_direct.proofs.Trees.{hands_of, same_still, same_then, still, still_then, takes_all}
 use Rattle.stack_direct.proofs.run.feed_all.Goals as goal
 

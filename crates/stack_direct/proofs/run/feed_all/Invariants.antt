@@ -1,5 +1,5 @@
 use Rattle.std.proofs.Common.{◌≡◌, ◌-◌, ◌^◌, [], true}
-use Rattle.stack_direct.specs.Runs.{FedRuns}
+use Rattle.tree_runs.specs.Runs.{FedRuns}
 use Rattle.stack_direct.specs.Trees.{GoesStill, SameTree, TakesAll, defined_in, parents_of, stand_in}
 use Rattle.stack_direct.proofs.run.feed_all.Given as goal
 

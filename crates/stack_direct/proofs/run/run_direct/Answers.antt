@@ -3,10 +3,10 @@ use Rattle.std.specs.Prelude.{nat_lt}
 use Rattle.std.proofs.lemmas.Bool.Decides.{nat_tests}
 use Rattle.std.proofs.lemmas.List.{length-map}
 use Rattle.decoder_core.specs.declared.end.RunEnd.TheVariants.{Ended, Stopped}
-use Rattle.stack_direct.specs.Machines.{Stand}
-use Rattle.stack_direct.specs.Runs.{RunsOn}
-use Rattle.stack_direct.proofs.Ending.{keeps_at, runs_on}
-use Rattle.stack_direct.proofs.Running.{ends_none}
+use Rattle.tree_runs.specs.Machines.{Stand}
+use Rattle.tree_runs.specs.Runs.{RunsOn}
+use Rattle.tree_runs.proofs.Ending.{keeps_at, runs_on}
+use Rattle.tree_runs.proofs.Running.{ends_none}
 use Rattle.stack_direct.proofs.run.run_direct.Goals as goal
 
 pub returns-in-Ok-end_all-clause-runs : goal.returns-in-Ok-end_all-clause-runs

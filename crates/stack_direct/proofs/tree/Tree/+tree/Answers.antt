@@ -6,15 +6,15 @@ use Rattle.la_base.specs.declared.wires.Out.{Out}
 use Rattle.la_base.specs.declared.wires.Out.TheVariants.{Note as NoteOut, Piece as PieceOut, Packet as PacketOut}
 use Rattle.decoder_core.specs.Inputs.{Pack}
 use Rattle.decoder_core.specs.Promises.{IsFloor}
-use Rattle.stack_direct.specs.Passing.{Gives}
-use Rattle.stack_direct.specs.Reaching.{Reaches}
-use Rattle.stack_direct.specs.Machines.{Stand, whole_of, defined, near_of}
+use Rattle.tree_runs.specs.Passing.{Gives}
+use Rattle.tree_runs.specs.Reaching.{Reaches}
+use Rattle.tree_runs.specs.Machines.{Stand, whole_of, defined, near_of}
 use Rattle.stack_direct.specs.Trees.{defined_in, parents_of, stand_in}
-use Rattle.stack_direct.proofs.Joining.{gives_nothing, gives_then, gives_reach, gives_mark, gives_packet, consumes_reach, step_moves, stepped, hands_none, hands_front, hands_all, floored, cut_off}
-use Rattle.stack_direct.proofs.Lists.{reaches_weaker}
+use Rattle.tree_runs.proofs.Joining.{gives_nothing, gives_then, gives_reach, gives_mark, gives_packet, consumes_reach, step_moves, stepped, hands_none, hands_front, hands_all, floored, cut_off}
+use Rattle.tree_runs.proofs.Lists.{reaches_weaker}
 use Rattle.stack_direct.proofs.Feeding.{whole_packet}
 use Rattle.stack_direct.proofs.Trees.{behind_above, gives_of, gives_stepped, hands_more, hands_past, same_count, same_still, same_then, still, still_then, takes_all}
-use Rattle.stack_direct.proofs.Ending.{keeps_at}
+use Rattle.tree_runs.proofs.Ending.{keeps_at}
 use Rattle.stack_direct.proofs.tree.Tree.+tree.Goals as goal
 
 pub give_one-returns-in-Note-clause-gives : goal.give_one-returns-in-Note-clause-gives

@@ -1,6 +1,6 @@
 use Rattle.std.proofs.Common.{◌≡◌, ◌+◌, ◌-◌, ◌*◌, ◌∷◌, [], true, length, take}
 use Rattle.decoder_core.specs.Inputs.{Pack}
-use Rattle.stack_direct.specs.Passing.{Hands, Gives, first_on, up_to}
+use Rattle.tree_runs.specs.Passing.{Hands, Gives, first_on, up_to}
 use Rattle.stack_direct.specs.Trees.{GoesStill, SameTree, TakesAll, defined_in, parents_of, stand_in}
 use Rattle.stack_direct.proofs.tree.Tree.+tree.Given as goal
 

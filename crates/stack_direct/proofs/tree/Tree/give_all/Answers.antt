@@ -2,9 +2,9 @@ use Rattle.std.proofs.Common.{◌≡◌, [], List, length, true, sym, ◌∙◌,
 use Rattle.std.proofs.lemmas.Bool.Decides.{nat_tests}
 use Rattle.std.proofs.lemmas.List.{nil_from_length}
 use Rattle.la_base.specs.declared.wires.Out.{Out}
-use Rattle.stack_direct.specs.Passing.{Gives}
+use Rattle.tree_runs.specs.Passing.{Gives}
 use Rattle.stack_direct.specs.Trees.{defined_in, parents_of, stand_in}
-use Rattle.stack_direct.proofs.Joining.{gives_nothing}
+use Rattle.tree_runs.proofs.Joining.{gives_nothing}
 use Rattle.stack_direct.proofs.tree.Tree.give_all.Goals as goal
 
 pub returns-then-is_empty-clause-gives : goal.returns-then-is_empty-clause-gives

@@ -1,7 +1,7 @@
 use Rattle.std.proofs.Common.{◌∷◌, [], ◌+◌, None, refl, sym, ◌∙◌, arith}
-use Rattle.stack_direct.specs.Runs.{run_items}
+use Rattle.tree_runs.specs.Runs.{run_items}
 use Rattle.stack_direct.specs.Trees.{defined_in, parents_of, stand_in}
-use Rattle.stack_direct.proofs.Joining.{hands_none, hands_front, hands_all}
+use Rattle.tree_runs.proofs.Joining.{hands_none, hands_front, hands_all}
 use Rattle.stack_direct.proofs.Trees.{hands_more, hands_past, same_count, same_still, same_then, still, still_then, takes_all}
 use Rattle.stack_direct.proofs.tree.Tree.hand_runs.Goals as goal
 

@@ -1,6 +1,6 @@
 use Rattle.std.proofs.Common.{◌≡◌, length, ◌∷◌, [], None, true}
-use Rattle.stack_direct.specs.Passing.{Hands, up_to}
-use Rattle.stack_direct.specs.Runs.{run_items}
+use Rattle.tree_runs.specs.Passing.{Hands, up_to}
+use Rattle.tree_runs.specs.Runs.{run_items}
 use Rattle.stack_direct.specs.Trees.{GoesStill, SameTree, TakesAll, defined_in, parents_of, stand_in}
 use Rattle.stack_direct.proofs.tree.Tree.hand_runs.Given as goal
 

@@ -5,9 +5,9 @@ use Rattle.la_base.specs.Runs.{samples_of}
 use Rattle.la_base.proofs.RunLemmas.{runs_from}
 use Rattle.decoder_core.specs.Inputs.{Sample}
 use Rattle.stack_direct.specs.Trees.{defined_in, parents_of, stand_in}
-use Rattle.stack_direct.proofs.Joining.{consumes_nothing, consumes_then, consumes_reach}
-use Rattle.stack_direct.proofs.Lists.{reaches_weaker}
-use Rattle.stack_direct.proofs.Running.{items_further, more_items}
+use Rattle.tree_runs.proofs.Joining.{consumes_nothing, consumes_then, consumes_reach}
+use Rattle.tree_runs.proofs.Lists.{reaches_weaker}
+use Rattle.tree_runs.proofs.Running.{items_further, more_items}
 use Rattle.stack_direct.proofs.Going.{goes_ok}
 use Rattle.stack_direct.proofs.Trees.{consumes_of, same_count, same_still, same_then, still, still_then, stopped_too, takes_all}
 use Rattle.stack_direct.proofs.tree.Tree.pass_all.Goals as goal

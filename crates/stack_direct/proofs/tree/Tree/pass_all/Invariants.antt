@@ -1,7 +1,7 @@
 use Rattle.std.proofs.Common.{◌≡◌, ◌≤◌, ◌-◌, [], true, length, map, take}
 use Rattle.la_base.specs.Runs.{samples_of}
 use Rattle.decoder_core.specs.Inputs.{Sample}
-use Rattle.stack_direct.specs.Passing.{Consumes}
+use Rattle.tree_runs.specs.Passing.{Consumes}
 use Rattle.stack_direct.specs.Trees.{GoesStill, SameTree, TakesAll, defined_in, parents_of, stand_in}
 use Rattle.stack_direct.proofs.tree.Tree.pass_all.Given as goal
 

@@ -4,9 +4,9 @@ use Rattle.la_base.specs.Samples.{samples}
 use Rattle.la_base.specs.declared.samples.Run.{Run}
 use Rattle.la_base.specs.declared.wires.Feed.TheVariants.{Run as RunFeed}
 use Rattle.decoder_core.specs.Inputs.{Item, Sample, left_feed, left_items}
-use Rattle.stack_direct.specs.Machines.{Stand, StepsAt, whole_of}
+use Rattle.tree_runs.specs.Machines.{Stand, StepsAt, whole_of}
 use Rattle.stack_direct.specs.Trees.{defined_in, parents_of, stand_in}
-use Rattle.stack_direct.proofs.Joining.{consumes_nothing, consumes_then, consumes_reach, step_moves, stepped}
+use Rattle.tree_runs.proofs.Joining.{consumes_nothing, consumes_then, consumes_reach, step_moves, stepped}
 use Rattle.stack_direct.proofs.Trees.{gives_stepped, same_count, same_still, still, still_then, takes_all}
 use Rattle.stack_direct.proofs.tree.Tree.pass_rest.Goals as goal
 

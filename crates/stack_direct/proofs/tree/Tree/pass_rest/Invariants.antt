@@ -1,8 +1,8 @@
 use Rattle.std.proofs.Common.{◌≡◌, length, ◌++◌, [], List, true, map}
 use Rattle.la_base.specs.Samples.{samples}
 use Rattle.decoder_core.specs.Inputs.{Item, Sample, left_feed, left_items}
-use Rattle.stack_direct.specs.Passing.{Consumes}
-use Rattle.stack_direct.specs.Machines.{left_work}
+use Rattle.tree_runs.specs.Passing.{Consumes}
+use Rattle.tree_runs.specs.Machines.{left_work}
 use Rattle.stack_direct.specs.Trees.{GoesStill, SameTree, TakesAll, defined_in, parents_of, stand_in}
 use Rattle.stack_direct.proofs.tree.Tree.pass_rest.Given as goal
 

@@ -1,9 +1,9 @@
 use Rattle.std.proofs.Common.{◌≤◌, List, subst, arith}
 use Rattle.std.specs.Result.{is_ok}
 use Rattle.decoder_core.specs.Promises.{IsFloor}
-use Rattle.stack_direct.specs.Machines.{near_of, whole_of}
-use Rattle.stack_direct.proofs.Ending.{keeps_at}
-use Rattle.stack_direct.proofs.Joining.{cut_off, floored}
+use Rattle.tree_runs.specs.Machines.{near_of, whole_of}
+use Rattle.tree_runs.proofs.Ending.{keeps_at}
+use Rattle.tree_runs.proofs.Joining.{cut_off, floored}
 use Rattle.stack_direct.proofs.tree.Tree.pass_runs.Goals as goal
 
 pub returns-in-Ok-clause-feeds : goal.returns-in-Ok-clause-feeds

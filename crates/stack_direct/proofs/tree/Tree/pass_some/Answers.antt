@@ -5,8 +5,8 @@ use Rattle.la_base.specs.Runs.{samples_of}
 use Rattle.la_base.specs.declared.samples.Run.{Run}
 use Rattle.decoder_core.specs.Inputs.{Sample, left_feed, left_items}
 use Rattle.stack_direct.specs.Trees.{SameTree}
-use Rattle.stack_direct.proofs.Joining.{consumes_then, consumes_reach, runs_move, stepped}
-use Rattle.stack_direct.proofs.Running.{taken_reach}
+use Rattle.tree_runs.proofs.Joining.{consumes_then, consumes_reach, runs_move, stepped}
+use Rattle.tree_runs.proofs.Running.{taken_reach}
 use Rattle.stack_direct.proofs.Trees.{consumes_of, gives_stepped, same_still}
 use Rattle.stack_direct.proofs.tree.Tree.pass_some.Goals as goal
 

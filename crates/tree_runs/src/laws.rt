@@ -1,8 +1,8 @@
 // Laws of trees. Nothing is done.
 ghost use Rattle.std.specs.Prelude.{◌≡◌, ◌<◌, ℕ, [], length, map};
-ghost use Rattle.stack_direct.specs.Machines.{Stand};
-ghost use Rattle.stack_direct.specs.Passing.{IsForest};
-ghost use Rattle.stack_direct.specs.Runs.{StandOn};
+ghost use Rattle.tree_runs.specs.Machines.{Stand};
+ghost use Rattle.tree_runs.specs.Passing.{IsForest};
+ghost use Rattle.tree_runs.specs.Runs.{StandOn};
 
 use decoder_core::Machine;
 

@@ -9,8 +9,8 @@ use Rattle.decoder_core.specs.Inputs.{Item, Pack}
 use Rattle.decoder_core.specs.Promises.{NotesFrom}
 use Rattle.decoder_core.specs.Trees.{packets_of}
 use Rattle.decoder_core.specs.Marks.{marks_of, shown, MarksFrom, FloorsHold}
-use Rattle.stack_direct.specs.Passing.{NoEnd}
-use Rattle.stack_direct.specs.Reaching.{Reaches}
+use Rattle.tree_runs.specs.Passing.{NoEnd}
+use Rattle.tree_runs.specs.Reaching.{Reaches}
 
 pub packets-append : (xs ys : List Out) → packets_of (xs ++ ys) ≡ packets_of xs ++ packets_of ys
 packets-append [] ys = refl

@@ -14,12 +14,12 @@ use Rattle.decoder_core.specs.Promises.{IsFloor, KeepsFront}
 use Rattle.decoder_core.specs.Trees.{packets_of}
 use Rattle.decoder_core.specs.Marks.{marks_of, shown, FloorsHold}
 use Rattle.la_base.specs.declared.samples.Run.{Run}
-use Rattle.stack_direct.specs.Machines.{Definitions, MovesAt, StepsAt, StepsRunsAt}
-use Rattle.stack_direct.specs.Floors.{Handed, alone}
-use Rattle.stack_direct.specs.Passing.{Passes, Change, joined, only, up_to, Took, same_place, first_on, from_parent, comes, comes_in, Down, Into, IsForest, Hands, Feeds, Consumes, Gives, SomeMark}
-use Rattle.stack_direct.specs.Reaching.{Reaches}
-use Rattle.stack_direct.proofs.Flooring.{alone-append, handed_cut, handed_nothing, handed_then, handed_weaker, handed_whole, reaches_alone, some_behind}
-use Rattle.stack_direct.proofs.Lists.{packets-append, marks-append, shown-append, no_end-append, shown_front, floors-append, marks_from, reaches_all, reaches_weaker, reaches-append, reaches_trans, reaches_packets, reaches_marks}
+use Rattle.tree_runs.specs.Machines.{Definitions, MovesAt, StepsAt, StepsRunsAt}
+use Rattle.tree_runs.specs.Floors.{Handed, alone}
+use Rattle.tree_runs.specs.Passing.{Passes, Change, joined, only, up_to, Took, same_place, first_on, from_parent, comes, comes_in, Down, Into, IsForest, Hands, Feeds, Consumes, Gives, SomeMark}
+use Rattle.tree_runs.specs.Reaching.{Reaches}
+use Rattle.tree_runs.proofs.Flooring.{alone-append, handed_cut, handed_nothing, handed_then, handed_weaker, handed_whole, reaches_alone, some_behind}
+use Rattle.tree_runs.proofs.Lists.{packets-append, marks-append, shown-append, no_end-append, shown_front, floors-append, marks_from, reaches_all, reaches_weaker, reaches-append, reaches_trans, reaches_packets, reaches_marks}
 
 -- one instance
 pub passes_then : {done : Bool} {whole : List Item → List Out} {before mid after : List Item → Type 0} {g1 g2 : List Item} {a1 a2 : List Out} {m1 m2 : List Mark}

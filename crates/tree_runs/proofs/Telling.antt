@@ -10,13 +10,13 @@ use Rattle.decoder_core.specs.Inputs.{Item, Sample}
 use Rattle.decoder_core.specs.Promises.{KeepsFront}
 use Rattle.decoder_core.specs.Marks.{FloorsHold, marks_of, shown}
 use Rattle.decoder_core.specs.Trees.{Node, given, input_of, outputs_behind, packets_in, packets_of}
-use Rattle.stack_direct.specs.Machines.{whole_of, outputs_at}
-use Rattle.stack_direct.specs.Floors.{alone}
-use Rattle.stack_direct.specs.Passing.{Change, Down, IsForest, Passes}
-use Rattle.stack_direct.specs.Reaching.{Reaches}
-use Rattle.stack_direct.specs.Runs.{nodes_of, input_at, input_by, feeds_of, run_items}
-use Rattle.stack_direct.proofs.Flooring.{reaches_alone}
-use Rattle.stack_direct.proofs.Lists.{packets-append, marks-append, reaches_trans}
+use Rattle.tree_runs.specs.Machines.{whole_of, outputs_at}
+use Rattle.tree_runs.specs.Floors.{alone}
+use Rattle.tree_runs.specs.Passing.{Change, Down, IsForest, Passes}
+use Rattle.tree_runs.specs.Reaching.{Reaches}
+use Rattle.tree_runs.specs.Runs.{nodes_of, input_at, input_by, feeds_of, run_items}
+use Rattle.tree_runs.proofs.Flooring.{reaches_alone}
+use Rattle.tree_runs.proofs.Lists.{packets-append, marks-append, reaches_trans}
 
 -- the outputs of a tree, instance by instance
 get_front : {X : Type 0} (xs ys : List X) (k : ℕ) → k < length xs → slice_get (xs ++ ys) k ≡ slice_get xs k

@@ -11,12 +11,12 @@ use Rattle.la_io.specs.Feeds.{together}
 use Rattle.la_io.proofs.Together.{together-append}
 use Rattle.decoder_core.specs.Inputs.{Item, Sample}
 use Rattle.la_base.specs.declared.wires.Mark.TheVariants.{End as EndMark}
-use Rattle.stack_direct.specs.Passing.{Hands, Took, only, up_to}
-use Rattle.stack_direct.specs.Reaching.{Reaches}
-use Rattle.stack_direct.specs.Machines.{Definitions}
-use Rattle.stack_direct.specs.Runs.{FedRuns, TookEnds, run_items, samples_in}
-use Rattle.stack_direct.proofs.Lists.{reaches_weaker}
-use Rattle.stack_direct.proofs.Joining.{hands_nothing, hands_then, hands_reach, took_then, took_nothing, up_to_next, up_to_none}
+use Rattle.tree_runs.specs.Passing.{Hands, Took, only, up_to}
+use Rattle.tree_runs.specs.Reaching.{Reaches}
+use Rattle.tree_runs.specs.Machines.{Definitions}
+use Rattle.tree_runs.specs.Runs.{FedRuns, TookEnds, run_items, samples_in}
+use Rattle.tree_runs.proofs.Lists.{reaches_weaker}
+use Rattle.tree_runs.proofs.Joining.{hands_nothing, hands_then, hands_reach, took_then, took_nothing, up_to_next, up_to_none}
 
 pub samples_of-append : (xs ys : List Run) → samples_of (xs ++ ys) ≡ samples_of xs ++ samples_of ys
 samples_of-append [] ys = refl

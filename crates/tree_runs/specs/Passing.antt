@@ -8,9 +8,9 @@ use Rattle.la_base.specs.declared.wires.Out.{Out}
 use Rattle.decoder_core.specs.Inputs.{Item}
 use Rattle.decoder_core.specs.Trees.{packets_of}
 use Rattle.decoder_core.specs.Marks.{marks_of, shown, FloorsHold}
-use Rattle.stack_direct.specs.Floors.{Handed, alone}
-use Rattle.stack_direct.specs.Machines.{Definitions}
-use Rattle.stack_direct.specs.Reaching.{Reaches}
+use Rattle.tree_runs.specs.Floors.{Handed, alone}
+use Rattle.tree_runs.specs.Machines.{Definitions}
+use Rattle.tree_runs.specs.Reaching.{Reaches}
 
 -- no End is among marks
 abbrev pub NoEnd : List Mark → Type 0

@@ -12,16 +12,16 @@ use Rattle.decoder_core.specs.Promises.{KeepsFront}
 use Rattle.decoder_core.specs.declared.end.RunEnd.{RunEnd}
 use Rattle.decoder_core.specs.declared.end.RunEnd.TheVariants.{Ended, Stopped}
 use Rattle.decoder_core.specs.Marks.{FloorsHold, marks_of, shown}
-use Rattle.stack_direct.specs.Floors.{Floored, FrontOfFloored, Handed}
-use Rattle.stack_direct.specs.Machines.{defined, near_of, whole_of}
-use Rattle.stack_direct.specs.Passing.{Change, Down, IsForest, Passes}
-use Rattle.stack_direct.specs.Reaching.{Reaches}
-use Rattle.stack_direct.specs.Runs.{FedRuns, LeftBy, RunsOn, StandOn, StoppedIn, Told, TookEnds, feeds_on, input_at, input_on, nodes_of, run_items, samples_in}
-use Rattle.stack_direct.proofs.Lists.{reaches_weaker}
-use Rattle.stack_direct.proofs.Joining.{took_then}
-use Rattle.stack_direct.proofs.Running.{items-append}
-use Rattle.stack_direct.proofs.Flooring.{front_further, front_weaker}
-use Rattle.stack_direct.proofs.Telling.{root_input, child_input, fed, grows, tells}
+use Rattle.tree_runs.specs.Floors.{Floored, FrontOfFloored, Handed}
+use Rattle.tree_runs.specs.Machines.{defined, near_of, whole_of}
+use Rattle.tree_runs.specs.Passing.{Change, Down, IsForest, Passes}
+use Rattle.tree_runs.specs.Reaching.{Reaches}
+use Rattle.tree_runs.specs.Runs.{FedRuns, LeftBy, RunsOn, StandOn, StoppedIn, Told, TookEnds, feeds_on, input_at, input_on, nodes_of, run_items, samples_in}
+use Rattle.tree_runs.proofs.Lists.{reaches_weaker}
+use Rattle.tree_runs.proofs.Joining.{took_then}
+use Rattle.tree_runs.proofs.Running.{items-append}
+use Rattle.tree_runs.proofs.Flooring.{front_further, front_weaker}
+use Rattle.tree_runs.proofs.Telling.{root_input, child_input, fed, grows, tells}
 
 pub keeps_at : {M S : Type 0} (setup : M → S) (outputs : S → List Item → List Out) → ((m : M) → KeepsFront (outputs (setup m))) → (ms : List M) (j : ℕ) → j < length ms → KeepsFront (whole_of outputs (map setup ms) j)
 keeps_at setup outputs law [] j low = absurd (omega (arith, low))

@@ -9,10 +9,10 @@ use Rattle.la_io.proofs.Together.{together-append}
 use Rattle.decoder_core.specs.Inputs.{Item}
 use Rattle.decoder_core.specs.Marks.{marks_of}
 use Rattle.decoder_core.specs.Promises.{KeepsFront}
-use Rattle.stack_direct.specs.Floors.{Floored, FrontOfFloored, Handed, alone}
-use Rattle.stack_direct.specs.Passing.{Passes}
-use Rattle.stack_direct.specs.Reaching.{Reaches}
-use Rattle.stack_direct.proofs.Lists.{marks-append, reaches-append, reaches_weaker}
+use Rattle.tree_runs.specs.Floors.{Floored, FrontOfFloored, Handed, alone}
+use Rattle.tree_runs.specs.Passing.{Passes}
+use Rattle.tree_runs.specs.Reaching.{Reaches}
+use Rattle.tree_runs.proofs.Lists.{marks-append, reaches-append, reaches_weaker}
 
 -- items one by one
 pub alone-append : (xs ys : List Item) → alone (xs ++ ys) ≡ alone xs ++ alone ys

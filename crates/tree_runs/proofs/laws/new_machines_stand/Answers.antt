@@ -1,8 +1,8 @@
 use Rattle.std.proofs.Common.{◌∙◌, map, arith}
 use Rattle.std.proofs.lemmas.List.{length-map}
-use Rattle.stack_direct.specs.Machines.{Stand}
-use Rattle.stack_direct.proofs.Fresh.{fresh, nothing_at}
-use Rattle.stack_direct.proofs.laws.new_machines_stand.Goals as goal
+use Rattle.tree_runs.specs.Machines.{Stand}
+use Rattle.tree_runs.proofs.Fresh.{fresh, nothing_at}
+use Rattle.tree_runs.proofs.laws.new_machines_stand.Goals as goal
 
 pub returns : goal.returns
 returns g c =

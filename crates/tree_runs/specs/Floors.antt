@@ -6,7 +6,7 @@ use Rattle.la_base.specs.declared.wires.Out.{Out}
 use Rattle.la_io.specs.Feeds.{together}
 use Rattle.decoder_core.specs.Inputs.{Item}
 use Rattle.decoder_core.specs.Marks.{marks_of}
-use Rattle.stack_direct.specs.Reaching.{Reaches}
+use Rattle.tree_runs.specs.Reaching.{Reaches}
 
 -- the marks of an instance that was handed these feeds behind an input, each one whole: of each
 -- feed the notes and pieces that it adds, and then a floor, which is at least the near one

@@ -13,10 +13,10 @@ use Rattle.decoder_core.specs.Trees.{Node, given, input_of}
 use Rattle.decoder_core.specs.Marks.{marks_of, shown, FloorsHold}
 use Rattle.decoder_core.specs.declared.end.RunEnd.{RunEnd}
 use Rattle.decoder_core.specs.declared.end.RunEnd.TheVariants.{Ended, Stopped}
-use Rattle.stack_direct.specs.Floors.{Floored, FrontOfFloored, Handed, alone}
-use Rattle.stack_direct.specs.Machines.{Definitions, near_of, whole_of}
-use Rattle.stack_direct.specs.Passing.{Change, Down, Hands, NoEnd, Took}
-use Rattle.stack_direct.specs.Reaching.{Reaches}
+use Rattle.tree_runs.specs.Floors.{Floored, FrontOfFloored, Handed, alone}
+use Rattle.tree_runs.specs.Machines.{Definitions, near_of, whole_of}
+use Rattle.tree_runs.specs.Passing.{Change, Down, Hands, NoEnd, Took}
+use Rattle.tree_runs.specs.Reaching.{Reaches}
 
 -- the decoders of a tree, by their setups and the places that they stand on
 abbrev pub nodes_of : {S : Type 0} → List S → List (Option ℕ) → List (Node S)

@@ -5,10 +5,10 @@ use Rattle.la_base.specs.declared.wires.Out.{Out}
 use Rattle.decoder_core.specs.Inputs.{Item}
 use Rattle.decoder_core.specs.Promises.{GivesNothing}
 use Rattle.decoder_core.specs.Trees.{packets_of}
-use Rattle.stack_direct.specs.Machines.{whole_of}
-use Rattle.stack_direct.specs.Passing.{IsForest}
-use Rattle.stack_direct.specs.Runs.{StandOn, input_at, nodes_of}
-use Rattle.stack_direct.proofs.Telling.{root_input, child_input}
+use Rattle.tree_runs.specs.Machines.{whole_of}
+use Rattle.tree_runs.specs.Passing.{IsForest}
+use Rattle.tree_runs.specs.Runs.{StandOn, input_at, nodes_of}
+use Rattle.tree_runs.proofs.Telling.{root_input, child_input}
 
 pub nothing_at : {M S : Type 0} (setup : M → S) (outputs : S → List Item → List Out) → ((m : M) → GivesNothing (outputs (setup m))) → (ms : List M) (j : ℕ) → j < length ms → GivesNothing (whole_of outputs (map setup ms) j)
 nothing_at setup outputs law [] j low = absurd (omega (arith, low))

@@ -1,0 +1,7 @@
+pub mod Reaching
+pub mod Floors
+pub mod Passing
+pub mod Machines
+pub mod Taking
+pub mod Runs
+pub mod Listings
