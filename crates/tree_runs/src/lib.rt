@@ -1,5 +1,5 @@
-//! What the run of a tree of decoders gives, whoever runs it: definitions, and laws of them. Nothing
-//! is done.
+//! What the run of a tree of decoders gives, whoever runs it: definitions, and laws of them.
+//! Nothing is done.
 #![tactic(auto)]
 
 mod laws;

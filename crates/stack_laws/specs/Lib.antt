@@ -1,0 +1,15 @@
+pub mod Links
+pub mod Feeds
+pub mod Moves
+pub mod Keeping
+pub mod Running
+pub mod Events
+pub mod Acts
+pub mod Legal
+pub mod Views
+pub mod Listings
+pub mod Rests
+pub mod Laws
+pub mod Owning
+pub mod Settling
+pub mod Worked

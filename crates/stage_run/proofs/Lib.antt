@@ -1,0 +1,11 @@
+mod Rows
+mod Lists
+mod Coming
+mod Serving
+mod Counts
+mod Behind
+mod Stepping
+mod Making
+mod Moving
+mod Turning
+mod Ending

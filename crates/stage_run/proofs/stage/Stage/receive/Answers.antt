@@ -1,0 +1,43 @@
+use Rattle.std.proofs.Common.{◌≡◌, ◌∙◌, ◌++◌, List, map, refl, sym, ap, subst, arith}
+use Rattle.std.proofs.lemmas.List.{append-nil, length-map}
+use Rattle.la_base.specs.declared.wires.Feed.{Feed}
+use Rattle.decoder_core.specs.Inputs.{Item}
+use Rattle.stack_laws.specs.Feeds.{items_in}
+use Rattle.stack_laws.specs.Moves.{TakeIn}
+use Rattle.stage_run.specs.Stages.{Means, Taking, near_at, whole_at}
+use Rattle.stage_run.proofs.Coming.{came_end, idle_waits}
+use Rattle.stage_run.proofs.Lists.{items-append}
+use Rattle.stage_run.proofs.Moving.{kinds_all, took_all}
+use Rattle.stage_run.proofs.Making.{links_to}
+use Rattle.stage_run.proofs.stage.Stage.receive.Goals as goal
+
+pub returns-else-count-eq0-clause-goes : goal.returns-else-count-eq0-clause-goes
+returns-else-count-eq0-clause-goes g c =
+    let m = g.M.Machine in
+    let s = c.args.self.now in
+    let e = c.receive-count.ensures in
+    let more = e.came.0 in
+    record {
+      links = links_to s.inbox.input _ s.outbox e.link.0 e.link.1;
+      setup = refl;
+      moves = λ start view v.
+          let took = took_all (whole_at m start s) (near_at m start s) more view (v.closed ∙ c.requires.going) in
+          let all : items_in view.received ≡ view.consumed = v.left ∙ ap (λ (l : List Item). view.consumed ++ l) (idle_waits s.inbox c.requires.done) ∙ append-nil view.consumed in (
+            map TakeIn more,
+            omega (arith, length-map more TakeIn, e.came.2),
+            kinds_all TakeIn Taking (λ feed. refl) more,
+            record {
+              may = took.0;
+              means = subst (Means m start _) (sym took.1) (record {
+                received = ap (λ (l : List Feed). l ++ more) v.received ∙ sym e.came.3;
+                stands = v.stands;
+                left = items-append view.received more ∙ ap (λ (l : List Item). l ++ items_in more) all ∙ ap (λ (l : List Item). view.consumed ++ l) (sym e.came.4);
+                over = λ over. came_end view.received more (e.came.5 over);
+                told = v.told;
+                children = v.children;
+                marks = v.marks;
+                closed = v.closed;
+              });
+            },
+          );
+    }

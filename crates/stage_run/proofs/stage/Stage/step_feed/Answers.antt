@@ -1,0 +1,52 @@
+use Rattle.std.proofs.Common.{◌≡◌, ◌∙◌, ◌∷◌, ◌++◌, [], List, None, Some, get_or, map, refl, sym, ap, subst, arith, append_assoc}
+use Rattle.la_base.specs.Runs.{samples_of}
+use Rattle.la_base.specs.declared.samples.Run.{Run}
+use Rattle.la_base.specs.declared.wires.Feed.{Feed}
+use Rattle.la_base.specs.declared.wires.Out.{Out}
+use Rattle.decoder_core.specs.Inputs.{Sample}
+use Rattle.decoder_core.specs.Marks.{marks_of}
+use Rattle.stack_laws.specs.Feeds.{feeds_of, items_in}
+use Rattle.stack_laws.specs.Moves.{StepOn, makes}
+use Rattle.stage_run.specs.Boxes.{children_of, told_of}
+use Rattle.stage_run.specs.Rows.{waiting}
+use Rattle.stage_run.proofs.Behind.{behind_gives}
+use Rattle.stage_run.proofs.Stepping.{feeds_step, first_is, left_on}
+use Rattle.stage_run.proofs.Making.{links_kept, makes_outs, one_of}
+use Rattle.stage_run.proofs.stage.Stage.step_feed.Goals as goal
+
+pub returns-clause-goes : goal.returns-clause-goes
+returns-clause-goes g c =
+    let m = g.M.Machine in
+    let s = c.args.self.now in
+    let e = c.step-left.ensures in
+    let into = c.step-left.new.into in
+    let left_over = c.step-left.result in
+    let feed = c.index-waiting-0.result in
+    let front = e.step.front in
+    record {
+      links = links_kept s.inbox.input s.outbox c.keep.new.self c.keep.ensures.same;
+      setup = e.setup;
+      moves = λ start view v.
+          let before = start ++ view.consumed in
+          let gives = e.step.gives before v.stands in
+          let left = left_on (items_in view.received) view.consumed front _ _ v.left
+          (feeds_step (waiting s.inbox.feeds) _ feed left_over front (map Sample (samples_of (waiting s.inbox.runs))) (first_is (waiting s.inbox.feeds) feed c.requires.some (c.index-waiting-0.is ∙ ap (λ (l : List Feed). get_or l 0 feed) c.waiting.ensures.list))
+          (ap (λ (l : List Run). map Sample (samples_of l)) c.requires.no_runs) e.step.split c.skip_but.ensures) in (
+            StepOn front into None ∷ [],
+            omega arith,
+            one_of (StepOn front into None),
+            record {
+              may = ((v.closed ∙ c.requires.going, (_, left), behind_gives (m.outputs (m.setup s.machine)) (g.met.M.Machine.prefix s.machine) start view.consumed front into gives, λ floor is. let no : None ≡ Some floor = is in absurd cc), tt);
+              means = record {
+                received = v.received;
+                stands = subst (m.consumed c.step-left.new.self) (append_assoc start view.consumed front) (e.step.consumes before v.stands);
+                left = left;
+                over = v.over;
+                told = refl;
+                children = ap (map (makes (feeds_of into))) v.children ∙ sym (c.keep.ensures.children ∙ ap (λ (l : List Out). map (makes (feeds_of l)) (children_of s.outbox)) c.list.ensures.list);
+                marks = makes_outs (marks_of into) [] view.marks refl ∙ ap (makes (marks_of into)) v.marks ∙ sym (c.keep.ensures.told ∙ ap (λ (l : List Out). makes (marks_of l) (told_of s.outbox)) c.list.ensures.list);
+                closed = v.closed;
+              };
+            },
+          );
+    }

@@ -1,0 +1,10 @@
+use Rattle.stage_run.specs.Boxes.{IsFresh}
+use Rattle.stage_run.specs.Stages.{Goes, SameEnds, Stepping}
+use Rattle.stage_run.proofs.stage.Stage.work.Given as goal
+
+abbrev pub invariant-loop : goal.invariant-loop
+invariant-loop g l = record {
+  goes : Goes g.M.Machine Stepping l.counter l.fn.self l.self;
+  same : SameEnds l.fn.self l.self;
+  fresh : IsFresh l.self.outbox;
+}

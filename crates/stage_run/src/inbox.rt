@@ -1,0 +1,131 @@
+// What a stage receives, and what of that it hasn't done yet.
+ghost use Rattle.std.specs.Prelude.{◌≡◌, ◌≤◌, ◌+◌, ◌++◌, [], List, length, true, false, nat_eq};
+ghost use Rattle.std.specs.Prelude.{◌&&◌, map};
+ghost use Rattle.la_base.specs.Runs.{samples_of};
+ghost use Rattle.decoder_core.specs.Inputs.{Sample};
+ghost use Rattle.la_base.specs.declared.wires.Feed.{Feed as FeedIs};
+ghost use Rattle.stack_laws.specs.Links.{some};
+ghost use Rattle.stack_laws.specs.Feeds.{ends_feed, items_in};
+ghost use Rattle.stage_ring.specs.Link.{more_if};
+ghost use Rattle.stage_run.specs.Inputs.{came, feed_of, input_link, input_misses, reads_samples};
+ghost use Rattle.stage_run.specs.Rows.{none_kept, waiting};
+
+use crate::input::{Input, Stretch};
+use crate::row::Row;
+use la_base::{Feed, Run};
+
+/// The link that a stage receives from, and short rows of what came: runs of samples, or feeds.
+#[derive(Drop)]
+pub(crate) struct Inbox {
+    pub(crate) input: Input,
+    stretches: Row<Stretch>,
+    pub(crate) runs: Row<Run>,
+    pub(crate) feeds: Row<Feed>,
+    // the end has come
+    pub(crate) over: bool,
+}
+
+// Puts stretches as runs into an empty row, and answers whether the end is among them.
+fn put_runs(runs: &mut Row<Run>, stretches: &[Stretch]) -> bool
+    requires { length stretches.now ≤ 64 }
+    ensures start { runs.new.at ≡ 0 }
+    ensures items { map Sample (samples_of runs.new.list) ≡ items_in (map feed_of stretches.now) }
+    ensures ends { result ≡ true → some ends_feed (map feed_of stretches.now) ≡ true }
+{
+    let mut ended = false;
+    runs.clear();
+    for stretch in stretches {
+        if stretch.len > 0 {
+            runs.push(Run {
+                value: stretch.value,
+                len: stretch.len,
+            });
+        } else {
+            ended = true;
+        }
+    }
+    ended
+}
+
+// Whether the last of some feeds is the end.
+fn ends(feeds: &[Feed]) -> bool
+    ensures { result ≡ true → some ends_feed feeds.now ≡ true }
+{
+    if feeds.is_empty() {
+        return false;
+    }
+    is_end(feeds[feeds.len() - 1])
+}
+
+fn is_end(feed: Feed) -> bool
+    ensures { result ≡ ends_feed feed }
+{
+    match feed {
+        Feed::End => true,
+        Feed::Run(_) => false,
+        Feed::Packet(_) => false,
+    }
+}
+
+impl Inbox {
+    ghost use Rattle.stage_run.specs.Boxes.{is_idle, received_of, waiting_of};
+
+    /// Nothing was received yet.
+    pub(crate) fn new(input: Input) -> Inbox
+        ensures input { result.input ≡ input }
+        ensures none { waiting_of result ≡ [] }
+        ensures open { result.over ≡ false }
+    {
+        Inbox {
+            input,
+            stretches: Row::new(Stretch { value: 0, len: 0 }),
+            runs: Row::new(Run { value: 0, len: 1 }),
+            feeds: Row::new(Feed::End),
+            over: false,
+        }
+    }
+
+    /// Whether all that was received is done.
+    #[inline(always)]
+    pub(crate) fn is_idle(&self) -> bool
+        ensures { result ≡ is_idle self.now }
+    {
+        self.runs.is_done() && self.feeds.is_done()
+    }
+
+    /// Receives what there is, and answers how much that is.
+    pub(crate) fn receive(&mut self) -> usize
+        requires { is_idle self.old ≡ true }
+        ensures link { (input_link self.new.input ≡ input_link self.old.input)
+            × (reads_samples self.new.input ≡ reads_samples self.old.input) }
+        ensures came { (more : List FeedIs) × (length more ≡ result) × (length more ≤ 64)
+            × (came self.new.input ≡ came self.old.input ++ more)
+            × (waiting_of self.new ≡ items_in more)
+            × (self.new.over ≡ true → some ends_feed more ≡ true) }
+        ensures misses { input_misses self.new.input
+            ≡ more_if (nat_eq result 0) (input_misses self.old.input) }
+    {
+        match &mut self.input {
+            Input::Samples(from) => {
+                let count = self.stretches.fill(from);
+                self.over = put_runs(&mut self.runs, self.stretches.waiting());
+                count
+            }
+            Input::Packets(from) => {
+                let count = self.feeds.fill(from);
+                self.over = ends(self.feeds.waiting());
+                count
+            }
+        }
+    }
+
+    /// How often there was nothing to take.
+    pub(crate) fn misses(&self) -> u64
+        ensures { result ≡ input_misses self.now.input }
+    {
+        match &self.input {
+            Input::Samples(from) => from.misses(),
+            Input::Packets(from) => from.misses(),
+        }
+    }
+}
