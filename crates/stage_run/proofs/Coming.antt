@@ -1,8 +1,8 @@
 -- What comes on a link, one after another.
-use Rattle.std.proofs.Common.{◌≡◌, ◌≤◌, ◌<◌, ℕ, zero, suc, ◌+◌, Bool, true, false, ◌||◌, List, [], ◌∷◌, ◌++◌, map, take, drop, get_or, length, length-append, replicate, refl, sym, ◌∙◌, ap, arith}
+use Rattle.std.proofs.Common.{◌≡◌, ◌≤◌, ◌<◌, ℕ, zero, suc, ◌+◌, Bool, true, false, ◌||◌, List, [], ◌∷◌, ◌++◌, map, take, drop, get_or, set, length, length-append, replicate, refl, sym, ◌∙◌, ap, arith}
 use Rattle.std.specs.Prelude.{nat_eq, ◌&&◌}
 use Rattle.std.proofs.lemmas.Bool.Decides.{nat_tests}
-use Rattle.std.proofs.lemmas.List.{take_more, append-nil, map-append}
+use Rattle.std.proofs.lemmas.List.{take_more, append-nil, map-append, length-set, take-set, get_or-set_same}
 use Rattle.la_base.specs.Samples.{samples}
 use Rattle.la_base.specs.Runs.{samples_of}
 use Rattle.la_base.specs.declared.samples.Run.{Run}
@@ -106,3 +106,12 @@ idle_waits inbox is = let none = none_waits (waiting inbox.runs) (waiting inbox.
 -- the end is among what came
 pub came_end : (received more : List Feed) → some ends_feed more ≡ true → some ends_feed (received ++ more) ≡ true
 came_end received more is = some-append ends_feed received more ∙ ap (λ b. some ends_feed received || b) is ∙ or_true (some ends_feed received)
+
+-- one more run at the front of room
+pub put_items : (xs : List Stretch) (i : ℕ) (d : Stretch) (room : List Run) (run : Run) → i < length xs → i < length room → run.value ≡ (get_or xs i d).value → run.len ≡ (get_or xs i d).len
+    → map Sample (samples_of (take i room)) ≡ items_in (map feed_of (take i xs)) → map Sample (samples_of (take (i + 1) (set room i run))) ≡ items_in (map feed_of (take (i + 1) xs))
+put_items xs i d room run within low v l had =
+    let longer : i < length (set room i run) = omega (arith, low, length-set room i run) in
+    let more : take (i + 1) (set room i run) ≡ take i room ++ run ∷ [] =
+    take_more (set room i run) i run longer ∙ (λ k. take-set room i run k ++ get_or-set_same room i run run low k ∷ []) in
+    ap (λ (t : List Run). map Sample (samples_of t)) more ∙ pushed_items xs i d within (take i room) run v l had

@@ -25,8 +25,9 @@ pub(crate) struct Inbox {
     pub(crate) over: bool,
 }
 
-// Puts stretches as runs into an empty row, and answers whether the end is among them.
-fn put_runs(runs: &mut Row<Run>, stretches: &[Stretch]) -> bool
+// Puts stretches as runs into a row, in place of what it had, and answers whether the end is among
+// them: one after another.
+fn put_each(runs: &mut Row<Run>, stretches: &[Stretch]) -> bool
     requires { length stretches.now ≤ 64 }
     ensures start { runs.new.at ≡ 0 }
     ensures items { map Sample (samples_of runs.new.list) ≡ items_in (map feed_of stretches.now) }
@@ -45,6 +46,20 @@ fn put_runs(runs: &mut Row<Run>, stretches: &[Stretch]) -> bool
         }
     }
     ended
+}
+
+// The same, by one look at each where no end is among them, as mostly.
+#[inline]
+fn put_runs(runs: &mut Row<Run>, stretches: &[Stretch]) -> bool
+    requires { length stretches.now ≤ 64 }
+    ensures start { runs.new.at ≡ 0 }
+    ensures items { map Sample (samples_of runs.new.list) ≡ items_in (map feed_of stretches.now) }
+    ensures ends { result ≡ true → some ends_feed (map feed_of stretches.now) ≡ true }
+{
+    if runs.put(stretches) == stretches.len() {
+        return false;
+    }
+    put_each(runs, stretches)
 }
 
 // Whether the last of some feeds is the end.

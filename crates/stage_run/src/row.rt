@@ -1,9 +1,15 @@
 // Short rows of what is still to be done or given, oldest first: room that is used again and again.
 ghost use Rattle.std.specs.Prelude.{◌≡◌, ◌≤◌, ◌<◌, ◌+◌, ◌++◌, ◌∷◌, [], length, take, drop, nat_eq};
-ghost use Rattle.std.specs.Prelude.{Option, IfSome};
+ghost use Rattle.std.specs.Prelude.{Option, IfSome, map};
+ghost use Rattle.la_base.specs.Runs.{samples_of};
+ghost use Rattle.decoder_core.specs.Inputs.{Sample};
+ghost use Rattle.stack_laws.specs.Feeds.{items_in};
 ghost use Rattle.stage_ring.specs.Link.{received, rx_link, rx_misses, more_if};
+ghost use Rattle.stage_run.specs.Inputs.{feed_of};
 ghost use Rattle.stage_run.specs.Rows.{Kept, none_kept, waiting, with_left};
 
+use crate::input::Stretch;
+use la_base::Run;
 use stage_ring::Rx;
 use std::marker::Model;
 
@@ -131,4 +137,43 @@ impl<T: Copy + Send> Row<T> {
         self.count = from.take_some(&mut self.room);
         self.count
     }
+}
+
+impl Row<Run> {
+    /// Puts in the runs of the first stretches, up to the first one that is the end, in place of
+    /// what it had. Answers how many.
+    #[inline]
+    pub(crate) fn put(&mut self, stretches: &[Stretch]) -> usize
+        requires { length stretches.now ≤ 64 }
+        ensures start { self.new.at ≡ 0 }
+        ensures within { result ≤ length stretches.now }
+        ensures items { map Sample (samples_of self.new.list)
+            ≡ items_in (map feed_of (take result stretches.now)) }
+    {
+        self.at = 0;
+        self.count = first_runs(&mut self.room, stretches);
+        self.count
+    }
+}
+
+// The runs of the first stretches, up to the first one that is the end, at the front of room for
+// them; the answer is how many.
+#[inline]
+fn first_runs(room: &mut [Run; ROOM], stretches: &[Stretch]) -> usize
+    requires { length stretches.now ≤ 64 }
+    ensures within { result ≤ length stretches.now }
+    ensures len { length room.new ≡ 64 }
+    ensures items { map Sample (samples_of (take result room.new))
+        ≡ items_in (map feed_of (take result stretches.now)) }
+{
+    for (place, stretch) in stretches.iter().enumerate() {
+        if stretch.len == 0 {
+            return place;
+        }
+        room[place] = Run {
+            value: stretch.value,
+            len: stretch.len,
+        };
+    }
+    stretches.len()
 }

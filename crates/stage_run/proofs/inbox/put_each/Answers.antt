@@ -5,8 +5,8 @@ use Rattle.decoder_core.specs.Inputs.{Sample}
 use Rattle.stage_run.specs.Rows.{Kept}
 use Rattle.stage_run.specs.declared.input.Stretch.{Stretch}
 use Rattle.stage_run.proofs.Coming.{ended_ends, ended_items, pushed_ends, pushed_few, pushed_items}
-use Rattle.stage_run.proofs.inbox.put_runs.Goals as goal
-use Rattle.stage_run.proofs.inbox.put_runs.Goals.{then-stretch-gt0, else-stretch-gt0}
+use Rattle.stage_run.proofs.inbox.put_each.Goals as goal
+use Rattle.stage_run.proofs.inbox.put_each.Goals.{then-stretch-gt0, else-stretch-gt0}
 
 pub loop-stretch-preserved : goal.loop-stretch-preserved
 loop-stretch-preserved c =

@@ -4,7 +4,7 @@ use Rattle.decoder_core.specs.Inputs.{Sample}
 use Rattle.stack_laws.specs.Links.{some}
 use Rattle.stack_laws.specs.Feeds.{ends_feed, items_in}
 use Rattle.stage_run.specs.Inputs.{feed_of}
-use Rattle.stage_run.proofs.inbox.put_runs.Given as goal
+use Rattle.stage_run.proofs.inbox.put_each.Given as goal
 
 abbrev pub invariant-loop-stretch : goal.invariant-loop-stretch
 invariant-loop-stretch l =
