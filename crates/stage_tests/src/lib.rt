@@ -5,7 +5,11 @@
 #[cfg(test)]
 mod alone;
 #[cfg(test)]
+mod bus;
+#[cfg(test)]
 mod line;
+#[cfg(test)]
+mod threads;
 #[cfg(test)]
 mod trees;
 #[cfg(test)]

@@ -1,0 +1,63 @@
+-- What the driver sent and gathered.
+use Rattle.std.proofs.Common.{◌≡◌, ◌≤◌, ℕ, zero, suc, Bool, true, false, ◌||◌, List, [], ◌∷◌, ◌++◌, map, refl, sym, ◌∙◌, ap, subst, arith, if◌then◌else◌}
+use Rattle.std.proofs.lemmas.List.{append-nil}
+use Rattle.std.proofs.Props.{props}
+use Rattle.la_base.specs.declared.samples.Run.{Run}
+use Rattle.la_base.specs.declared.wires.Feed.TheVariants.{Run as RunFeed, End as EndFeed}
+use Rattle.la_base.specs.declared.wires.Mark.{Mark}
+use Rattle.la_base.specs.declared.wires.Mark.TheVariants.{Note as NoteMark, Piece as PieceMark, Floor as FloorMark, End as EndMark}
+use Rattle.tree_runs.specs.Reaching.{Reaches}
+use Rattle.stack_laws.specs.Links.{EndsLast, IsFront, some}
+use Rattle.stack_laws.specs.Feeds.{ends_marks}
+use Rattle.stack_laws.proofs.Lists.{front_trans, some-append, some_front}
+use Rattle.stage_run.specs.Inputs.{at_least_one, feed_by, feed_of}
+use Rattle.stage_crew.specs.Driving.{EndsWith, end_stretch, real, stretch_of}
+
+run_feed : (value len : ℕ) (some : 1 ≤ len) → feed_by value len ≡ RunFeed (record { value = value; len = len; not_empty = some })
+run_feed value zero some = absurd (omega (arith, some))
+run_feed value (suc n) some =
+    let one : IsProp (1 ≤ suc n) = hlevel props in
+    ap (λ (e : 1 ≤ suc n). RunFeed (record { value = value; len = suc n; not_empty = e })) (one (at_least_one n) some)
+
+pub run_feeds : (runs : List Run) → map feed_of (map stretch_of runs ++ end_stretch ∷ []) ≡ map RunFeed runs ++ EndFeed ∷ []
+run_feeds [] = refl
+run_feeds (run ∷ runs) = λ i. run_feed run.value run.len run.not_empty i ∷ run_feeds runs i
+
+-- of marks whose only end is the last, all others are real
+pub real_body : (body : List Mark) → EndsLast ends_marks (body ++ EndMark ∷ []) → (real (body ++ EndMark ∷ []) ≡ body) × (some ends_marks body ≡ false)
+real_body [] last = (refl, refl)
+real_body (NoteMark x ∷ body) last = let r = real_body body last.1 in (ap (λ (l : List Mark). NoteMark x ∷ l) r.0, r.1)
+real_body (PieceMark x ∷ body) last = let r = real_body body last.1 in (ap (λ (l : List Mark). PieceMark x ∷ l) r.0, r.1)
+real_body (FloorMark x ∷ body) last = let r = real_body body last.1 in (ap (λ (l : List Mark). FloorMark x ∷ l) r.0, r.1)
+real_body (EndMark ∷ body) last = absurd (none body (last.0 refl))
+  where
+    none : (xs : List Mark) → xs ++ EndMark ∷ [] ≡ [] → ⊥
+    none [] e = cc
+    none (x ∷ xs) e = cc
+
+-- the marks that were taken of an instance, and its end where that was taken, are a front of those that were gathered of it
+module _ (got taken : List Mark) (done : Bool) (last : EndsLast ends_marks got) (ends : EndsWith EndMark got) (reach : Reaches done taken (real got)) where
+  abbrev body : List Mark
+  body = ends.0
+
+  of_body : (real got ≡ body) × (some ends_marks body ≡ false)
+  of_body = let r = real_body body (subst (EndsLast ends_marks) ends.1 last) in (ap real ends.1 ∙ r.0, r.1)
+
+  front_by : (d : Bool) → Reaches d taken (real got) → IsFront taken body
+  front_by true all = ([], sym (append-nil taken ∙ all ∙ of_body.0))
+  front_by false some_of = (some_of.0, sym (some_of.1 ∙ of_body.0))
+
+  none_taken : (b : Bool) → some ends_marks taken ≡ b → b ≡ false
+  none_taken true is = sym (some_front ends_marks taken body (front_by done reach) is) ∙ of_body.1
+  none_taken false is = refl
+
+  none_end : some ends_marks taken ≡ false
+  none_end = none_taken (some ends_marks taken) refl
+
+  pub marks_front : (ended : Bool) → (ended ≡ true → done ≡ true) → IsFront (taken ++ (if ended then EndMark ∷ [] else [])) got × (some ends_marks (taken ++ (if ended then EndMark ∷ [] else [])) ≡ ended)
+  marks_front true whole =
+      let all : taken ≡ body = subst (λ (d : Bool). Reaches d taken (real got)) (whole refl) reach ∙ of_body.0 in
+      (([], ends.1 ∙ ap (λ (l : List Mark). l ++ EndMark ∷ []) (sym all) ∙ sym (append-nil (taken ++ EndMark ∷ []))), some-append ends_marks taken (EndMark ∷ []) ∙ ap (λ (b : Bool). b || true) none_end)
+  marks_front false whole =
+      let front = front_trans taken body got (front_by done reach) (EndMark ∷ [], ends.1) in
+      (subst (λ (l : List Mark). IsFront l got) (sym (append-nil taken)) front, ap (some ends_marks) (append-nil taken) ∙ none_end)

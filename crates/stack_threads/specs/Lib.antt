@@ -1,0 +1,5 @@
+pub mod Trees
+pub mod Ties
+pub mod Wires
+pub mod Runs
+pub mod Stages

@@ -1,0 +1,44 @@
+// Laws of runs. Nothing is done.
+ghost use Rattle.std.specs.Prelude.{◌≡◌, length, map};
+ghost use Rattle.decoder_core.specs.declared.end.RunEnd.{RunEnd as RunEndIs};
+ghost use Rattle.tree_runs.specs.Machines.{Stand};
+ghost use Rattle.tree_runs.specs.Passing.{IsForest};
+ghost use Rattle.tree_runs.specs.Runs.{RunsOn};
+ghost use Rattle.stack_threads.specs.Runs.{InputsGrow, RunsBy};
+
+use decoder_core::Machine;
+use la_io::{MarkTake, RunFeed};
+use std::snapshot::Snapshot;
+
+/// With more lists of runs, the input of each instance grows by its feeds: of one that stands on
+/// nothing each list, of any other each packet of its parent.
+pub fn inputs_grow_by_feeds<M: Machine>(machines: &[M], parents: &[Option<u32>])
+    requires forest { IsForest parents.now }
+    requires each { length machines.now ≡ length parents.now }
+    ensures { InputsGrow M.outputs (map M.setup machines.now) parents.now }
+{}
+
+/// A run of which each feed is told, as one on a single thread, gives what a run gives in whatever
+/// order its decoders ran: where `before` were the machines before it and `after` are those behind
+/// it, and likewise the feed and what takes the marks.
+pub fn exact_runs_are_runs<M: Machine, F: RunFeed, G: MarkTake>(
+    before: Snapshot<Vec<M>>,
+    after: &[M],
+    parents: &[Option<u32>],
+    feed_before: Snapshot<F>,
+    feed_after: &F,
+    take_before: Snapshot<G>,
+    take_after: &G,
+)
+    requires forest { IsForest parents.now }
+    requires each { length before.value.items ≡ length parents.now }
+    ensures { (result : RunEndIs)
+        → RunsOn M.outputs M.near (map M.setup before.value.items) parents.now
+        (Stand M.consumed before.value.items) (Stand M.consumed after.now)
+        (F.gave feed_before.value) (F.gave feed_after.now)
+        (G.took take_before.value) (G.took take_after.now) (F.at_end feed_after.now) result
+        → RunsBy M.outputs M.near (map M.setup before.value.items) parents.now
+        (Stand M.consumed before.value.items)
+        (F.gave feed_before.value) (F.gave feed_after.now)
+        (G.took take_before.value) (G.took take_after.now) (F.at_end feed_after.now) result }
+{}

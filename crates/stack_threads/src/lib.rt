@@ -1,0 +1,12 @@
+//! A tree of decoders, each in a thread of its own.
+#![tactic(auto)]
+
+mod laws;
+mod run;
+mod settle;
+mod stages;
+mod wiring;
+
+pub use laws::{exact_runs_are_runs, inputs_grow_by_feeds};
+pub use run::run_stages;
+pub use settle::settle_tree;

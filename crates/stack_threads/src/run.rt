@@ -1,0 +1,89 @@
+// A run of a tree, with a thread for each decoder.
+ghost use Rattle.std.specs.Prelude.{◌≡◌, ◌≤◌, IfOk, OnErr, map, true, vec_len};
+ghost use Rattle.decoder_core.specs.Promises.{KeepsFront};
+ghost use Rattle.decoder_core.specs.declared.end.RunEnd.TheVariants.{Ended, Stopped as RunStopped};
+ghost use Rattle.la_io.specs.Causes.{Rose};
+ghost use Rattle.tree_runs.specs.Machines.{Stand};
+ghost use Rattle.tree_runs.specs.Runs.{is_ended};
+ghost use Rattle.tree_runs.specs.Taking.{IsTree};
+ghost use Rattle.stack_threads.specs.Runs.{RunsBy};
+
+use crate::settle::settle_tree;
+use crate::stages::{open_all, take_apart};
+use crate::wiring::{Wires, wire};
+use decoder_core::{Machine, RunEnd};
+use la_base::NoMemory;
+use la_io::{MarkTake, RunFeed};
+use stack_laws::laws::{machines_are_a_tree, machines_tell_their_inputs, settled_ends_fit};
+use stage_crew::{Pacer, Ran, run_crew};
+use std::alloc::Global;
+use std::sync::Wait;
+use std::thread::Threads;
+
+// The outputs of more input begin with those of less. (A law; nothing is done.)
+fn keeps_front<M: Machine>()
+    ensures { (machine : M) → KeepsFront (M.outputs (M.setup machine)) }
+{}
+
+/// Runs a tree of decoders, each in a thread of its own, with links between them. Each run of the
+/// feed is sent to the machines that stand on nothing, and each packet to those that stand on the
+/// machine that put it out; notes and pieces are taken as marks, with a floor behind each batch of
+/// what a machine consumed, and at the end of the feed the end of each instance. The marks of one
+/// instance are taken in their order, those of several as they come.
+///
+/// `parents` tells of each machine on which one it stands. Each link has room for `slots` items, 1
+/// to 16,384. `pacer` tells how much a machine does in a turn.
+///
+/// The machines may already stand for samples: what is taken is what follows. A packet that doesn't
+/// count for a machine is passed over by it. `Stopped` is answered where `take` stopped, at the
+/// last mark that it was handed: none is taken behind it, and the feed isn't read on. All memory is
+/// taken before anything is read: at `NoMemory` nothing was read or taken.
+pub fn run_stages<
+    M: Machine + Send + Drop,
+    F: RunFeed,
+    G: MarkTake,
+    P: Pacer + Sync,
+    R: Threads + Wait + Sync,
+>(
+    rt: &R,
+    alloc: Global,
+    machines: Vec<M>,
+    parents: &[Option<u32>],
+    slots: u32,
+    feed: &mut F,
+    take: &mut G,
+    pacer: &P,
+) -> Result<RunEnd, NoMemory>
+    requires tree { IsTree parents.now (vec_len machines) (G.instances take.old) }
+    requires slots { (1 ≤ slots) × (slots ≤ 16384) }
+    ensures runs { IfOk result (λ end. RunsBy M.outputs M.near (map M.setup machines.items)
+        parents.now (Stand M.consumed machines.items) (F.gave feed.old) (F.gave feed.new)
+        (G.took take.old) (G.took take.new) (F.at_end feed.new) end) }
+    ensures at_end { IfOk result (λ end. end ≡ Ended → F.at_end feed.new ≡ true) }
+    ensures feed_origin { F.origin feed.new ≡ F.origin feed.old }
+    ensures take_origin { G.origin take.new ≡ G.origin take.old }
+    ensures instances { G.instances take.new ≡ G.instances take.old }
+    ensures stops { IfOk result (λ end. (end ≡ Ended → G.stops take.new ≡ G.stops take.old)
+        × (end ≡ RunStopped → Rose (G.stops take.old) (G.stops take.new))) }
+    ensures going { IfOk result (λ end. G.going take.old true → G.going take.new (is_ended end)) }
+    ensures none { OnErr result ((feed.new ≡ feed.old) × (take.new ≡ take.old)) }
+{
+    keeps_front::<M>();
+    settled_ends_fit();
+    machines_are_a_tree(&machines, parents);
+    machines_tell_their_inputs(&machines, parents);
+    let count = machines.len();
+    let Wires { ends, feeds, marks } = wire(alloc, slots, parents)?;
+    let mut stages = Vec::with_capacity(alloc, count)?;
+    let mut parts = Vec::with_capacity(alloc, count)?;
+    open_all(machines, ends, &mut stages);
+    let Ran {
+        stages,
+        mut feeds,
+        mut marks,
+        end,
+    } = run_crew(rt, alloc, stages, feeds, marks, feed, take, pacer)?;
+    take_apart(stages, &mut parts);
+    settle_tree(&mut parts, parents, &mut feeds, &mut marks);
+    Ok(end)
+}

@@ -1,0 +1,7 @@
+pub mod Common
+pub mod Each
+pub mod Handing
+pub mod Taking
+pub mod Gathering
+pub mod Pumping
+pub mod Driving

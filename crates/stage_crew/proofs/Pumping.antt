@@ -1,0 +1,136 @@
+-- Runs that were put into the row and handed out.
+use Rattle.std.proofs.Common.{◌≡◌, ◌<◌, ◌≤◌, ◌+◌, ◌-◌, ℕ, Bool, true, false, not, List, [], ◌∷◌, ◌++◌, map, length, take, drop, get_or, refl, sym, ◌∙◌, ap, subst, arith, append_assoc, take-append-drop}
+use Rattle.std.proofs.lemmas.List.{append-nil, drop-drop, take_more, map-append, length-drop, take_all}
+use Rattle.la_base.specs.declared.samples.Run.{Run}
+use Rattle.la_io.specs.Feeds.{GivesRuns, TellsMore, given_now, together}
+use Rattle.la_io.specs.declared.feeds.RunFeed.{Ghosts as FeedGhosts}
+use Rattle.la_io.proofs.Together.{together-append}
+use Rattle.stage_run.specs.declared.input.Stretch.{Stretch}
+use Rattle.stage_crew.specs.Driving.{stretch_of, end_stretch}
+use Rattle.stage_crew.specs.Fans.{Fans}
+use Rattle.stage_crew.specs.Pumping.{InPlace, IsFree, Pumps, end_if}
+use Rattle.stage_crew.specs.declared.fan.Handed.{Handed}
+use Rattle.stage_crew.specs.declared.pump.Pump.{Pump}
+use Rattle.stage_crew.proofs.Common.{gone, not_true}
+use Rattle.stage_crew.proofs.Handing.{fans_append}
+
+pub row_next : (runs : List Run) (i : ℕ) (run : Run) (row now : List Stretch) → i < length runs → run ≡ get_or runs i run → row ≡ map stretch_of (take i runs) → now ≡ row ++ stretch_of run ∷ [] → now ≡ map stretch_of (take (i + 1) runs)
+row_next runs i run row now within is had pushed =
+    pushed ∙ ap (λ (l : List Stretch). l ++ stretch_of run ∷ []) had ∙ sym (map-append stretch_of (take i runs) (run ∷ [])) ∙ ap (λ (r : Run). map stretch_of (take i runs ++ r ∷ [])) is ∙ ap (map stretch_of) (sym (take_more runs i run within))
+
+-- the end isn't told yet
+untold : (fed : List Stretch) (said : Bool) → said ≡ false → fed ++ end_if end_stretch said ≡ fed
+untold fed said still = ap (λ (b : Bool). fed ++ end_if end_stretch b) still ∙ append-nil fed
+
+nothing_more : (lists : List (List Run)) → map stretch_of (together lists) ≡ map stretch_of (together (lists ++ []))
+nothing_more lists = ap (λ (l : List (List Run)). map stretch_of (together l)) (sym (append-nil lists))
+
+-- what the feed holds is what it gave last
+given_is : (more ended : Bool) (held : List Run) → TellsMore more ended held → together (given_now more held) ≡ held
+given_is true ended held tells = append-nil held
+given_is false ended held tells = sym tells.1
+
+at_end_is : (more ended : Bool) (held : List Run) → TellsMore more ended held → not more ≡ true → ended ≡ true
+at_end_is true ended held tells is = absurd (not_true refl is)
+at_end_is false ended held tells is = tells.0
+
+module _ {A O : Type 0} (f : FeedGhosts A O) (feed : A) (p q : Pump) (sents : List (List Stretch)) where
+  abbrev held : List Run
+  held = f.held feed
+
+  same_gave : (earlier : List (List Run)) → f.gave feed earlier → f.gave feed (earlier ++ [])
+  same_gave earlier had = subst (f.gave feed) (sym (append-nil earlier)) had
+
+  -- what was in the row was handed out
+  pub pumps_hand : (sents_new : List (List Stretch)) → InPlace held p → q.at ≡ p.at → q.over ≡ p.over → q.said ≡ p.said
+      → ((all : List Stretch) → Fans sents p.row p.handed all → Fans sents_new q.row q.handed all) → Pumps f feed feed p q sents sents_new
+  pumps_hand sents_new place at over said fans = record {
+    more = [];
+    gave = same_gave;
+    pumped = λ lists had. record {
+      fed = had.fed;
+      left = ap (λ (n : ℕ). had.fed ++ map stretch_of (drop n held)) at ∙ had.left ∙ nothing_more lists;
+      all = λ is. ap (λ (n : ℕ). drop n held) at ∙ had.all (sym said ∙ is);
+      fans = subst (λ (b : Bool). Fans sents_new q.row q.handed (had.fed ++ end_if end_stretch b)) (sym said) (fans (had.fed ++ end_if end_stretch p.said) had.fans);
+    };
+    in_place = record { at = omega (arith, at, place.at); said = λ is. over ∙ place.said (sym said ∙ is) };
+    origin = refl;
+    over = λ is. (over ∙ is, refl);
+    at_end = λ still is. absurd (not_true still (sym over ∙ is));
+  }
+
+  -- further runs were put into the row
+  pub pumps_fill : (n : ℕ) → InPlace held p → IsFree p → p.handed.given ≤ length p.row → n ≤ length (take (length held - p.at) (drop p.at held)) → q.at ≡ p.at + n → q.over ≡ p.over → q.said ≡ p.said → q.handed ≡ p.handed
+      → q.row ≡ map stretch_of (take n (take (length held - p.at) (drop p.at held))) → Pumps f feed feed p q sents sents
+  pumps_fill n place free within few at over said handed row = record {
+    more = [];
+    gave = same_gave;
+    pumped = λ lists had.
+        let new = map stretch_of (take n (drop p.at held)) in
+        let row_is : q.row ≡ p.row ++ new = row ∙ ap (λ (l : List Run). map stretch_of (take n l)) whole ∙ ap (λ (l : List Stretch). l ++ new) (sym free.none) in
+        let parts : map stretch_of (drop p.at held) ≡ new ++ map stretch_of (drop q.at held) =
+        ap (map stretch_of) (sym (take-append-drop n (drop p.at held))) ∙ map-append stretch_of (take n (drop p.at held)) (drop n (drop p.at held)) ∙ ap (λ (l : List Run). new ++ map stretch_of l) (drop-drop n p.at held ∙ ap (λ (k : ℕ). drop k held) (omega (arith, at))) in
+        record {
+          fed = had.fed ++ new;
+          left = append_assoc had.fed new (map stretch_of (drop q.at held)) ∙ ap (λ (l : List Stretch). had.fed ++ l) (sym parts) ∙ had.left ∙ nothing_more lists;
+          all = λ is. absurd (not_true (said ∙ free.said) is);
+          fans = subst (λ (h : Handed). Fans sents q.row h ((had.fed ++ new) ++ end_if end_stretch q.said)) (sym handed)
+              (subst (λ (l : List Stretch). Fans sents l p.handed ((had.fed ++ new) ++ end_if end_stretch q.said)) (sym row_is)
+              (fans_append had.fans new ((had.fed ++ new) ++ end_if end_stretch q.said) within free.first
+              (untold (had.fed ++ new) q.said (said ∙ free.said) ∙ ap (λ (l : List Stretch). l ++ new) (sym (untold had.fed p.said free.said)))));
+        };
+    in_place = record { at = omega (arith, at, place.at, few, ap length whole, length-drop p.at held); said = λ is. absurd (not_true (said ∙ free.said) is) };
+    origin = refl;
+    over = λ is. (over ∙ is, refl);
+    at_end = λ still is. absurd (not_true still (sym over ∙ is));
+  }
+    where
+      whole : take (length held - p.at) (drop p.at held) ≡ drop p.at held
+      whole = take_all (length held - p.at) (drop p.at held) (omega (arith, length-drop p.at held))
+
+  -- the end was put into the row
+  pub pumps_end : InPlace held p → IsFree p → p.handed.given ≤ length p.row → length held ≤ p.at → p.over ≡ true → q.at ≡ p.at → q.over ≡ p.over → q.said ≡ true → q.handed ≡ p.handed → q.row ≡ p.row ++ end_stretch ∷ []
+      → Pumps f feed feed p q sents sents
+  pumps_end place free within all is_over at over said handed row = record {
+    more = [];
+    gave = same_gave;
+    pumped = λ lists had. record {
+      fed = had.fed;
+      left = ap (λ (n : ℕ). had.fed ++ map stretch_of (drop n held)) at ∙ had.left ∙ nothing_more lists;
+      all = λ is. gone held q.at (omega (arith, at, all));
+      fans = subst (λ (h : Handed). Fans sents q.row h (had.fed ++ end_if end_stretch q.said)) (sym handed)
+          (subst (λ (b : Bool). Fans sents q.row p.handed (had.fed ++ end_if end_stretch b)) (sym said)
+          (subst (λ (l : List Stretch). Fans sents l p.handed (had.fed ++ end_stretch ∷ [])) (sym row)
+          (fans_append had.fans (end_stretch ∷ []) (had.fed ++ end_stretch ∷ []) within free.first (ap (λ (l : List Stretch). l ++ end_stretch ∷ []) (sym (untold had.fed p.said free.said))))));
+    };
+    in_place = record { at = omega (arith, at, place.at); said = λ is. over ∙ is_over };
+    origin = refl;
+    over = λ is. (over ∙ is, refl);
+    at_end = λ still is. absurd (not_true still (sym over ∙ is));
+  }
+
+  -- the feed was asked for more
+  pub pumps_ask : (new : A) (more : Bool) → IsFree p → length held ≤ p.at → p.over ≡ false → TellsMore more (f.at_end new) (f.held new) → GivesRuns more (f.gave feed) (f.gave new) (f.held new) → f.origin new ≡ f.origin feed
+      → q.at ≡ 0 → q.over ≡ not more → q.said ≡ p.said → q.handed ≡ p.handed → q.row ≡ p.row → Pumps f feed new p q sents sents
+  pumps_ask new more free all going tells gives origin at over said handed row = record {
+    more = given_now more (f.held new);
+    gave = gives.gave;
+    pumped = λ lists had. record {
+      fed = had.fed;
+      left =
+          ap (λ (n : ℕ). had.fed ++ map stretch_of (drop n (f.held new))) at ∙ ap (λ (l : List Stretch). l ++ map stretch_of (f.held new)) (sym (append-nil had.fed) ∙ ap (λ (l : List Run). had.fed ++ map stretch_of l) (sym (gone held p.at all)) ∙ had.left)
+          ∙ sym (map-append stretch_of (together lists) (f.held new)) ∙ ap (λ (l : List Run). map stretch_of (together lists ++ l)) (sym (given_is more (f.at_end new) (f.held new) tells)) ∙ ap (map stretch_of) (sym (together-append lists (given_now more (f.held new))));
+      all = λ is. absurd (not_true (said ∙ free.said) is);
+      fans = subst (λ (h : Handed). Fans sents q.row h (had.fed ++ end_if end_stretch q.said)) (sym handed)
+          (subst (λ (l : List Stretch). Fans sents l p.handed (had.fed ++ end_if end_stretch q.said)) (sym row)
+          (subst (λ (b : Bool). Fans sents p.row p.handed (had.fed ++ end_if end_stretch b)) (sym said) had.fans));
+    };
+    in_place = record { at = omega (arith, at); said = λ is. absurd (not_true (said ∙ free.said) is) };
+    origin = origin;
+    over = λ is. absurd (not_true going is);
+    at_end = λ still is. at_end_is more (f.at_end new) (f.held new) tells (sym over ∙ is);
+  }
+
+  -- nothing was done
+  pub pumps_none : InPlace held p → q ≡ p → Pumps f feed feed p q sents sents
+  pumps_none place same = pumps_hand sents place (ap (λ (x : Pump). x.at) same) (ap (λ (x : Pump). x.over) same) (ap (λ (x : Pump). x.said) same) (λ all fans. subst (λ (x : Pump). Fans sents x.row x.handed all) (sym same) fans)

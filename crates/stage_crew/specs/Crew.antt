@@ -1,0 +1,15 @@
+-- How those that take turns go on.
+use Rattle.std.specs.Prelude.{◌≡◌, Bool, true, List, [], ◌∷◌}
+
+-- each is related to the one at its place
+abbrev pub Each : {X : Type 0} → (X → X → Type 0) → List X → List X → Type 0
+Each R [] [] = Unit {0}
+Each R (x ∷ xs) [] = ⊥
+Each R [] (y ∷ ys) = ⊥
+Each R (x ∷ xs) (y ∷ ys) = R x y × Each R xs ys
+
+-- it went on until it was over
+pub record Ends {S : Type 0} (goes_on : S → S → Type 0) (over : S → Bool) (old new : S)
+    : Type 0 where
+  pub goes : goes_on old new
+  pub is_over : over new ≡ true

@@ -1,0 +1,14 @@
+-- Several links that each get the same list.
+use Rattle.std.specs.Prelude.{ℕ, ◌≡◌, ◌<◌, List, ◌++◌, drop, Some, slice_get}
+use Rattle.stage_crew.specs.declared.fan.Handed.{Handed}
+
+-- those before a place were sent all of a list; the one at that place all but what is behind
+-- `given` of the row; those behind it all but the row
+pub record Fans {T : Type 0} (sents : List (List T)) (row : List T) (handed : Handed) (all : List T)
+    : Type 0 where
+  pub served : (k : ℕ) (sent : List T) → slice_get sents k ≡ Some sent → k < handed.child
+      → sent ≡ all
+  pub here : (sent : List T) → slice_get sents handed.child ≡ Some sent
+      → sent ++ drop handed.given row ≡ all
+  pub waiting : (k : ℕ) (sent : List T) → slice_get sents k ≡ Some sent → handed.child < k
+      → sent ++ row ≡ all

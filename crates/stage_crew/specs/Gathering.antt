@@ -1,0 +1,71 @@
+-- How far the marks were gathered and taken.
+use Rattle.std.specs.Prelude.{ℕ, ◌≡◌, ◌≤◌, not, Bool, true, false, List, [], ◌++◌, length, Some}
+use Rattle.std.specs.Prelude.{slice_get, Result}
+use Rattle.la_base.specs.declared.wires.Mark.{Mark}
+use Rattle.la_base.specs.declared.wires.Mark.TheVariants.{End as EndMark}
+use Rattle.la_io.specs.Causes.{Rose}
+use Rattle.la_io.specs.declared.feeds.MarkTake.{Ghosts as TakeGhosts}
+use Rattle.decoder_core.specs.declared.end.RunEnd.{RunEnd}
+use Rattle.decoder_core.specs.declared.end.RunEnd.TheVariants.{Ended, Stopped}
+use Rattle.tree_runs.specs.Passing.{Took}
+use Rattle.tree_runs.specs.Reaching.{Reaches}
+use Rattle.tree_runs.specs.Runs.{is_ended}
+use Rattle.tree_runs.specs.Taking.{GoesOn}
+use Rattle.stage_crew.specs.Driving.{EndsWith, real}
+use Rattle.stage_crew.specs.declared.gatherer.Gatherer.{Gatherer}
+
+-- what was taken of each instance is what was gathered of it, or a front of that where it was
+-- stopped
+abbrev pub Fronts : Bool → (ℕ → List Mark) → List (List Mark) → Type 0
+Fronts done taken gathered =
+    (i : ℕ) (marks : List Mark) → slice_get gathered i ≡ Some marks
+    → Reaches done (taken i) (real marks)
+
+-- a flag tells that the end was gathered of its instance
+abbrev pub Overs : List Bool → List (List Mark) → Type 0
+Overs flags gathered =
+    (i : ℕ) (marks : List Mark) → slice_get gathered i ≡ Some marks
+    → slice_get flags i ≡ Some true → EndsWith EndMark marks
+
+module _ {A O : Type 0} (g : TakeGhosts A O) where
+  -- a mark was handed to what takes them
+  abbrev pub TakesOne : {R E : Type 0} → A → A → Result R E → Type 0
+  TakesOne old new result = GoesOn g.instances g.origin g.stops g.going old new result
+
+  -- what takes the marks was told of a pause, or not
+  pub record Pauses (old new : A) : Type 0 where
+    pub took : (marks : ℕ → List Mark) → g.took old marks → g.took new marks
+    pub instances : g.instances new ≡ g.instances old
+    pub origin : g.origin new ≡ g.origin old
+    pub stops : g.stops new ≡ g.stops old
+    pub going : (still : Bool) → g.going old still → g.going new still
+
+  -- marks were taken until it stopped, and none behind that; each flag tells whether it has
+  pub record TakesUntil (stopped_old stopped_new : Bool) (old new : A) : Type 0 where
+    pub instances : g.instances new ≡ g.instances old
+    pub origin : g.origin new ≡ g.origin old
+    pub stays : stopped_old ≡ true → stopped_new ≡ true
+    pub quiet : stopped_new ≡ false → g.stops new ≡ g.stops old
+    pub still : stopped_old ≡ true → g.stops new ≡ g.stops old
+    pub rose : stopped_old ≡ false → stopped_new ≡ true → Rose (g.stops old) (g.stops new)
+    pub going : g.going old (not stopped_old) → g.going new (not stopped_new)
+
+  -- the same of a whole run
+  pub record TakesOn (result : RunEnd) (old new : A) : Type 0 where
+    pub instances : g.instances new ≡ g.instances old
+    pub origin : g.origin new ≡ g.origin old
+    pub ended : result ≡ Ended → g.stops new ≡ g.stops old
+    pub stopped : result ≡ Stopped → Rose (g.stops old) (g.stops new)
+    pub going : g.going old true → g.going new (is_ended result)
+
+  -- more marks were gathered and taken
+  pub record Gathers (old new : A) (state_old state_new : Gatherer)
+      (gathered_old gathered_new : List (List Mark)) : Type 0 where
+    pub change : ℕ → List Mark
+    pub took : Took (g.took old) (g.took new) change
+    pub fronts : (taken : ℕ → List Mark) → Fronts (not state_old.stopped) taken gathered_old
+        → Fronts (not state_new.stopped) (λ i. taken i ++ change i) gathered_new
+    pub overs : Overs state_old.over gathered_old → Overs state_new.over gathered_new
+    pub count : length gathered_new ≡ length gathered_old
+    pub others : (i : ℕ) → length gathered_old ≤ i → change i ≡ []
+    pub takes : TakesUntil state_old.stopped state_new.stopped old new

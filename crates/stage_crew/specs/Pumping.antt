@@ -1,0 +1,48 @@
+-- How far the runs of a feed were sent to the roots.
+use Rattle.std.specs.Prelude.{◌≡◌, ◌≤◌, Bool, true, false, List, [], ◌∷◌, ◌++◌, map, drop, length}
+use Rattle.la_base.specs.declared.samples.Run.{Run}
+use Rattle.la_io.specs.Feeds.{together}
+use Rattle.la_io.specs.declared.feeds.RunFeed.{Ghosts as FeedGhosts}
+use Rattle.stage_run.specs.declared.input.Stretch.{Stretch}
+use Rattle.stage_crew.specs.Driving.{stretch_of, end_stretch}
+use Rattle.stage_crew.specs.Fans.{Fans}
+use Rattle.stage_crew.specs.declared.pump.Pump.{Pump}
+
+-- an end, once it was told
+abbrev pub end_if : {X : Type 0} → X → Bool → List X
+end_if last true = last ∷ []
+end_if last false = []
+
+-- what is behind a place of the runs that the feed gave last is still to be put into the row; of
+-- the row some is handed out
+pub record Pumped (lists : List (List Run)) (held : List Run) (pump : Pump)
+    (sents : List (List Stretch)) : Type 0 where
+  pub fed : List Stretch
+  pub left : fed ++ map stretch_of (drop pump.at held) ≡ map stretch_of (together lists)
+  pub all : pump.said ≡ true → drop pump.at held ≡ []
+  pub fans : Fans sents pump.row pump.handed (fed ++ end_if end_stretch pump.said)
+
+-- the place is one of these runs; and the end is told once no more runs are asked for
+pub record InPlace (held : List Run) (pump : Pump) : Type 0 where
+  pub at : pump.at ≤ length held
+  pub said : pump.said ≡ true → pump.over ≡ true
+
+-- all of the row was handed out, and the end wasn't put there yet
+pub record IsFree (pump : Pump) : Type 0 where
+  pub said : pump.said ≡ false
+  pub none : pump.row ≡ []
+  pub first : pump.handed.child ≡ 0
+
+module _ {A O : Type 0} (f : FeedGhosts A O) where
+  -- more runs were asked of the feed, put into the row or handed out; once no more are asked for,
+  -- the feed isn't called
+  pub record Pumps (old new : A) (pump_old pump_new : Pump)
+      (sents_old sents_new : List (List Stretch)) : Type 0 where
+    pub more : List (List Run)
+    pub gave : (earlier : List (List Run)) → f.gave old earlier → f.gave new (earlier ++ more)
+    pub pumped : (lists : List (List Run)) → Pumped lists (f.held old) pump_old sents_old
+        → Pumped (lists ++ more) (f.held new) pump_new sents_new
+    pub in_place : InPlace (f.held new) pump_new
+    pub origin : f.origin new ≡ f.origin old
+    pub over : pump_old.over ≡ true → (pump_new.over ≡ true) × (f.at_end new ≡ f.at_end old)
+    pub at_end : pump_old.over ≡ false → pump_new.over ≡ true → f.at_end new ≡ true

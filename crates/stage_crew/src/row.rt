@@ -1,0 +1,79 @@
+// A short row of stretches.
+ghost use Rattle.std.specs.Prelude.{◌≡◌, ◌≤◌, ◌<◌, ◌++◌, ◌∷◌, [], List, length, map, take};
+ghost use Rattle.stage_run.specs.declared.input.Stretch.{Stretch as StretchIs};
+ghost use Rattle.stage_crew.specs.Driving.{stretch_of};
+
+use la_base::Run;
+use stage_run::Stretch;
+use std::marker::Model;
+
+const ROOM: usize = 64;
+
+/// What is to be sent to each root next. It takes no memory.
+#[derive(Drop)]
+pub(crate) struct SendRow {
+    room: [Stretch; ROOM],
+    count: usize,
+}
+
+impl Model for SendRow {
+    ghost Value = { List StretchIs };
+
+    ghost view = { λ row. take row.count row.room };
+
+    ghost invariant = { λ row. row.count ≤ 64 };
+}
+
+impl SendRow {
+    pub(crate) fn new() -> SendRow
+        ensures { result ≡ [] }
+    {
+        SendRow {
+            room: [Stretch { value: 0, len: 0 }; ROOM],
+            count: 0,
+        }
+    }
+
+    pub(crate) fn push(&mut self, stretch: Stretch)
+        requires { length self.old < 64 }
+        ensures { self.new ≡ self.old ++ stretch ∷ [] }
+    {
+        self.room[self.count] = stretch;
+        self.count += 1;
+    }
+
+    pub(crate) fn list(&self) -> &[Stretch]
+        ensures { result.now ≡ self.now }
+    {
+        &self.room[..self.count]
+    }
+
+    pub(crate) fn len(&self) -> usize
+        ensures { result ≡ length self.now }
+    {
+        self.list().len()
+    }
+
+    pub(crate) fn clear(&mut self)
+        ensures { self.new ≡ [] }
+    {
+        self.count = 0;
+    }
+
+    /// Puts in the first of these runs, as many as there is room for, and answers how many.
+    pub(crate) fn fill(&mut self, runs: &[Run]) -> usize
+        requires { self.old ≡ [] }
+        ensures within { result ≤ length runs.now }
+        ensures row { self.new ≡ map stretch_of (take result runs.now) }
+    {
+        let count = runs.len().min(ROOM);
+        for place in 0..count {
+            let run = runs[place];
+            self.push(Stretch {
+                value: run.value,
+                len: run.len,
+            });
+        }
+        count
+    }
+}
