@@ -6,7 +6,7 @@ use std::thread::Parker;
 use std::time::Duration;
 
 // How often one yields more before it sleeps.
-const YIELDS: u32 = 20;
+const YIELDS: u32 = 200;
 
 // How long one sleeps at a time, in microseconds.
 const NAP: u64 = 50;
