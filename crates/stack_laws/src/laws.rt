@@ -15,7 +15,12 @@ ghost use Rattle.stack_laws.specs.Worked.{WorkedRun};
 
 use decoder_core::Machine;
 
-/// Each event keeps a state legal.
+/// Each event keeps a state legal. This would be false, and so would `events_keep_legal` be, if
+/// - a note were printed whatever the floors are, or behind a stop (`Print`);
+/// - a floor were any number (`Step`);
+/// - a stage closed with a rest of its input, or without a floor behind its last batch (`Close`);
+/// - a stop didn't end what is made for the roots (`stop_if`);
+/// - an End also ruled out what a stopped run could have gone on with (`MayFollow`).
 pub fn event_keeps_legal()
     ensures { EventKeepsLegal }
 {}
