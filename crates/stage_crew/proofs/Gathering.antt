@@ -129,8 +129,21 @@ module _ {A O : Type 0} (g : TakeGhosts A O) where
     takes = takes_paused g state.stopped p;
   }
 
+  -- it was told of no pause, or of several
+  pub pauses_none : (now : A) → Pauses g now now
+  pauses_none now = record { took = λ marks had. had; instances = refl; origin = refl; stops = refl; going = λ still h. h }
+
+  pub pauses_then : {a b c : A} → Pauses g a b → Pauses g b c → Pauses g a c
+  pauses_then p q = record {
+    took = λ marks had. q.took marks (p.took marks had);
+    instances = q.instances ∙ p.instances;
+    origin = q.origin ∙ p.origin;
+    stops = q.stops ∙ p.stops;
+    going = λ still h. q.going still (p.going still h);
+  }
+
   pub gathers_none : (now : A) (state : Gatherer) (gathered : List (List Mark)) → Gathers g now now state state gathered gathered
-  gathers_none now state gathered = gathers_paused state gathered (record { took = λ marks had. had; instances = refl; origin = refl; stops = refl; going = λ still h. h })
+  gathers_none now state gathered = gathers_paused state gathered (pauses_none now)
 
   pub gathers_then : {a b c : A} {s0 s1 s2 : Gatherer} {g0 g1 g2 : List (List Mark)} → Gathers g a b s0 s1 g0 g1 → Gathers g b c s1 s2 g1 g2 → Gathers g a c s0 s2 g0 g2
   gathers_then {a} {b} {c} {s2 = s2} p q = record {

@@ -1,6 +1,6 @@
 -- Runs that were put into the row and handed out.
-use Rattle.std.proofs.Common.{◌≡◌, ◌<◌, ◌≤◌, ◌+◌, ◌-◌, ℕ, Bool, true, false, not, List, [], ◌∷◌, ◌++◌, map, length, take, drop, get_or, refl, sym, ◌∙◌, ap, subst, arith, append_assoc, take-append-drop}
-use Rattle.std.proofs.lemmas.List.{append-nil, drop-drop, take_more, map-append, length-drop, take_all}
+use Rattle.std.proofs.Common.{◌≡◌, ◌<◌, ◌≤◌, ◌+◌, ◌-◌, ℕ, Bool, true, false, not, List, [], ◌∷◌, ◌++◌, map, length, take, drop, get_or, set, refl, sym, ◌∙◌, ap, subst, arith, append_assoc, take-append-drop}
+use Rattle.std.proofs.lemmas.List.{append-nil, drop-drop, take_more, map-append, length-drop, length-set, take_all, take-set, get_or-set_same}
 use Rattle.la_base.specs.declared.samples.Run.{Run}
 use Rattle.la_io.specs.Feeds.{GivesRuns, TellsMore, given_now, together}
 use Rattle.la_io.specs.declared.feeds.RunFeed.{Ghosts as FeedGhosts}
@@ -8,15 +8,19 @@ use Rattle.la_io.proofs.Together.{together-append}
 use Rattle.stage_run.specs.declared.input.Stretch.{Stretch}
 use Rattle.stage_crew.specs.Driving.{stretch_of, end_stretch}
 use Rattle.stage_crew.specs.Fans.{Fans}
-use Rattle.stage_crew.specs.Pumping.{InPlace, IsFree, Pumps, end_if}
+use Rattle.stage_crew.specs.Pumping.{InPlace, IsFree, Pumped, Pumps, end_if}
 use Rattle.stage_crew.specs.declared.fan.Handed.{Handed}
 use Rattle.stage_crew.specs.declared.pump.Pump.{Pump}
 use Rattle.stage_crew.proofs.Common.{gone, not_true}
 use Rattle.stage_crew.proofs.Handing.{fans_append}
 
-pub row_next : (runs : List Run) (i : ℕ) (run : Run) (row now : List Stretch) → i < length runs → run ≡ get_or runs i run → row ≡ map stretch_of (take i runs) → now ≡ row ++ stretch_of run ∷ [] → now ≡ map stretch_of (take (i + 1) runs)
-row_next runs i run row now within is had pushed =
-    pushed ∙ ap (λ (l : List Stretch). l ++ stretch_of run ∷ []) had ∙ sym (map-append stretch_of (take i runs) (run ∷ [])) ∙ ap (λ (r : Run). map stretch_of (take i runs ++ r ∷ [])) is ∙ ap (map stretch_of) (sym (take_more runs i run within))
+-- one more stretch at the front of room
+pub row_next : (runs : List Run) (i : ℕ) (d : Run) (room : List Stretch) (stretch : Stretch) → i < length runs → i < length room → stretch.value ≡ (get_or runs i d).value → stretch.len ≡ (get_or runs i d).len
+    → take i room ≡ map stretch_of (take i runs) → take (i + 1) (set room i stretch) ≡ map stretch_of (take (i + 1) runs)
+row_next runs i d room stretch within low v l had =
+    let longer : i < length (set room i stretch) = omega (arith, low, length-set room i stretch) in
+    take_more (set room i stretch) i stretch longer ∙ (λ k. take-set room i stretch k ++ get_or-set_same room i stretch stretch low k ∷ [])
+    ∙ (λ k. had k ++ record { value = v k; len = l k } ∷ []) ∙ sym (map-append stretch_of (take i runs) (get_or runs i d ∷ [])) ∙ ap (map stretch_of) (sym (take_more runs i d within))
 
 -- the end isn't told yet
 untold : (fed : List Stretch) (said : Bool) → said ≡ false → fed ++ end_if end_stretch said ≡ fed
@@ -134,3 +138,20 @@ module _ {A O : Type 0} (f : FeedGhosts A O) (feed : A) (p q : Pump) (sents : Li
   -- nothing was done
   pub pumps_none : InPlace held p → q ≡ p → Pumps f feed feed p q sents sents
   pumps_none place same = pumps_hand sents place (ap (λ (x : Pump). x.at) same) (ap (λ (x : Pump). x.over) same) (ap (λ (x : Pump). x.said) same) (λ all fans. subst (λ (x : Pump). Fans sents x.row x.handed all) (sym same) fans)
+
+-- it has ended, where no more is asked for
+ended_then : (o1 o2 e1 e2 : Bool) → (o1 ≡ true → e1 ≡ true) → (o1 ≡ true → (o2 ≡ true) × (e2 ≡ e1)) → (o1 ≡ false → o2 ≡ true → e2 ≡ true) → o2 ≡ true → e2 ≡ true
+ended_then true o2 e1 e2 had keeps asks is = (keeps refl).1 ∙ had refl
+ended_then false o2 e1 e2 had keeps asks is = asks refl is
+
+-- one step behind others
+pub pumps_then : {A O : Type 0} (f : FeedGhosts A O) {a b c : A} {p q r : Pump} {s0 s1 s2 : List (List Stretch)} → Pumps f a b p q s0 s1 → Pumps f b c q r s1 s2 → Pumps f a c p r s0 s2
+pumps_then f {a} {b} {c} {p} {q} {r} {s2 = s2} x y = record {
+  more = x.more ++ y.more;
+  gave = λ earlier had. subst (f.gave c) (append_assoc earlier x.more y.more) (y.gave (earlier ++ x.more) (x.gave earlier had));
+  pumped = λ lists had. subst (λ (l : List (List Run)). Pumped l (f.held c) r s2) (append_assoc lists x.more y.more) (y.pumped (lists ++ x.more) (x.pumped lists had));
+  in_place = y.in_place;
+  origin = y.origin ∙ x.origin;
+  over = λ is. let o = x.over is in let n = y.over o.0 in (n.0, n.1 ∙ o.1);
+  at_end = λ still. ended_then q.over r.over (f.at_end b) (f.at_end c) (x.at_end still) y.over y.at_end;
+}

@@ -10,6 +10,9 @@ use la_io::{MarkTake, RunFeed};
 use stage_ring::Tx;
 use stage_run::Stretch;
 
+// How many steps the pump takes before it is looked after marks.
+const STEPS: u32 = 64;
+
 /// How far the runs of a feed were sent. `at` is the place of the next run that is to be put into
 /// the row, of those that the feed gave last; `over`: no more runs are asked for; `said`: the end
 /// is in the row, or was sent.
@@ -123,10 +126,9 @@ impl Pump {
         true
     }
 
-    /// Hands out of the row, or puts the next runs into it, or the end, or asks the feed for more.
-    /// Answers whether it did. Where the feed may have to wait, it is asked only once nothing is on
-    /// its way any more, and what takes the marks is told of the pause.
-    pub(crate) fn go_on<F: RunFeed, G: MarkTake>(
+    // Hands out of the row, or puts the next runs into it, or the end, or asks the feed for more.
+    // Answers whether it did.
+    fn step<F: RunFeed, G: MarkTake>(
         &mut self,
         feed: &mut F,
         feeds: &mut Vec<Tx<Stretch>>,
@@ -146,6 +148,33 @@ impl Pump {
             return false;
         }
         self.refill(feed, take, quiet)
+    }
+
+    /// Hands out of the row, puts the next runs into it, or the end, and asks the feed for more,
+    /// for a while. Answers whether it did any of that. Where the feed may have to wait, it is
+    /// asked only once nothing is on its way any more, and what takes the marks is told of the
+    /// pause.
+    pub(crate) fn go_on<F: RunFeed, G: MarkTake>(
+        &mut self,
+        feed: &mut F,
+        feeds: &mut Vec<Tx<Stretch>>,
+        take: &mut G,
+        quiet: bool,
+    ) -> bool
+        requires place { InPlace (F.held feed.old) self.old }
+        ensures links { map tx_link feeds.new.items ≡ map tx_link feeds.old.items }
+        ensures pumps { Pumps F.RunFeed feed.old feed.new self.old self.new
+            (map sent feeds.old.items) (map sent feeds.new.items) }
+        ensures pauses { Pauses G.MarkTake take.old take.new }
+    {
+        let mut moved = false;
+        for _ in 0..STEPS {
+            if !self.step(feed, feeds, take, quiet && !moved) {
+                return moved;
+            }
+            moved = true;
+        }
+        moved
     }
 }
 

@@ -7,7 +7,7 @@ use la_base::Run;
 use stage_run::Stretch;
 use std::marker::Model;
 
-const ROOM: usize = 64;
+const ROOM: usize = 128;
 
 /// What is to be sent to each root next. It takes no memory.
 #[derive(Drop)]
@@ -21,7 +21,7 @@ impl Model for SendRow {
 
     ghost view = { λ row. take row.count row.room };
 
-    ghost invariant = { λ row. row.count ≤ 64 };
+    ghost invariant = { λ row. row.count ≤ 128 };
 }
 
 impl SendRow {
@@ -35,7 +35,7 @@ impl SendRow {
     }
 
     pub(crate) fn push(&mut self, stretch: Stretch)
-        requires { length self.old < 64 }
+        requires { length self.old < 128 }
         ensures { self.new ≡ self.old ++ stretch ∷ [] }
     {
         self.room[self.count] = stretch;
@@ -66,14 +66,24 @@ impl SendRow {
         ensures within { result ≤ length runs.now }
         ensures row { self.new ≡ map stretch_of (take result runs.now) }
     {
-        let count = runs.len().min(ROOM);
-        for place in 0..count {
-            let run = runs[place];
-            self.push(Stretch {
-                value: run.value,
-                len: run.len,
-            });
-        }
-        count
+        self.count = first_stretches(&mut self.room, runs);
+        self.count
     }
+}
+
+// The first of these runs, as many as there is room for, at the front of room for them; the answer
+// is how many.
+fn first_stretches(room: &mut [Stretch; ROOM], runs: &[Run]) -> usize
+    ensures within { (result ≤ length runs.now) × (result ≤ 128) }
+    ensures len { length room.new ≡ 128 }
+    ensures row { take result room.new ≡ map stretch_of (take result runs.now) }
+{
+    let count = runs.len().min(ROOM);
+    for place in 0..count {
+        let run = runs[place];
+        let stretch = &mut room[place];
+        stretch.value = run.value;
+        stretch.len = run.len;
+    }
+    count
 }

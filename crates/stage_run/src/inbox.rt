@@ -56,7 +56,7 @@ fn put_runs(runs: &mut Row<Run>, stretches: &[Stretch]) -> bool
     ensures items { map Sample (samples_of runs.new.list) ≡ items_in (map feed_of stretches.now) }
     ensures ends { result ≡ true → some ends_feed (map feed_of stretches.now) ≡ true }
 {
-    if runs.put(stretches) == stretches.len() {
+    if runs.put(stretches) {
         return false;
     }
     put_each(runs, stretches)

@@ -1,6 +1,6 @@
 // Short rows of what is still to be done or given, oldest first: room that is used again and again.
 ghost use Rattle.std.specs.Prelude.{◌≡◌, ◌≤◌, ◌<◌, ◌+◌, ◌++◌, ◌∷◌, [], length, take, drop, nat_eq};
-ghost use Rattle.std.specs.Prelude.{Option, IfSome, map};
+ghost use Rattle.std.specs.Prelude.{Option, IfSome, map, true};
 ghost use Rattle.la_base.specs.Runs.{samples_of};
 ghost use Rattle.decoder_core.specs.Inputs.{Sample};
 ghost use Rattle.stack_laws.specs.Feeds.{items_in};
@@ -124,7 +124,9 @@ impl<T: Copy> Row<T> {
 }
 
 impl<T: Copy + Send> Row<T> {
-    /// Receives as many things as there are and as there is room for, in place of what it had.
+    /// Receives as many things as there are and as there is room for, in place of what it had. It
+    /// isn't inlined, so that the loop over them knows that the row and the link lie apart.
+    #[inline(never)]
     pub(crate) fn fill(&mut self, from: &mut Rx<T>) -> usize
         ensures link { rx_link from.new ≡ rx_link from.old }
         ensures start { self.new.at ≡ 0 }
@@ -140,40 +142,42 @@ impl<T: Copy + Send> Row<T> {
 }
 
 impl Row<Run> {
-    /// Puts in the runs of the first stretches, up to the first one that is the end, in place of
-    /// what it had. Answers how many.
+    /// Puts in the runs of these stretches, in place of what it had, and answers whether it could.
+    /// It can't where one of them is the end.
     #[inline]
-    pub(crate) fn put(&mut self, stretches: &[Stretch]) -> usize
+    pub(crate) fn put(&mut self, stretches: &[Stretch]) -> bool
         requires { length stretches.now ≤ 64 }
-        ensures start { self.new.at ≡ 0 }
-        ensures within { result ≤ length stretches.now }
-        ensures items { map Sample (samples_of self.new.list)
-            ≡ items_in (map feed_of (take result stretches.now)) }
+        ensures start { result ≡ true → self.new.at ≡ 0 }
+        ensures items { result ≡ true
+            → map Sample (samples_of self.new.list) ≡ items_in (map feed_of stretches.now) }
     {
         self.at = 0;
-        self.count = first_runs(&mut self.room, stretches);
-        self.count
+        self.count = 0;
+        if !all_runs(&mut self.room, stretches) {
+            return false;
+        }
+        self.count = stretches.len();
+        true
     }
 }
 
-// The runs of the first stretches, up to the first one that is the end, at the front of room for
-// them; the answer is how many.
+// The runs of stretches, at the front of room for them; the answer is whether none of them is the
+// end. Behind an end nothing is put.
 #[inline]
-fn first_runs(room: &mut [Run; ROOM], stretches: &[Stretch]) -> usize
+fn all_runs(room: &mut [Run; ROOM], stretches: &[Stretch]) -> bool
     requires { length stretches.now ≤ 64 }
-    ensures within { result ≤ length stretches.now }
     ensures len { length room.new ≡ 64 }
-    ensures items { map Sample (samples_of (take result room.new))
-        ≡ items_in (map feed_of (take result stretches.now)) }
+    ensures items { result ≡ true → map Sample (samples_of (take (length stretches.now) room.new))
+        ≡ items_in (map feed_of stretches.now) }
 {
-    for (place, stretch) in stretches.iter().enumerate() {
+    for place in 0..stretches.len() {
+        let stretch = stretches[place];
         if stretch.len == 0 {
-            return place;
+            return false;
         }
-        room[place] = Run {
-            value: stretch.value,
-            len: stretch.len,
-        };
+        let run = &mut room[place];
+        run.value = stretch.value;
+        run.len = stretch.len;
     }
-    stretches.len()
+    true
 }

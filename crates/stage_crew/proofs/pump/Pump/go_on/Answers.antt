@@ -1,15 +1,28 @@
-use Rattle.std.proofs.Common.{map, refl}
+use Rattle.std.proofs.Common.{◌∙◌, refl, map}
 use Rattle.stage_ring.specs.Link.{sent}
-use Rattle.stage_crew.proofs.Pumping.{pumps_hand, pumps_none}
+use Rattle.stage_crew.proofs.Gathering.{pauses_none, pauses_then}
+use Rattle.stage_crew.proofs.Pumping.{pumps_none, pumps_then}
 use Rattle.stage_crew.proofs.pump.Pump.go_on.Goals as goal
 
-pub returns-then-not-is_done-clause-pumps : goal.returns-then-not-is_done-clause-pumps
-returns-then-not-is_done-clause-pumps g c =
-    let e = c.hand_on.ensures in
-    pumps_hand g.F.RunFeed c.args.feed.now c.args.self.now c.hand_on.new.self (map sent c.args.feeds.now.items) (map sent c.hand_on.new.feeds.items) c.requires.place e.same.0 e.same.1 e.same.2 e.fans
+pub loop-init : goal.loop-init
+loop-init g c = record {
+  links_same = refl;
+  pumps = pumps_none g.F.RunFeed c.args.feed.now c.args.self.now _ (map sent c.args.feeds.now.items) c.requires.place refl;
+  pauses = pauses_none g.G.MarkTake c.args.take.now;
+}
 
-pub returns-then-self-clause-pumps : goal.returns-then-self-clause-pumps
-returns-then-self-clause-pumps g c = pumps_none g.F.RunFeed c.args.feed.now c.args.self.now _ (map sent c.args.feeds.now.items) c.requires.place refl
+pub loop-preserved : goal.loop-preserved
+loop-preserved g c =
+    let i = c.loop.invariant in
+    let e = c.step.ensures in
+    record {
+      links_same = e.links ∙ i.links_same;
+      pumps = pumps_then g.F.RunFeed i.pumps e.pumps;
+      pauses = pauses_then g.G.MarkTake i.pauses e.pauses;
+    }
 
-pub returns-clause-pumps : goal.returns-clause-pumps
-returns-clause-pumps g c = c.refill.ensures.pumps (map sent c.args.feeds.now.items)
+pub returns-then-not-step-clause-pumps : goal.returns-then-not-step-clause-pumps
+returns-then-not-step-clause-pumps g c = pumps_then g.F.RunFeed c.loop.invariant.pumps c.step.ensures.pumps
+
+pub returns-then-not-step-clause-pauses : goal.returns-then-not-step-clause-pauses
+returns-then-not-step-clause-pauses g c = pauses_then g.G.MarkTake c.loop.invariant.pauses c.step.ensures.pauses

@@ -3,7 +3,7 @@ use Rattle.la_base.specs.Runs.{samples_of}
 use Rattle.decoder_core.specs.Inputs.{Sample}
 use Rattle.stack_laws.specs.Feeds.{items_in}
 use Rattle.stage_run.specs.Inputs.{feed_of}
-use Rattle.stage_run.proofs.row.first_runs.Given as goal
+use Rattle.stage_run.proofs.row.all_runs.Given as goal
 
 abbrev pub invariant-loop-place : goal.invariant-loop-place
 invariant-loop-place l =

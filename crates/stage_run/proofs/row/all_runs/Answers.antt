@@ -1,8 +1,8 @@
-use Rattle.std.proofs.Common.{◌≡◌, ◌∙◌, refl, arith}
+use Rattle.std.proofs.Common.{◌∙◌, arith, refl}
 use Rattle.std.proofs.lemmas.List.{length-set}
 use Rattle.stage_run.specs.declared.input.Stretch.{Stretch}
 use Rattle.stage_run.proofs.Coming.{put_items}
-use Rattle.stage_run.proofs.row.first_runs.Goals as goal
+use Rattle.stage_run.proofs.row.all_runs.Goals as goal
 
 pub loop-place-preserved : goal.loop-place-preserved
 loop-place-preserved c =
