@@ -1,5 +1,5 @@
 #!/usr/bin/env python3
-"""Prints how many samples a second the I2C decode takes, beside a `cat` of the same file.
+"""Prints how many samples a second the I2C decode takes on one thread, beside a `cat` of the same file.
 
 usage: bench/decode.py [TRANSACTIONS]
 
@@ -17,6 +17,8 @@ import time
 TOP = os.path.dirname(os.path.dirname(os.path.abspath(__file__)))
 LDECODE = os.path.join(TOP, "bin", "ldecode")
 CHAIN = "i2c:scl=D0:sda=D1"
+# The words of the decode: `bench/threads.py` compares the two ways.
+WORDS = f"--threads no {CHAIN}"
 LENGTH = 120
 NOTES = 8
 
@@ -70,7 +72,7 @@ def main():
         plain, decoded = [], []
         for _ in range(3):
             plain.append(seconds(f"cat {path} > /dev/null"))
-            decoded.append(seconds(f"{LDECODE} {CHAIN} < {path} > {listing}"))
+            decoded.append(seconds(f"{LDECODE} {WORDS} < {path} > {listing}"))
         with open(listing, "rb") as file:
             lines = sum(1 for _ in file)
         if lines != NOTES * count:

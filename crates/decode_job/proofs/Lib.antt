@@ -4,3 +4,6 @@ mod Showing
 pub mod Listed
 mod Ends
 mod Handing
+mod Closing
+mod Flushing
+mod Coming

@@ -38,6 +38,7 @@ use Rattle.note_lister.specs.Prompt.{Prompts}
 use Rattle.note_lister.specs.Taking.{WritesAll}
 use Rattle.note_lister.proofs.TakingLemmas.{begins_itself, bytes_in-append}
 use Rattle.tree_runs.specs.Listings.{notes_of}
+use Rattle.stack_laws.specs.Settling.{TellsRun}
 use Rattle.decode_job.specs.Listing.{bytes_by, bytes_of, output_by}
 use Rattle.decode_job.proofs.Growing.{grows}
 use Rattle.decode_job.proofs.Showing.{shown_listing}
@@ -208,8 +209,8 @@ get_map f (y ∷ xs) (suc j) x at = get_map f xs j x at
 
 module _ {S : Type 0} (outputs : S → List Item → List Out) (near : ℕ → List Item → ℕ) (setups : List S) (parents : List (Option ℕ)) (forest : IsForest parents) (count : length setups ≡ length parents)
     (nothing : (j : ℕ) → j < length parents → GivesNothing (whole_of outputs setups j)) (keeps : (j : ℕ) → j < length parents → KeepsFront (whole_of outputs setups j)) (accepted : Accepted)
-    (result : RunEnd) (at_end : Bool) (samples rest : List ℕ) (taken : ℕ → List Mark) (feeds : ℕ → List (List Item))
-    (told : (j : ℕ) → j < length parents → ToldOf result at_end (whole_of outputs setups j) (near j) (input_at outputs (nodes_of setups parents) [] j) (input_at outputs (nodes_of setups parents) samples j) (feeds j) (taken j))
+    (result : RunEnd) (at_end : Bool) (samples rest : List ℕ) (taken : ℕ → List Mark)
+    (told : (j : ℕ) → j < length parents → TellsRun result at_end (whole_of outputs setups j) (near j) (input_at outputs (nodes_of setups parents) [] j) (input_at outputs (nodes_of setups parents) samples j) (taken j))
     (none : at_end ≡ true → rest ≡ []) where
   abbrev n : ℕ
   n = length parents
@@ -234,11 +235,11 @@ module _ {S : Type 0} (outputs : S → List Item → List Out) (near : ℕ → L
           let same : input_at outputs (nodes_of setups parents) samples j ++ [] ≡ input_at outputs (nodes_of setups parents) all_samples j =
           append-nil (input_at outputs (nodes_of setups parents) samples j) ∙ ap (λ (l : List ℕ). input_at outputs (nodes_of setups parents) l j) (sym (append-nil samples) ∙ ap (λ (l : List ℕ). samples ++ l) (sym (none is))) in
           subst (λ (l : List Item). Full (taken j) (whole_of outputs setups j l)) same
-          (full_of result at_end (whole_of outputs setups j) (near j) (input_at outputs (nodes_of setups parents) [] j) (input_at outputs (nodes_of setups parents) samples j) [] (feeds j) (taken j) (told j within) was_nothing (keeps j within) (λ _. refl))
+          (full_of result at_end (whole_of outputs setups j) (near j) (input_at outputs (nodes_of setups parents) [] j) (input_at outputs (nodes_of setups parents) samples j) [] (told j within).0 (taken j) (told j within).2 was_nothing (keeps j within) (λ _. refl))
       by false is =
           let g = grows outputs setups parents forest count keeps samples rest j within in
           subst (λ (l : List Item). Full (taken j) (whole_of outputs setups j l)) (sym g.1)
-          (full_of result at_end (whole_of outputs setups j) (near j) (input_at outputs (nodes_of setups parents) [] j) (input_at outputs (nodes_of setups parents) samples j) g.0 (feeds j) (taken j) (told j within) was_nothing (keeps j within) (λ closed. absurd (opened is closed)))
+          (full_of result at_end (whole_of outputs setups j) (near j) (input_at outputs (nodes_of setups parents) [] j) (input_at outputs (nodes_of setups parents) samples j) g.0 (told j within).0 (taken j) (told j within).2 was_nothing (keeps j within) (λ closed. absurd (opened is closed)))
         where
           opened : at_end ≡ false → at_end ≡ true → ⊥
           opened a b = cc
@@ -307,11 +308,11 @@ module _ {S : Type 0} (outputs : S → List Item → List Out) (near : ℕ → L
   module _ (ended : result ≡ Ended) where
     closed_taken : (j : ℕ) → j < n → bound_of (taken j) ≡ None
     closed_taken j within =
-        let t = told j within in
+        let t = (told j within).2 in
         ap bound_of (t.made ∙ ap (λ (b : Bool). t.body ++ (if b then EndMark ∷ [] else [])) (t.closes ended)) ∙ bound_append (Some 0) t.body (EndMark ∷ [])
 
     shut : (j : ℕ) → j < n → at_end ≡ true
-    shut j within = (told j within).whole_at_end ((told j within).closes ended)
+    shut j within = (told j within).2.whole_at_end ((told j within).2.closes ended)
 
     -- nothing comes behind the marks that were taken
     taken_true : (j : ℕ) → j < n → AreTrue (taken j)
@@ -341,7 +342,7 @@ module _ {S : Type 0} (outputs : S → List Item → List Out) (near : ℕ → L
     -- the notes of all marks are those of the marks that were taken
     all_taken : (j : ℕ) → j < n → shown (taken j) ≡ marks_of (outs_at j)
     all_taken j within =
-        let t = told j within in
+        let t = (told j within).2 in
         let is = t.closes ended in
         let reached : shown t.body ≡ marks_of t.new = subst (λ (b : Bool). Reaches b (shown t.body) (marks_of t.new)) is t.shows in
         let made : taken j ≡ t.body ++ EndMark ∷ [] = t.made ∙ ap (λ (b : Bool). t.body ++ (if b then EndMark ∷ [] else [])) is in

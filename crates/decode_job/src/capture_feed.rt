@@ -31,6 +31,7 @@ impl<'a, 'b, S: Source> CaptureFeed<'a, 'b, S> {
         requires { is_open_of capture.old ≡ true }
         ensures capture { result.first_capture.value.now ≡ capture.old }
         ensures source { result.first_source.value.now ≡ source.old }
+        ensures source_now { result.source.now ≡ source.old }
         ensures same_source { result.source.ghost_name ≡ source.entry.ghost_name }
         ensures first_source { result.first_source.value.ghost_name ≡ source.entry.ghost_name }
         ensures gave { GaveRuns S.left S.faults result [] }

@@ -1,73 +1,106 @@
 // The job `decode`.
-ghost use Rattle.std.specs.Prelude.{◌≡◌, ◌≤◌, ◌<◌, [], ℕ, All, IfSome, List, length, map, true};
-ghost use Rattle.std.specs.Io.KnownBytes.{Appends};
-ghost use Rattle.la_io.specs.Causes.{AppendsFront};
-ghost use Rattle.la_io.specs.Capture.{Told};
-ghost use Rattle.capture_any.specs.Captures.{ToldAt};
-ghost use Rattle.capture_any.specs.Listings.{Lists, ReadCause, WriteCause};
-ghost use Rattle.capture_any.specs.Reading.{Stands, form_of, is_open_of, pins_of};
-ghost use Rattle.tree_runs.specs.Passing.{IsForest};
-ghost use Rattle.tree_runs.specs.Runs.{nodes_of};
-ghost use Rattle.tree_runs.specs.Taking.{IsTree};
-ghost use Rattle.stack_spec.specs.Stacks.{instances_in, stack_meaning};
+ghost use Rattle.std.specs.Prelude.{◌≡◌, ◌≤◌, length, true};
+ghost use Rattle.capture_any.specs.Reading.{is_open_of};
 ghost use Rattle.annot_merge.specs.Held.{count_of};
+ghost use Rattle.tree_runs.specs.Passing.{IsForest};
+ghost use Rattle.tree_runs.specs.Taking.{IsTree};
+ghost use Rattle.stack_spec.specs.Stacks.{instances_in};
 ghost use Rattle.decode_job.specs.Asking.{IsNew, WantsOf};
-ghost use Rattle.decode_job.specs.Listing.{tree_output};
+ghost use Rattle.decode_job.specs.Decoding.{Decodes};
 
 use crate::DecodeEnd;
-use crate::tree::list_tree;
+use crate::capture_feed::CaptureFeed;
+use crate::ending::{Ran, close, goes_back, hand_on};
+use crate::running::{InThreads, run_here};
 use annot_merge::Merge;
 use capture_any::Capture;
 use decoder_core::Machine;
 use la_base::NoMemory;
-use la_io::{Buffered, Failed, Sink, Source};
+use la_io::{Buffered, Sink, Source};
+use note_lister::Lister;
+use stack_laws::laws::machines_are_a_tree;
 use stack_spec::Stack;
+use stage_crew::Pacer;
 use std::alloc::Global;
+use std::snapshot::Snapshot;
+use std::sync::Wait;
+use std::thread::Threads;
 
-// Reads the capture to its end, and writes what the tree of machines gives through a buffer before
-// the sink, which hands all on before it answers.
-fn list_buffered<S: Source, K: Sink, M: Machine>(
-    capture: &mut Capture,
-    machines: &mut [M],
-    parents: &[Option<u32>],
-    source: &mut S,
+// Runs the machines over the capture to its end, and writes what they give as it comes.
+fn list_here<S: Source, K: Sink, M: Machine + Drop>(
     stack: &Stack,
     merge: Merge,
+    capture: &mut Capture,
+    machines: Vec<M>,
+    parents: &[Option<u32>],
+    source: &mut S,
     sink: &mut K,
 ) -> DecodeEnd
     requires is_open { is_open_of capture.old ≡ true }
-    requires tree { IsTree parents.now (length machines.old) (count_of merge) }
+    requires tree { IsTree parents.now (length machines.items) (count_of merge) }
     requires new { IsNew merge }
     requires wanted { WantsOf stack.now (length parents.now) }
-    ensures lists { (before : List ℕ) (told : Told) → ToldAt told (S.left source.old)
-        → Stands capture.old before told [] → All (λ machine. M.consumed machine []) machines.old
-        → Lists (form_of capture.old) (pins_of capture.old)
-        (λ samples. Appends (K.written sink.old) (K.written sink.new)
-        (tree_output M.outputs (stack_meaning stack.now)
-        (nodes_of (map M.setup machines.old) parents.now) samples))
-        (λ samples. AppendsFront (K.written sink.old) (K.written sink.new)
-        (tree_output M.outputs (stack_meaning stack.now)
-        (nodes_of (map M.setup machines.old) parents.now) samples))
-        before told (S.left source.old) (S.left source.new) result }
-    ensures read { ReadCause (S.faults source.old) (S.faults source.new) result }
-    ensures write { WriteCause (K.faults sink.old) (K.faults sink.new) result }
+    ensures decodes { Decodes M.Machine S.Source K.Sink stack.now machines.items parents.now
+        capture.old source.old source.new sink.old sink.new result }
+    ensures goes_on { K.goes_on sink.old sink.new }
 {
-    let mut buffered = Buffered::new(sink);
-    match list_tree(
-        capture,
-        machines,
-        parents,
-        source,
-        stack,
-        merge,
-        &mut buffered,
-    ) {
-        DecodeEnd::Write => DecodeEnd::Write,
-        end => match buffered.flush() {
-            Ok(()) => end,
-            Err(Failed) => DecodeEnd::Write,
-        },
-    }
+    let mut feed = CaptureFeed::new(capture, source);
+    let mut lister = Lister::over(stack, merge, sink);
+    let before = Snapshot::of(&machines);
+    machines_are_a_tree(&machines, parents);
+    let ran = run_here(machines, parents, &mut feed, &mut lister);
+    let Ran {
+        capture: read,
+        source: read_from,
+        sink: written_to,
+        end,
+    } = close(before, parents, feed, lister, ran);
+    goes_back(read);
+    goes_back(read_from);
+    goes_back(written_to);
+    end
+}
+
+// The same with a thread for each machine.
+fn list_in_threads<
+    R: Threads + Wait + Sync,
+    P: Pacer + Sync,
+    S: Source,
+    K: Sink,
+    M: Machine + Send + Drop,
+>(
+    way: &InThreads<R, P>,
+    stack: &Stack,
+    merge: Merge,
+    capture: &mut Capture,
+    machines: Vec<M>,
+    parents: &[Option<u32>],
+    source: &mut S,
+    sink: &mut K,
+) -> DecodeEnd
+    requires is_open { is_open_of capture.old ≡ true }
+    requires tree { IsTree parents.now (length machines.items) (count_of merge) }
+    requires new { IsNew merge }
+    requires wanted { WantsOf stack.now (length parents.now) }
+    ensures decodes { Decodes M.Machine S.Source K.Sink stack.now machines.items parents.now
+        capture.old source.old source.new sink.old sink.new result }
+    ensures goes_on { K.goes_on sink.old sink.new }
+{
+    let mut feed = CaptureFeed::new(capture, source);
+    let mut lister = Lister::over(stack, merge, sink);
+    let before = Snapshot::of(&machines);
+    machines_are_a_tree(&machines, parents);
+    let ran = way.run(machines, parents, &mut feed, &mut lister);
+    let Ran {
+        capture: read,
+        source: read_from,
+        sink: written_to,
+        end,
+    } = close(before, parents, feed, lister, ran);
+    goes_back(read);
+    goes_back(read_from);
+    goes_back(written_to);
+    end
 }
 
 /// Reads the capture to its end, and writes the notes that the machines give, those of the
@@ -90,23 +123,66 @@ pub fn decode<S: Source, K: Sink, M: Machine + Drop>(
     requires each { length machines.items ≡ length parents.now }
     requires instances { length (instances_in stack.now) ≡ length parents.now }
     requires wanted { WantsOf stack.now (length parents.now) }
-    ensures lists { (before : List ℕ) (told : Told) → ToldAt told (S.left source.old)
-        → Stands capture.old before told [] → All (λ machine. M.consumed machine []) machines.items
-        → Lists (form_of capture.old) (pins_of capture.old)
-        (λ samples. Appends (K.written sink.old) (K.written sink.new)
-        (tree_output M.outputs (stack_meaning stack.now)
-        (nodes_of (map M.setup machines.items) parents.now) samples))
-        (λ samples. AppendsFront (K.written sink.old) (K.written sink.new)
-        (tree_output M.outputs (stack_meaning stack.now)
-        (nodes_of (map M.setup machines.items) parents.now) samples)) before told
-        (S.left source.old) (S.left source.new) result }
-    ensures read { ReadCause (S.faults source.old) (S.faults source.new) result }
-    ensures write { WriteCause (K.faults sink.old) (K.faults sink.new) result }
+    ensures { Decodes M.Machine S.Source K.Sink stack.now machines.items parents.now
+        capture.old source.old source.new sink.old sink.new result }
 {
     let merge = match Merge::new(alloc, stack.count()) {
         Ok(merge) => merge,
         Err(NoMemory) => return DecodeEnd::NoMemory,
     };
-    let mut machines = machines;
-    list_buffered(capture, &mut machines, parents, source, stack, merge, sink)
+    let mut buffered = Buffered::new(sink);
+    let end = list_here(
+        stack,
+        merge,
+        capture,
+        machines,
+        parents,
+        source,
+        &mut buffered,
+    );
+    hand_on(&mut buffered, end)
+}
+
+/// The same with a thread for each machine, as `way` says: what is written is the same, in whatever
+/// order the threads run.
+pub fn decode_in_threads<
+    R: Threads + Wait + Sync,
+    P: Pacer + Sync,
+    S: Source,
+    K: Sink,
+    M: Machine + Send + Drop,
+>(
+    way: &InThreads<R, P>,
+    stack: &Stack,
+    capture: &mut Capture,
+    machines: Vec<M>,
+    parents: &[Option<u32>],
+    source: &mut S,
+    sink: &mut K,
+) -> DecodeEnd
+    requires is_open { is_open_of capture.old ≡ true }
+    requires forest { IsForest parents.now }
+    requires few { length parents.now ≤ 24 }
+    requires each { length machines.items ≡ length parents.now }
+    requires instances { length (instances_in stack.now) ≡ length parents.now }
+    requires wanted { WantsOf stack.now (length parents.now) }
+    ensures { Decodes M.Machine S.Source K.Sink stack.now machines.items parents.now
+        capture.old source.old source.new sink.old sink.new result }
+{
+    let merge = match Merge::new(way.alloc, stack.count()) {
+        Ok(merge) => merge,
+        Err(NoMemory) => return DecodeEnd::NoMemory,
+    };
+    let mut buffered = Buffered::new(sink);
+    let end = list_in_threads(
+        way,
+        stack,
+        merge,
+        capture,
+        machines,
+        parents,
+        source,
+        &mut buffered,
+    );
+    hand_on(&mut buffered, end)
 }

@@ -2,9 +2,11 @@
 #![tactic(auto)]
 
 mod capture_feed;
+mod ending;
 mod job;
-mod tree;
+mod running;
 
 pub use capture_any::ListingEnd as DecodeEnd;
 pub use capture_feed::CaptureFeed;
-pub use job::decode;
+pub use job::{decode, decode_in_threads};
+pub use running::InThreads;

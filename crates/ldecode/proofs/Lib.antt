@@ -10,3 +10,4 @@ mod MadeTree
 mod MadeGiving
 mod Counting
 mod Tallying
+mod Opened

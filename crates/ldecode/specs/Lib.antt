@@ -8,3 +8,4 @@ pub mod Tallies
 pub mod MadeFeeding
 pub mod MadeTrees
 pub mod Sums
+pub mod Opening

@@ -8,14 +8,16 @@ mod laws;
 mod made_feed;
 mod make;
 mod notices;
-mod run;
+mod open_stack;
 mod search;
 mod status;
 mod tally_taker;
+mod whole;
 
 pub use annot_merge::Merge;
 pub use laws::made_captures_are_read_back;
 pub use note_lister::{ListStop, Lister};
-pub use run::run_here;
+pub use stage_crew::{Pacer, PlainPacer};
 pub use status::{Status, exit_code};
+pub use whole::{run, run_here};
 pub use words::{Format, Job, Settings, WordFault, WordWhy, WordsError, read_words};

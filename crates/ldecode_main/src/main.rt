@@ -5,6 +5,7 @@ ghost use Rattle.std.specs.Prelude.{◌≡◌};
 ghost use Rattle.std.specs.Process.{exit_status};
 
 use la_io::{StdSink, StdSource};
+use ldecode::PlainPacer;
 use ldecode_program::program;
 use std::alloc::{AllocError, Global};
 use std::env::{self, Args};
@@ -38,6 +39,14 @@ fn main(rt: HostRuntime) -> ExitCode {
     let mut source = StdSource::new(rt.stdin());
     let mut sink = StdSink::new(rt.stdout());
     let mut notices = StdSink::new(rt.stderr());
-    let code = program(rt.alloc(), &words, &mut source, &mut sink, &mut notices);
+    let code = program(
+        &rt,
+        rt.alloc(),
+        &words,
+        &mut source,
+        &mut sink,
+        &mut notices,
+        &PlainPacer,
+    );
     ExitCode::from(code)
 }

@@ -13,8 +13,10 @@ ghost use Rattle.ldecode_program.specs.declared.help.TheConstants.{VERSION};
 use crate::help::{VERSION, help_text};
 use crate::request::{Request, request_of};
 use la_io::{Failed, Sink, Source, write_whole};
-use ldecode::{Status, exit_code, run_here};
+use ldecode::{Pacer, Status, exit_code, run};
 use std::alloc::{AllocError, Global};
+use std::sync::Wait;
+use std::thread::Threads;
 
 // Writes a text, and answers the exit status.
 fn tell<K: Sink>(text: &str, sink: &mut K) -> u8
@@ -40,12 +42,14 @@ fn tell_help<K: Sink>(alloc: Global, sink: &mut K) -> u8
 /// Does what the words ask for, and answers the exit status of the program: the help or the version
 /// on the sink, where the first word asks for it, with the status of a run that wrote it; else a
 /// run of the words over these streams.
-pub fn program<S: Source, K: Sink, E: Sink>(
+pub fn program<R: Threads + Wait + Sync, S: Source, K: Sink, E: Sink, P: Pacer + Sync>(
+    rt: &R,
     alloc: Global,
     words: &[String],
     source: &mut S,
     sink: &mut K,
     notices: &mut E,
+    pacer: &P,
 ) -> u8
     ensures { Does (requested (map string_bytes words.now))
         (IsHelp USAGE.now DECODERS.now EXAMPLES.now OPTIONS KINDS) VERSION.now
@@ -57,6 +61,6 @@ pub fn program<S: Source, K: Sink, E: Sink>(
     match request_of(words) {
         Request::Help => tell_help(alloc, sink),
         Request::Version => tell(VERSION, sink),
-        Request::Run => exit_code(&run_here(alloc, words, source, sink, notices)),
+        Request::Run => exit_code(&run(rt, alloc, words, source, sink, notices, pacer)),
     }
 }

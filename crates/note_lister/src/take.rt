@@ -95,6 +95,7 @@ impl<'a, 'b, K: Sink> Lister<'a, 'b, K> {
         ensures instances { instances_of result ≡ count_of merge }
         ensures stack { stack_of result ≡ stack.now }
         ensures first { first_sink result ≡ sink.old }
+        ensures now { sink_of result ≡ sink.old }
         ensures same { (first_of result).ghost_name ≡ sink.entry.ghost_name }
         ensures goes { Goes true result }
         ensures never { stops_of result ≡ 0 }

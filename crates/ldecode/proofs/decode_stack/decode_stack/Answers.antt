@@ -1,84 +1,29 @@
-use Rattle.std.proofs.Common.{ℕ, List, map, Option, ap, inr, sym, ◌∙◌, subst, Ok, Err}
-use Rattle.la_base.specs.declared.samples.TheConstants.{MOST_PINS}
-use Rattle.la_base.specs.declared.samples.Rate.{Rate}
-use Rattle.capture_any.specs.Reading.{form_of, names_of, pins_of, rate_of}
-use Rattle.stack_spec.specs.BindSteps.{Binds}
-use Rattle.stack_spec.specs.Stacks.{stack_meaning}
-use Rattle.stack_spec.specs.declared.faults.BindFault.{BindFault}
-use Rattle.stack_spec.specs.declared.faults.BindError.{BindError}
-use Rattle.stack_spec.specs.declared.faults.BindError.TheVariants.{Fault}
+use Rattle.std.proofs.Common.{◌≡◌, sym, subst}
 use Rattle.words.specs.Settings.{meaning_of}
-use Rattle.ldecode.specs.Asking.{nodes_of}
-use Rattle.std.specs.Io.KnownBytes.{Appends}
-use Rattle.la_io.specs.Causes.{AppendsFront}
-use Rattle.capture_any.specs.Listings.{Lists}
-use Rattle.decoder_core.specs.Trees.{Node}
-use Rattle.decoder_set.specs.Opening.{setup_of}
-use Rattle.decoder_set.specs.Setups.{outs_of}
-use Rattle.tree_runs.specs.Passing.{IsForest}
-use Rattle.tree_runs.specs.Runs.{nodes_of as tree_nodes}
-use Rattle.decoder_set.specs.declared.setup.Setup.{Setup}
-use Rattle.decode_job.specs.Listing.{tree_output}
-use Rattle.ldecode.specs.Headline.{WorksOn}
+use Rattle.ldecode.specs.Asking.{NamesNoHead}
+use Rattle.ldecode.specs.Headline.{SinkCause, SourceCause, WhereUnread, WorksOn}
 use Rattle.ldecode.specs.declared.status.Status.{Status}
-use Rattle.ldecode.specs.declared.status.Status.TheVariants.{Bind}
-use Rattle.ldecode.proofs.Stacked.{bound_nodes, stack_asks, stack_forest, stack_refused, the_stack}
-use Rattle.ldecode.proofs.Working.{binding_fails, decoding_ends, no_head_here, no_room, opening_fails}
+use Rattle.ldecode.proofs.Opened.{comes_of}
+use Rattle.ldecode.proofs.Working.{sink_cause, source_cause, unread_at_end}
 use Rattle.ldecode.proofs.decode_stack.decode_stack.Goals as goal
 
-pub returns-in-Err-NoMemory-clause-works : goal.returns-in-Err-NoMemory-clause-works
-returns-in-Err-NoMemory-clause-works g c = no_room (meaning_of c.args.settings.now) (g.S.Source.left c.args.source.now) (g.K.Sink.written c.args.sink.now)
+pub returns-in-Err-clause-write : goal.returns-in-Err-clause-write
+returns-in-Err-clause-write g c = c.in-Err.ensures.write (g.K.Sink.faults c.args.sink.now)
 
-pub returns-in-Err-clause-works : goal.returns-in-Err-clause-works
-returns-in-Err-clause-works g c =
+pub returns : goal.returns
+returns g c =
+    let opened = c.in-Ok.ensures.opened in
+    let decodes = c.decode.ensures in
     let values = meaning_of c.args.settings.now in
-    let accepted = stack_meaning c.in-Ok.stack in
-    let stacks = the_stack c.args.settings.now c.deref.result.now c.as_ref.result c.as_ref-2.result c.in-Ok.stack c.requires.job c.deref.ensures.value c.as_ref.ensures.value c.as_ref-2.ensures.value c.in-Ok.ensures.gives in
-    subst (λ (s : Status). WorksOn values (g.S.Source.left c.args.source.now) (g.S.Source.left c.open.new.source) (g.K.Sink.written c.args.sink.now) (g.K.Sink.written c.args.sink.now) s) (sym c.status_at_head.ensures)
-    (opening_fails values c.form_of.result c.form_of.ensures.named (inr (accepted, stacks)) _ _ _ c.in-Err.error c.in-Err.ensures.opens)
-
-pub returns-in-Err-Fault-bind-clause-works : goal.returns-in-Err-Fault-bind-clause-works
-returns-in-Err-Fault-bind-clause-works g c =
-    let values = meaning_of c.args.settings.now in
-    let capture = c.in-Ok-open.capture in
-    let accepted = stack_meaning c.in-Ok.stack in
-    let stacks = the_stack c.args.settings.now c.deref.result.now c.as_ref.result c.as_ref-2.result c.in-Ok.stack c.requires.job c.deref.ensures.value c.as_ref.ensures.value c.as_ref-2.ensures.value c.in-Ok.ensures.gives in
-    let fault = c.in-Err-Fault-bind.fault in
-    let refused = subst (λ (n : List (List ℕ)). Binds MOST_PINS n (rate_of capture) accepted.instances (Err (Fault fault))) c.names.ensures
-    (subst (λ (r : Rate). Binds MOST_PINS c.names.result.now r accepted.instances (Err (Fault fault))) c.rate.ensures
-    (subst (λ (e : BindError). Binds MOST_PINS c.names.result.now c.rate.result accepted.instances (Err e)) c.in-Err-Fault-bind.field-0-is c.in-Err-Fault-bind.ensures.binds)) in
-    subst (λ (f : BindFault). WorksOn values (g.S.Source.left c.args.source.now) (g.S.Source.left c.open.new.source) (g.K.Sink.written c.args.sink.now) (g.K.Sink.written c.args.sink.now) (Bind f)) (sym c.in-Err-Fault-bind.fault-is)
-    (binding_fails values c.form_of.result c.form_of.ensures.named (inr (accepted, stacks)) _ _ _ capture c.in-Ok-open.ensures.opens fault (stack_refused values (names_of capture) (rate_of capture) accepted stacks fault refused))
-
-pub returns-clause-works : goal.returns-clause-works
-returns-clause-works g c =
-    let values = meaning_of c.args.settings.now in
-    let capture = c.in-Ok-open.capture in
-    let opens = c.in-Ok-open.ensures.opens in
-    let now = c.select.new.self in
-    let accepted = stack_meaning c.in-Ok.stack in
-    let stacks = the_stack c.args.settings.now c.deref.result.now c.as_ref.result c.as_ref-2.result c.in-Ok.stack c.requires.job c.deref.ensures.value c.as_ref.ensures.value c.as_ref-2.ensures.value c.in-Ok.ensures.gives in
-    let bound = c.in-Ok-bind.bound in
-    let is_bound = subst (λ (n : List (List ℕ)). Binds MOST_PINS n (rate_of capture) accepted.instances (Ok bound)) c.names.ensures
-    (subst (λ (r : Rate). Binds MOST_PINS c.names.result.now r accepted.instances (Ok bound)) c.rate.ensures c.in-Ok-bind.ensures.binds) in
-    let nodes = nodes_of accepted.instances is_bound.read in
-    let old = g.K.Sink.written c.args.sink.now in
-    let new = g.K.Sink.written c.decode.new.sink in
     let left = g.S.Source.left in
-    let asks = stack_asks values (names_of capture) (rate_of capture) accepted stacks bound.pins.items is_bound.read is_bound.reads is_bound.pins in
-    let lists = c.decode.ensures.lists opens.bytes opens.opened.0 opens.opened.1 (c.select.ensures.stands opens.bytes opens.opened.0 opens.opened.2) is_bound.consumed in
-    let lists_of = λ (some : List (Node Setup)). Lists (form_of now) (pins_of now) (λ samples. Appends old new (tree_output outs_of accepted some samples)) (λ samples. AppendsFront old new (tree_output outs_of accepted some samples)) opens.bytes opens.opened.0 (left c.open.new.source) (left c.decode.new.source) c.decode.result in
-    let named = subst lists_of (ap (λ (l : List (Option ℕ)). tree_nodes (map setup_of bound.machines.items) l) c.deref-2.ensures.value ∙ bound_nodes (names_of capture) (rate_of capture) accepted.instances bound is_bound) lists in
-    subst (λ (status : Status). WorksOn values (left c.args.source.now) (left c.decode.new.source) old new status) (sym c.from.ensures)
-    (decoding_ends values c.form_of.result c.form_of.ensures.named (inr (accepted, stacks)) (left c.args.source.now) (left c.open.new.source) old capture opens now bound.pins.items
-    (c.select.ensures.form ∙ c.in-Ok-open.ensures.form) c.select.ensures.pins (left c.decode.new.source) new accepted nodes c.decode.result asks named)
-
-pub returns-in-Err-Fault-bind-clause-unread : goal.returns-in-Err-Fault-bind-clause-unread
-returns-in-Err-Fault-bind-clause-unread g c = λ names. c.in-Ok-open.ensures.unread (no_head_here (meaning_of c.args.settings.now) c.form_of.result c.form_of.ensures.named names)
-
-pub decode-requires-clause-forest : goal.decode-requires-clause-forest
-decode-requires-clause-forest g c =
-    let accepted = stack_meaning c.in-Ok.stack in
-    let bound = c.in-Ok-bind.bound in
-    let is_bound = subst (λ (n : List (List ℕ)). Binds MOST_PINS n c.rate.result accepted.instances (Ok bound)) c.names.ensures c.in-Ok-bind.ensures.binds in
-    subst IsForest (sym c.deref-2.ensures.value) (stack_forest accepted.instances bound.parents.items c.in-Ok-bind.ensures.forest is_bound.parents)
+    let k = g.K.Sink in
+    let end = c.decode.result in
+    let same = sym c.from.ensures in
+    record {
+      works = subst (WorksOn values (left c.args.source.now) (left c.decode.new.source) (k.written c.args.sink.now) (k.written c.decode.new.sink)) same
+          (comes_of values (left c.args.source.now) (left c.open_stack.new.source) (left c.decode.new.source) (k.written c.args.sink.now) (k.written c.decode.new.sink) c.in-Ok.opened opened c.deref.result.now c.deref.ensures.value end (decodes.lists opened.bytes opened.told opened.at opened.stands opened.consumed));
+      unread = subst (λ (s : Status). WhereUnread (NamesNoHead values) s (c.decode.new.source ≡ c.args.source.now)) same (unread_at_end (NamesNoHead values) (c.decode.new.source ≡ c.args.source.now) end);
+      read = subst (SourceCause (g.S.Source.faults c.args.source.now) (g.S.Source.faults c.decode.new.source)) same
+          (source_cause (g.S.Source.faults c.args.source.now) (g.S.Source.faults c.open_stack.new.source) (g.S.Source.faults c.decode.new.source) end c.in-Ok.ensures.kept decodes.read);
+      write = subst (SinkCause (k.faults c.args.sink.now) (k.faults c.decode.new.sink)) same (sink_cause (k.faults c.args.sink.now) (k.faults c.decode.new.sink) end decodes.write);
+    }

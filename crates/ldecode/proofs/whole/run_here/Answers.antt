@@ -2,7 +2,7 @@ use Rattle.std.proofs.Common.{◌≡◌, map}
 use Rattle.std.specs.String.{string_bytes}
 use Rattle.ldecode.specs.Headline.{stream}
 use Rattle.ldecode.proofs.Headlines.{headline}
-use Rattle.ldecode.proofs.run.run_here.Goals as goal
+use Rattle.ldecode.proofs.whole.run_here.Goals as goal
 
 pub returns : goal.returns
 returns g c = headline (map string_bytes c.args.words.now) (stream g.S.Source.left g.S.Source.faults c.args.source.now c.run_words-status.new.source) (stream g.K.Sink.written g.K.Sink.faults c.args.sink.now c.run_words-status.new.sink)

@@ -2,7 +2,7 @@ use Rattle.std.proofs.Common.{map}
 use Rattle.std.specs.String.{string_bytes}
 use Rattle.words.specs.Settings.{meaning_of}
 use Rattle.ldecode.proofs.Running.{no_words_read, runs_made, runs_on}
-use Rattle.ldecode.proofs.run.run_words.Goals as goal
+use Rattle.ldecode.proofs.whole.run_words.Goals as goal
 
 pub returns-in-Err-NoMemory-clause-runs : goal.returns-in-Err-NoMemory-clause-runs
 returns-in-Err-NoMemory-clause-runs g c = no_words_read (map string_bytes c.args.words.now) (g.S.Source.left c.args.source.now) (g.K.Sink.written c.args.sink.now)

@@ -1,0 +1,80 @@
+#!/usr/bin/env python3
+"""Prints how long decodes take with a thread for each decoder, beside the same on one thread.
+
+usage: bench/threads.py [TRANSACTIONS]
+
+The capture is that of `bench/decode.py`, with the same bus on three pairs of lines. Each time is the
+best of five, and both ways run in turn, in this one run; both must write the same bytes. The last
+line is about a capture of one transaction, in milliseconds: there threads cost their start.
+"""
+import os
+import subprocess
+import sys
+import tempfile
+import time
+
+from decode import LDECODE, TOP, draws, transaction
+
+# What `bin/ldecode` runs, once it is built.
+PROGRAM = os.path.join(TOP, "crates", "ldecode_main", "out", "ldecode_main")
+ROUNDS = 5
+BUS = "i2c:scl=D0:sda=D1"
+LOADS = [
+    ("one bus", [BUS]),
+    ("one bus, ring 4096", ["--ring", "4096", BUS]),
+    ("three buses", [BUS, "i2c:scl=D3:sda=D4", "i2c:scl=D5:sda=D6"]),
+    ("a bus with three devices", [BUS + ",eeprom24", BUS + ",ds1307", BUS + ",lm75"]),
+    ("a bus and a serial line", [BUS, "uart:rx=D2:baud=100000"]),
+]
+
+
+def make(path, count):
+    """Three equal buses, on D0 and D1, D3 and D4, D5 and D6."""
+    numbers = draws(7)
+    spread = bytes((b & 7) | (b & 3) << 3 | (b & 3) << 5 for b in range(256))
+    with open(path, "wb") as file:
+        for _ in range(count):
+            address = 8 + next(numbers) % 112
+            one = transaction(address, next(numbers), next(numbers), next(numbers))
+            file.write(one.translate(spread))
+
+
+def run(words, threads, path):
+    """The seconds that a decode takes, and what it writes."""
+    with open(path, "rb") as capture:
+        start = time.perf_counter()
+        done = subprocess.run(
+            [PROGRAM, "--threads", threads, *words], stdin=capture, capture_output=True, check=True
+        )
+        return time.perf_counter() - start, done.stdout
+
+
+def compare(words, path):
+    best = {"no": None, "yes": None}
+    wrote = None
+    for _ in range(ROUNDS):
+        for threads in best:
+            took, listing = run(words, threads, path)
+            if wrote is not None and listing != wrote:
+                sys.exit(f"{words}: other bytes with threads")
+            wrote = listing
+            best[threads] = took if best[threads] is None else min(best[threads], took)
+    return best["no"], best["yes"]
+
+
+def main():
+    count = int(sys.argv[1]) if len(sys.argv) > 1 else 100000
+    subprocess.run([LDECODE, BUS], stdin=subprocess.DEVNULL, check=True)
+    with tempfile.TemporaryDirectory() as folder:
+        path = os.path.join(folder, "capture")
+        make(path, count)
+        for name, words in LOADS:
+            alone, apart = compare(words, path)
+            print(f"{name}: one thread {alone:.3f} s, threads {apart:.3f} s: {alone / apart:.2f} times as fast")
+        make(path, 1)
+        alone, apart = compare([BUS], path)
+        print(f"one transaction: threads take {1000 * (apart - alone):.1f} ms more")
+
+
+if __name__ == "__main__":
+    main()

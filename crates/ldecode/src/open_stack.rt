@@ -1,0 +1,74 @@
+// What stands before a decoding.
+ghost use Rattle.std.specs.Prelude.{◌≡◌, ℕ, IfErr, IfOk, IfSome, List, Option};
+ghost use Rattle.words.specs.Readable.{IsReadable, IsShort};
+ghost use Rattle.words.specs.Settings.{meaning_of};
+ghost use Rattle.words.specs.declared.kinds.Job.TheVariants.{Decode};
+ghost use Rattle.ldecode.specs.Asking.{NamesNoHead};
+ghost use Rattle.ldecode.specs.Headline.{SinkCause, SourceCause, WhereUnread, WorksOn};
+ghost use Rattle.ldecode.specs.Opening.{IsOpened};
+
+use crate::form::form_of;
+use crate::status::{Status, status_at_head};
+use capture_any::Capture;
+use decoder_set::AnyDecoder;
+use la_io::Source;
+use stack_spec::{BindError, Stack, StackError, bind, read_stack};
+use std::alloc::Global;
+use words::Settings;
+
+/// A stack, its decoders and the places on which they stand, and the capture behind its head.
+pub(crate) struct Opened {
+    pub(crate) stack: Stack,
+    pub(crate) capture: Capture,
+    pub(crate) machines: Vec<AnyDecoder>,
+    pub(crate) parents: Vec<Option<u32>>,
+}
+
+/// Opens the capture under the stack that the settings ask for. A status says why it can't.
+pub(crate) fn open_stack<S: Source>(
+    alloc: Global,
+    settings: &Settings,
+    source: &mut S,
+) -> Result<Opened, Status>
+    requires job { settings.now.job ≡ Decode }
+    requires readable { IsReadable Decode settings.now.chains.items }
+    requires shown { IfSome settings.now.show IsShort }
+    requires binary { IfSome settings.now.binary IsShort }
+    ensures opened { IfOk result
+        (IsOpened (meaning_of settings.now) (S.left source.old) (S.left source.new)) }
+    ensures kept { IfOk result (λ _. S.faults source.new ≡ S.faults source.old) }
+    ensures works { IfErr result (λ status. (written : Option (List ℕ))
+        → WorksOn (meaning_of settings.now) (S.left source.old) (S.left source.new)
+        written written status) }
+    ensures unread { IfErr result (λ status. WhereUnread (NamesNoHead (meaning_of settings.now))
+        status (source.new ≡ source.old)) }
+    ensures read { IfErr result (SourceCause (S.faults source.old) (S.faults source.new)) }
+    ensures write { IfErr result (λ status. (failed : ℕ) → SinkCause failed failed status) }
+{
+    let stack = match read_stack(
+        alloc,
+        &settings.chains,
+        settings.show.as_ref(),
+        settings.binary.as_ref(),
+    ) {
+        Ok(stack) => stack,
+        Err(StackError::Fault(fault)) => return Err(Status::Stack(fault)),
+        Err(StackError::NoMemory) => return Err(Status::NoMemory),
+    };
+    let mut capture = match Capture::open(alloc, form_of(settings), source) {
+        Ok(capture) => capture,
+        Err(error) => return Err(status_at_head(error)),
+    };
+    let bound = match bind(alloc, &stack, capture.names(), capture.rate()) {
+        Ok(bound) => bound,
+        Err(BindError::Fault(fault)) => return Err(Status::Bind(fault)),
+        Err(BindError::NoMemory) => return Err(Status::NoMemory),
+    };
+    capture.select(bound.pins);
+    Ok(Opened {
+        stack,
+        capture,
+        machines: bound.machines,
+        parents: bound.parents,
+    })
+}
