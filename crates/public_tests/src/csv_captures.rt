@@ -1,8 +1,7 @@
 // CSV captures through their reader, and through that of any form: runs, and faults with what no notice tells.
 ghost use Rattle.std.specs.Prelude.{◌≤◌, ◌<◌, ℕ, length, slice_index};
 
-use crate::dumps::add_text;
-use crate::rows::{is_send, numbers_of, parts_of, source_of};
+use crate::rows::{add_text, is_send, numbers_of, parts_of, source_of};
 use crate::runs::run_over;
 use capture_any::{Capture, Form, Runs};
 use capture_csv::CsvReader;
@@ -154,7 +153,7 @@ fn rows_of_csv_captures(rt: HostRuntime) -> Result<(), Fail> {
             }
             bytes.extend_from_slice(b"0\n")?;
         }
-        let told = run_over(alloc, words, &bytes, 1_000, &[], 256, &[], 256)?;
+        let told = run_over(&rt, alloc, words, &bytes, 1_000, &[], 256, &[], 256)?;
         assert!(rt; told.as_str() == want, "{columns}");
     }
     capture_csv::given_is_front();

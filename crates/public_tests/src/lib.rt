@@ -1,5 +1,5 @@
-//! Tests of captures, words, stacks and whole runs through their public calls: what no contract says,
-//! and values from outside.
+//! Tests of captures, words and stacks through their public calls, and of whole runs that are no rows of
+//! `run_rows`: what no contract says, and values from outside.
 #![tactic(auto)]
 
 #[cfg(test)]
@@ -12,8 +12,6 @@ mod changes;
 mod command_words;
 #[cfg(test)]
 mod csv_captures;
-#[cfg(test)]
-mod dumps;
 #[cfg(test)]
 mod floors;
 #[cfg(test)]
@@ -29,8 +27,6 @@ mod runs;
 #[cfg(test)]
 mod searches;
 #[cfg(test)]
-mod sheets;
-#[cfg(test)]
 mod stacks;
 #[cfg(test)]
 mod streaming;
@@ -38,6 +34,8 @@ mod streaming;
 mod streams;
 #[cfg(test)]
 mod tables;
+#[cfg(test)]
+mod threads;
 #[cfg(test)]
 mod tokens;
 #[cfg(test)]

@@ -1,8 +1,11 @@
 // The program through its public calls.
 use la_io::{MemSink, MemSource};
+use ldecode::PlainPacer;
 use ldecode_program::{VERSION, help_text, program, request_of};
 use std::alloc::Global;
+use std::sync::Wait;
 use std::test::Fail;
+use std::thread::Threads;
 
 // Words, and what the first of them asks for.
 const REQUESTS: &str = "\
@@ -67,7 +70,13 @@ const FAILURES: &str = "\
 
 // What the words of a text up to a `<` ask for, and what comes of them over a capture of these bytes, where these writes
 // fail.
-fn run(alloc: Global, text: &str, bytes: &str, fails: &[u64]) -> Result<(String, String), Fail> {
+fn run<R: Threads + Wait + Sync>(
+    rt: &R,
+    alloc: Global,
+    text: &str,
+    bytes: &str,
+    fails: &[u64],
+) -> Result<(String, String), Fail> {
     let mut words = Vec::new(alloc);
     for word in text.split_whitespace() {
         if word == "<" {
@@ -81,7 +90,15 @@ fn run(alloc: Global, text: &str, bytes: &str, fails: &[u64]) -> Result<(String,
     let mut source = MemSource::new(pieces, Vec::new(alloc));
     let mut sink = MemSink::new(alloc, 8_192, fails.to_vec(alloc)?, 8_192)?;
     let mut notices = MemSink::new(alloc, 256, Vec::new(alloc), 256)?;
-    let code = program(alloc, &words, &mut source, &mut sink, &mut notices);
+    let code = program(
+        rt,
+        alloc,
+        &words,
+        &mut source,
+        &mut sink,
+        &mut notices,
+        &PlainPacer,
+    );
     let noticed = String::from_utf8_lossy(alloc, notices.written())?;
     let wrote = String::from_utf8_lossy(alloc, sink.written())?;
     let told = format!(in alloc; "{code} > {noticed} > {wrote}")?;
@@ -95,14 +112,14 @@ fn the_program_tells_its_help_and_its_status(rt: HostRuntime) -> Result<(), Fail
         for row in table.split(';') {
             let (words, rest) = row.split_once(" < ").unwrap_or(("", ""));
             let (bytes, want) = rest.split_once(" > ").unwrap_or(("", ""));
-            let (_, told) = run(alloc, words, bytes, fails)?;
+            let (_, told) = run(&rt, alloc, words, bytes, fails)?;
             assert!(rt; told.as_str() == want, "{row}");
         }
     }
     // the first word alone asks for help
     for row in REQUESTS.split('\n') {
         let (words, want) = row.split_once(" > ").unwrap_or(("", ""));
-        let (asked, _) = run(alloc, words, "", &[])?;
+        let (asked, _) = run(&rt, alloc, words, "", &[])?;
         assert!(rt; asked.as_str() == want, "{row}");
     }
     // the help has these lines, and examples that run
@@ -114,13 +131,13 @@ fn the_program_tells_its_help_and_its_status(rt: HostRuntime) -> Result<(), Fail
         }
         assert!(rt; found, "{row}");
     }
-    let (_, told) = run(alloc, "--help", "", &[])?;
+    let (_, told) = run(&rt, alloc, "--help", "", &[])?;
     assert!(rt; told.as_str().strip_prefix("0 >  > ") == Some(text.as_str()));
     let mut any = false;
     for line in text.as_str().split('\n') {
         if let Some(example) = line.strip_prefix(EXAMPLE) {
             any = true;
-            let (_, told) = run(alloc, example, "", &[])?;
+            let (_, told) = run(&rt, alloc, example, "", &[])?;
             assert!(rt; told.as_str().starts_with("0 >  > "), "{example}");
         }
     }

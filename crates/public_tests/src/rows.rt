@@ -68,6 +68,19 @@ pub fn barred(alloc: Global, bytes: &[u8]) -> Result<String, Fail> {
     Ok(text)
 }
 
+/// Appends a text, in which a roof stands for carriage return and line feed, and a slash for a line
+/// feed.
+pub fn add_text(bytes: &mut Vec<u8>, text: &str) -> Result<(), Fail> {
+    for byte in text.as_bytes() {
+        match byte {
+            b'^' => bytes.extend_from_slice(b"\r\n")?,
+            b'/' => bytes.push(b'\n')?,
+            _ => bytes.push(*byte)?,
+        }
+    }
+    Ok(())
+}
+
 /// Whether a text is its head, and behind it a front of so many bytes of the whole.
 pub fn is_front(told: &str, head: &str, whole: &str, length: usize) -> bool {
     match told.strip_prefix(head) {

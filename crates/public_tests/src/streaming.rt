@@ -3,8 +3,11 @@ ghost use Rattle.std.specs.Prelude.{None};
 
 use capture_make::MadeSource;
 use la_io::{Failed, Sink, Source, SureSink};
-use ldecode::{Status, run_here};
+use ldecode::{PlainPacer, Status, run, run_here};
+use std::alloc::Global;
+use std::sync::Wait;
 use std::sync::atomic::{AtomicBool, Ordering};
+use std::thread::Threads;
 
 const TRANSACTIONS: u64 = 2000;
 
@@ -66,8 +69,8 @@ impl Sink for Telling<'_> {
     }
 }
 
-// Words of a decode and of a search.
-const JOBS: [&[&str]; 2] = [
+// Words of decodes and of a search.
+const JOBS: [&[&str]; 3] = [
     &[
         "--ring",
         "1",
@@ -76,8 +79,42 @@ const JOBS: [&[&str]; 2] = [
         "i2c:scl=D0:sda=D1",
         "uart:rx=D2:baud=100000",
     ],
+    &["--ring=1", "i2c:scl=D0:sda=D1", "uart:rx=D2:baud=100000"],
     &["--job", "find", "D0=r"],
 ];
+
+// Whether a line was written early in a run of these words that came to its end, with threads where
+// the words ask for them and are to be had, or without any.
+fn is_early<R: Threads + Wait + Sync>(
+    rt: &R,
+    alloc: Global,
+    words: &[String],
+    threads: bool,
+) -> bool {
+    let written = AtomicBool::new(false);
+    let mut source = Watching {
+        made: MadeSource::new(7, TRANSACTIONS),
+        taken: 0,
+        written: &written,
+        early: None,
+    };
+    let mut sink = Telling { written: &written };
+    let mut notices = SureSink::new();
+    let status = if threads {
+        run(
+            rt,
+            alloc,
+            words,
+            &mut source,
+            &mut sink,
+            &mut notices,
+            &PlainPacer,
+        )
+    } else {
+        run_here(alloc, words, &mut source, &mut sink, &mut notices)
+    };
+    status == Status::Done && source.early == Some(true)
+}
 
 #[test]
 fn lines_are_written_while_the_capture_is_read(rt: HostRuntime) {
@@ -88,17 +125,7 @@ fn lines_are_written_while_the_capture_is_read(rt: HostRuntime) {
             let word = String::from_str(alloc, word).expect(&rt, "memory");
             words.push(word).expect(&rt, "memory");
         }
-        let written = AtomicBool::new(false);
-        let mut source = Watching {
-            made: MadeSource::new(7, TRANSACTIONS),
-            taken: 0,
-            written: &written,
-            early: None,
-        };
-        let mut sink = Telling { written: &written };
-        let mut notices = SureSink::new();
-        let status = run_here(alloc, &words, &mut source, &mut sink, &mut notices);
-        assert!(rt; status == Status::Done);
-        assert!(rt; source.early == Some(true));
+        assert!(rt; is_early(&rt, alloc, &words, false));
+        assert!(rt; is_early(&rt, alloc, &words, true));
     }
 }

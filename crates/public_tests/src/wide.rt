@@ -4,7 +4,9 @@ use crate::made::bytes_of;
 use crate::runs::run_over;
 use capture_make::MadeSource;
 use std::alloc::Global;
+use std::sync::Wait;
 use std::test::Fail;
+use std::thread::Threads;
 
 // More than any run writes or takes at once.
 const AMPLE: usize = 1_000_000;
@@ -104,25 +106,30 @@ fn csv_capture(alloc: Global, samples: &[u8]) -> Result<String, Fail> {
 }
 
 // What a run of these words gives over these bytes, in large reads and writes.
-fn run(alloc: Global, words: &str, bytes: &[u8]) -> Result<String, Fail> {
-    run_over(alloc, words, bytes, AMPLE, &[], AMPLE, &[], AMPLE)
+fn run<R: Threads + Wait + Sync>(
+    rt: &R,
+    alloc: Global,
+    words: &str,
+    bytes: &[u8],
+) -> Result<String, Fail> {
+    run_over(rt, alloc, words, bytes, AMPLE, &[], AMPLE, &[], AMPLE)
 }
 
 #[test]
 fn lines_on_high_channels_are_decoded(rt: HostRuntime) -> Result<(), Fail> {
     let alloc = rt.alloc();
     let samples = samples(alloc)?;
-    let narrow = run(alloc, LOW_WORDS, &samples)?;
+    let narrow = run(&rt, alloc, LOW_WORDS, &samples)?;
     assert!(rt; narrow.as_str().starts_with("0 >  > 2-2 i2c-1: Start|"));
     let bytes = raw_capture(alloc, &samples)?;
     let words = wide_words(alloc, "--channels 128")?;
-    assert!(rt; run(alloc, words.as_str(), &bytes)?.as_str() == narrow.as_str());
+    assert!(rt; run(&rt, alloc, words.as_str(), &bytes)?.as_str() == narrow.as_str());
     let text = vcd_capture(alloc, &samples)?;
     let words = wide_words(alloc, "--format vcd")?;
-    assert!(rt; run(alloc, words.as_str(), text.as_bytes())?.as_str() == narrow.as_str());
+    assert!(rt; run(&rt, alloc, words.as_str(), text.as_bytes())?.as_str() == narrow.as_str());
     let text = csv_capture(alloc, &samples)?;
     let words = wide_words(alloc, "--format csv")?;
-    assert!(rt; run(alloc, words.as_str(), text.as_bytes())?.as_str() == narrow.as_str());
+    assert!(rt; run(&rt, alloc, words.as_str(), text.as_bytes())?.as_str() == narrow.as_str());
     Ok(())
 }
 
@@ -149,7 +156,7 @@ fn a_condition_has_128_channels(rt: HostRuntime) -> Result<(), Fail> {
     let words = format!(in alloc; "--job find --channels 128 {low} {high}")?;
     let mut bytes = vec![in alloc; 0_u8; 47]?;
     bytes.push(0x80)?;
-    let told = run(alloc, words.as_str(), &bytes)?;
+    let told = run(&rt, alloc, words.as_str(), &bytes)?;
     assert!(rt; told.as_str() == "0 >  > 0: 0|1: 0|2: 0,1|");
     // the 129th is one too many: of 130 channels all but the last two are bound before
     let mut text = String::from_str(alloc, "$timescale 1 us $end\n")?;
@@ -158,7 +165,7 @@ fn a_condition_has_128_channels(rt: HostRuntime) -> Result<(), Fail> {
     }
     text.push_str("$enddefinitions $end\n#0\n")?;
     let words = format!(in alloc; "--job find --format vcd {low} {high} D0=h,D128=h")?;
-    let told = run(alloc, words.as_str(), text.as_bytes())?;
+    let told = run(&rt, alloc, words.as_str(), text.as_bytes())?;
     assert!(rt; told.as_str() == "1 > ldecode: entry 2 item 1: TooMany| > ");
     Ok(())
 }

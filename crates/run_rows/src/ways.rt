@@ -1,0 +1,91 @@
+// The ways in which a row is run.
+use ldecode::Pacer;
+
+/// A way to run a row: what is added to its words, and how its capture is cut.
+pub struct Way {
+    pub name: &'static str,
+    /// The option that is added, where the words haven't got it, and its value.
+    pub option: (&'static str, &'static str),
+    /// The most bytes of a read and of a write, and the most pieces of a capture, whose reads may
+    /// therefore give more.
+    pub most: usize,
+    pub pieces: usize,
+    /// How much a decoder does in a turn of its thread.
+    pub turns: Turns,
+}
+
+/// How much a decoder does in a turn of its thread.
+#[derive(Clone, Copy)]
+pub enum Turns {
+    Many,
+    /// One act, or two, by the turn.
+    Few,
+}
+
+impl Way {
+    /// The most bytes of a read of a capture of so many.
+    pub fn piece(&self, length: usize) -> usize {
+        self.most.max(length.div_ceil(self.pieces.max(1)))
+    }
+}
+
+impl Pacer for Turns {
+    fn turn(&self, _stage: u32, turn: u64) -> u32 {
+        match self {
+            Turns::Many => 64,
+            Turns::Few => 1 + (turn % 2) as u32,
+        }
+    }
+}
+
+// With threads each read hands something from thread to thread, which takes a while.
+const PIECES: usize = 2_000;
+
+/// The ways, of which the first and the fourth read the capture in one piece.
+pub const WAYS: [Way; 6] = [
+    Way {
+        name: "with threads",
+        option: ("--threads", "yes"),
+        most: WHOLE,
+        pieces: PIECES,
+        turns: Turns::Many,
+    },
+    Way {
+        name: "with threads, byte by byte",
+        option: ("--threads", "yes"),
+        most: 1,
+        pieces: PIECES,
+        turns: Turns::Many,
+    },
+    Way {
+        name: "with threads and rings of one slot, in pieces of 7 bytes",
+        option: ("--ring", "1"),
+        most: 7,
+        pieces: PIECES,
+        turns: Turns::Few,
+    },
+    Way {
+        name: "without threads",
+        option: ("--threads", "no"),
+        most: WHOLE,
+        pieces: WHOLE,
+        turns: Turns::Many,
+    },
+    Way {
+        name: "without threads, byte by byte",
+        option: ("--threads", "no"),
+        most: 1,
+        pieces: WHOLE,
+        turns: Turns::Many,
+    },
+    Way {
+        name: "without threads, in pieces of 7 bytes",
+        option: ("--threads", "no"),
+        most: 7,
+        pieces: WHOLE,
+        turns: Turns::Many,
+    },
+];
+
+/// More than any capture or listing has.
+pub const WHOLE: usize = 1 << 20;
