@@ -26,6 +26,11 @@ STACKS = [
     [BUS + ",eeprom24"] * 12,
 ]
 RINGS = [1, 2, 3, 16384]
+TRANSACTIONS = 20
+
+# How nice those are that take the cores, and a run is at most: beside such as are less nice a ring of
+# one slot takes minutes, since each item that goes through it waits for a core twice.
+NICE = 10
 MOST_SECONDS = 60
 
 
@@ -36,7 +41,7 @@ def main():
     subprocess.run([LDECODE, BUS], stdin=subprocess.DEVNULL, check=True)
     with tempfile.TemporaryDirectory() as folder:
         path = os.path.join(folder, "capture")
-        make(path, 200)
+        make(path, TRANSACTIONS)
         want = []
         for stack in STACKS:
             with open(path, "rb") as capture:
@@ -44,14 +49,14 @@ def main():
                     [PROGRAM, "--threads", "no", *stack], stdin=capture, capture_output=True, check=True
                 )
             want.append(done.stdout)
-        busy = [subprocess.Popen(["sh", "-c", "while :; do :; done"]) for _ in cores]
+        busy = [subprocess.Popen(["nice", "-n", str(NICE), "sh", "-c", "while :; do :; done"]) for _ in cores]
         longest = 0.0
         try:
             for number in range(runs):
                 place = draw.randrange(len(STACKS))
                 ring = draw.choice(RINGS)
                 some = draw.sample(cores, draw.randint(1, len(cores)))
-                command = ["taskset", "-c", ",".join(map(str, some)), "nice", "-n", str(draw.randint(0, 19))]
+                command = ["taskset", "-c", ",".join(map(str, some)), "nice", "-n", str(draw.randint(0, NICE))]
                 command += [PROGRAM, "--ring", str(ring), *STACKS[place]]
                 start = time.perf_counter()
                 with open(path, "rb") as capture:

@@ -117,7 +117,7 @@ pub fn run_over<R: Threads + Wait + Sync>(
 
 // The words of a run, and its bytes; the bytes of a read, the reads that fail, the bytes of a write, the writes that fail
 // and the room; and what it gives.
-const FAILURES: [(&str, &str, usize, &[u64], usize, &[u64], usize, &str); 5] = [
+const FAILURES: [(&str, &str, usize, &[u64], usize, &[u64], usize, &str); 6] = [
     (
         "--job find D0=h",
         "01",
@@ -157,6 +157,17 @@ const FAILURES: [(&str, &str, usize, &[u64], usize, &[u64], usize, &str); 5] = [
         &[5],
         AMPLE,
         "4 > ldecode: write fault| > 1-1 i",
+    ),
+    // both streams fail
+    (
+        BUS,
+        WRITE_OF_50,
+        1,
+        &[23],
+        1,
+        &[0],
+        AMPLE,
+        "4 > ldecode: write fault| > ",
     ),
     // no room for the last byte
     (
@@ -226,5 +237,38 @@ fn any_cut_gives_the_same_and_a_failure_a_front(rt: HostRuntime) -> Result<(), F
     }
     let fault = Status::Capture(CaptureFault::Bytes);
     assert!(rt; exit_code(&fault) == 3 && exit_code(&Status::NoMemory) == 5);
+    Ok(())
+}
+
+// Notices of which every write fails change neither the status nor the listing.
+#[test]
+fn failed_notices_change_nothing(rt: HostRuntime) -> Result<(), Fail> {
+    let alloc = rt.alloc();
+    let bytes = bytes_of(alloc, WRITE_OF_50)?;
+    let mut words = Vec::new(alloc);
+    words.push(String::from_str(alloc, BUS)?)?;
+    for threads in [false, true] {
+        let mut source = source_of(alloc, &bytes, 1, &[20])?;
+        let mut sink = MemSink::new(alloc, AMPLE, Vec::new(alloc), AMPLE)?;
+        let mut notices = MemSink::new(alloc, AMPLE, [0_u64].to_vec(alloc)?, AMPLE)?;
+        let status = if threads {
+            let pacer = PlainPacer;
+            run(
+                &rt,
+                alloc,
+                &words,
+                &mut source,
+                &mut sink,
+                &mut notices,
+                &pacer,
+            )
+        } else {
+            run_here(alloc, &words, &mut source, &mut sink, &mut notices)
+        };
+        assert!(rt; status == Status::ReadFault);
+        assert!(rt; notices.written().is_empty());
+        let written = barred(alloc, sink.written())?;
+        assert!(rt; is_front(written.as_str(), "", LISTING, 64), "{written}");
+    }
     Ok(())
 }

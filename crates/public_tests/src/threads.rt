@@ -1,14 +1,14 @@
 // Whole runs with a thread for each decoder.
 ghost use Rattle.std.specs.Prelude.{◌≤◌};
 
-use crate::rows::{barred, source_of};
+use crate::rows::{barred, bytes_of, source_of};
 use la_io::MemSink;
 use ldecode::{Pacer, exit_code, run};
 use std::alloc::Global;
 use std::sync::Wait;
 use std::sync::atomic::{AtomicBool, Ordering};
 use std::test::Fail;
-use std::thread::Threads;
+use std::thread::{Threads, yield_now};
 
 const AMPLE: usize = 1 << 12;
 
@@ -83,5 +83,52 @@ fn decoders_run_side_by_side(rt: HostRuntime) -> Result<(), Fail> {
     assert!(rt; told.as_str() == "0 >  > ");
     assert!(rt; gate.begun[0].load(Ordering::SeqCst) && gate.begun[1].load(Ordering::SeqCst));
     assert!(rt; !gate.waited_out.load(Ordering::SeqCst));
+    Ok(())
+}
+
+// A flash memory on an SPI bus that is read: two bytes behind an address.
+const FLASH: &str = "--ring 1 spi:sck=D0:mosi=D1:miso=D2:cs=D3,flash25";
+
+const READ_OF_TWO: &str = "0800 00010001000100010001000102030203 00010001000100010001000100010001 \
+    00010001000100010001000100010203 00010001000100010001000100010001 \
+    04050001040500010405000104050001 00010405000104050001040500010405 08";
+
+const READ: &str = "0 >  > 1-1 spi-1: Select|3-17 spi-1: MOSI 03 MISO 00|\
+    3-17 flash25-1: Command: Read data|3-97 flash25-1: Read 2 bytes at 000100|\
+    19-33 spi-1: MOSI 00 MISO 00|19-65 flash25-1: Address: 000100|\
+    35-49 spi-1: MOSI 01 MISO 00|51-65 spi-1: MOSI 00 MISO 00|67-81 spi-1: MOSI 00 MISO AA|\
+    67-81 flash25-1: Read 000100: AA|83-97 spi-1: MOSI 00 MISO 55|\
+    83-97 flash25-1: Read 000101: 55|98-98 spi-1: Deselect|";
+
+// One decoder does one act a turn, or lets others go first a thousand times before each turn.
+#[derive(Drop)]
+struct Uneven {
+    slow: u32,
+    yields: u32,
+}
+
+impl Pacer for Uneven {
+    fn turn(&self, stage: u32, _turn: u64) -> u32 {
+        if stage != self.slow {
+            return 64;
+        }
+        for _ in 0..self.yields {
+            yield_now();
+        }
+        if self.yields == 0 { 1 } else { 64 }
+    }
+}
+
+#[test]
+fn a_slow_decoder_changes_nothing(rt: HostRuntime) -> Result<(), Fail> {
+    let alloc = rt.alloc();
+    let bytes = bytes_of(alloc, READ_OF_TWO)?;
+    assert!(rt; bytes.len() == 99);
+    for slow in 0..2 {
+        for yields in [0, 1000] {
+            let told = run_threaded(&rt, alloc, FLASH, &bytes, 3, &Uneven { slow, yields })?;
+            assert!(rt; told.as_str() == READ, "{slow} {yields}: {told}");
+        }
+    }
     Ok(())
 }
