@@ -20,10 +20,11 @@ const RISES: &str = "2: 0|5: 0|9: 0|14: 0|16: 0|21: 0|24: 0|27: 0|29: 0|34: 0|37
 
 const SEARCH: &str = "--job find D0=r";
 
-// An I2C bus with SCL on D0 and SDA on D1: an address is written, and acknowledged.
-const WRITE_OF_50: &str = "0301020300010203000100010001000100010001000103";
+/// An I2C bus with SCL on D0 and SDA on D1: an address is written, and acknowledged.
+pub const WRITE_OF_50: &str = "0301020300010203000100010001000100010001000103";
 
-const LISTING: &str =
+/// The listing of that.
+pub const LISTING: &str =
     "1-1 i2c-1: Start|3-17 i2c-1: Address write: 50|19-19 i2c-1: ACK|22-22 i2c-1: Stop|";
 
 const BUS: &str = "i2c:scl=D0:sda=D1";

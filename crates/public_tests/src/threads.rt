@@ -2,6 +2,7 @@
 ghost use Rattle.std.specs.Prelude.{◌≤◌};
 
 use crate::rows::{barred, bytes_of, source_of};
+use crate::runs::{LISTING, WRITE_OF_50};
 use la_io::MemSink;
 use ldecode::{Pacer, exit_code, run};
 use std::alloc::Global;
@@ -117,6 +118,20 @@ impl Pacer for Uneven {
         }
         if self.yields == 0 { 1 } else { 64 }
     }
+}
+
+#[test]
+fn one_act_a_turn_and_one_slot_give_the_same(rt: HostRuntime) -> Result<(), Fail> {
+    let alloc = rt.alloc();
+    let bytes = bytes_of(alloc, WRITE_OF_50)?;
+    let want = format!(in alloc; "0 >  > {LISTING}")?;
+    for threads in ["yes", "no"] {
+        let words = format!(in alloc; "--ring 1 --threads {threads} i2c:scl=D0:sda=D1")?;
+        let one = Uneven { slow: 0, yields: 0 };
+        let told = run_threaded(&rt, alloc, words.as_str(), &bytes, 1, &one)?;
+        assert!(rt; told.as_str() == want.as_str(), "{threads}: {told}");
+    }
+    Ok(())
 }
 
 #[test]
