@@ -98,6 +98,6 @@ impl<'a, 'b, S: Source> RunFeed for CaptureFeed<'a, 'b, S> {
 
     // Where there was room for more, all that was read is given, and the next call reads.
     fn may_wait(&self) -> bool {
-        !self.runs.is_full()
+        !self.runs.is_full() && self.source.may_wait()
     }
 }

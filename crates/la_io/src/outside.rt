@@ -22,6 +22,12 @@ pub trait Source {
         ensures bound { ReadsAtMost result buf.new }
         ensures bytes { ReadConsumes (left self.old) (left self.new) result buf.new }
         ensures cause { HasCause (faults self.old) (faults self.new) result };
+
+    /// Whether a read may have to wait for bytes that aren't there yet, as of a pipe and not of a
+    /// file. Whoever reads hands on before such a read what it keeps back.
+    fn may_wait(&self) -> bool {
+        true
+    }
 }
 
 /// Bytes that are appended.

@@ -9,6 +9,7 @@ use ldecode::PlainPacer;
 use ldecode_program::program;
 use std::alloc::{AllocError, Global};
 use std::env::{self, Args};
+use std::fs;
 use std::io::Write;
 use std::process::ExitCode;
 
@@ -29,6 +30,14 @@ fn no_words(rt: &HostRuntime) -> ExitCode
     ExitCode::from(NO_WORDS)
 }
 
+// Whether standard input is a file, so that no read of it has to wait.
+fn is_file(rt: &HostRuntime) -> bool {
+    match fs::metadata(rt, "/dev/stdin") {
+        Ok(input) => input.is_file(),
+        Err(_) => false,
+    }
+}
+
 fn main(rt: HostRuntime) -> ExitCode {
     let Ok(args) = env::args(&rt) else {
         return no_words(&rt);
@@ -36,7 +45,11 @@ fn main(rt: HostRuntime) -> ExitCode {
     let Ok(words) = words_behind_name(rt.alloc(), args) else {
         return no_words(&rt);
     };
-    let mut source = StdSource::new(rt.stdin());
+    let mut source = if is_file(&rt) {
+        StdSource::at_hand(rt.stdin())
+    } else {
+        StdSource::new(rt.stdin())
+    };
     let mut sink = StdSink::new(rt.stdout());
     let mut notices = StdSink::new(rt.stderr());
     let code = program(

@@ -40,10 +40,8 @@ A channel is named, as D0 or A, or is a number, counted from 0.
 Options, as --NAME VALUE or --NAME=VALUE, before, between or behind the other words:
 ";
 
-// What holds of the options so far, and the heading of the decoders.
-const DECODERS: &str = "\
-A run takes one thread so far: threads and ring change nothing of it.
-
+// The heading of the decoders.
+const DECODERS: &str = "
 Decoders, and the options and the binary data of each:
 ";
 
