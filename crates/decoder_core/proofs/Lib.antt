@@ -2,7 +2,6 @@ pub mod Counting
 pub mod Driven
 mod Treading
 mod Trodden
-pub mod OneDriver
 pub mod Ordered
 mod Joining
 mod AllCounted

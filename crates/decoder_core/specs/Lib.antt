@@ -6,4 +6,5 @@ pub mod Marks
 pub mod Driving
 pub mod Treading
 pub mod Trees
+pub mod Keeping
 pub mod laws

@@ -2,3 +2,5 @@
 pub mod OutLaws
 pub mod CountedLaws
 pub mod PacketLaws
+pub mod OneDriver
+pub mod KeepLaws

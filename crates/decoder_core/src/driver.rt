@@ -25,8 +25,8 @@ const MOST_SAMPLES: u64 = 1 << 60;
 /// don't count.
 #[derive(Drop)]
 pub struct Driver<L: LogicMachine> {
-    machine: L,
-    waiter: Waiter,
+    pub(crate) machine: L,
+    pub(crate) waiter: Waiter,
 }
 
 impl<L: LogicMachine> Driver<L> {

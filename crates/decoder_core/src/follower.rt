@@ -13,9 +13,9 @@ use la_base::{Feed, Packet, Run, Wire, same_wire, wire_of};
 /// samples don't count.
 #[derive(Drop)]
 pub struct Follower<D: PacketMachine> {
-    machine: D,
+    pub(crate) machine: D,
     // where the last packet that counted starts; 0 where there is none
-    from: u64,
+    pub(crate) from: u64,
 }
 
 // Whether a packet counts behind one that starts at `from`.

@@ -5,7 +5,7 @@ use Rattle.std.proofs.Math.Path.{to_path_p}
 use Rattle.la_base.specs.declared.samples.Rate.{Rate}
 use Rattle.la_base.specs.declared.samples.TheConstants.{MOST_PINS}
 use Rattle.decoder_core.specs.Inputs.{Item}
-use Rattle.decoder_core.proofs.OneDriver.{one_state}
+use Rattle.decoder_core.specs.laws.OneDriver.{one_state}
 use Rattle.dec_i2c.specs.laws.MachineLaws.{one_i2c, i2c_one_stop}
 use Rattle.dec_i2c.specs.Opening as i2c
 use Rattle.dec_i2c.specs.declared.held.Bus.{Bus}

@@ -1,4 +1,4 @@
-use Rattle.decoder_core.proofs.OneDriver.{one_state}
+use Rattle.decoder_core.specs.laws.OneDriver.{one_state}
 use Rattle.decoder_core.proofs.driver.one_input_makes_one_driver.Goals as goal
 
 pub returns : goal.returns

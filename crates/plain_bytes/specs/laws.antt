@@ -1,0 +1,2 @@
+-- Lemmas that laws of plain values cite.
+pub mod FormLaws
