@@ -1,5 +1,6 @@
 // A driver is kept as the numbers of its waiter and, behind them, the bytes of its machine.
-ghost use Rattle.std.specs.Prelude.{◌≡◌, ◌≤◌, ◌<◌, ◌+◌, ◌^◌, ◌↔◌, ℕ, List, length, true, IsTrue, IfSome, MatchBool};
+ghost use Rattle.std.specs.Prelude.{◌≡◌, ◌≤◌, ◌<◌, ◌+◌, ◌^◌, ◌↔◌, ℕ, List, length, true, IsTrue};
+ghost use Rattle.std.specs.Prelude.{IfSome, MatchBool};
 ghost use Rattle.wait_cond.specs.Waiting.{behind_stop};
 ghost use Rattle.decoder_core.specs.Keeping.{DriverSaves, NumbersFit};
 ghost use Rattle.decoder_core.specs.laws.KeepLaws.{driver_one_saved};
@@ -40,7 +41,8 @@ fn fit(consumed: u64, from: u64, last: Word) -> bool
 }
 
 impl<L: LogicMachine + Hold> Keep for Driver<L> {
-    ghost saves = { λ d bytes. DriverSaves ⟦<(u64, (u64, Word)) as Plain>⟧.fits ⟦<(u64, (u64, Word)) as Plain>⟧.bytes_of L.puts d.machine d.waiter bytes };
+    ghost saves = { λ d bytes. DriverSaves ⟦<(u64, (u64, Word)) as Plain>⟧.fits
+        ⟦<(u64, (u64, Word)) as Plain>⟧.bytes_of L.puts d.machine d.waiter bytes };
 
     fn save(&self) -> Saved {
         let mut saved = Saved::new();
@@ -66,5 +68,7 @@ impl<L: LogicMachine + Hold> Keep for Driver<L> {
         }
     }
 
-    ghost one_saved = { λ one other input bytes more same d e s t. driver_one_saved L.setup L.stands L.alts L.one_machine L.one_stop L.one_form one.machine other.machine one.waiter other.waiter input bytes more same d e s t };
+    ghost one_saved = { λ one other input bytes more same d e s t. driver_one_saved L.setup L.stands
+        L.alts L.one_machine L.one_stop L.one_form one.machine other.machine one.waiter other.waiter
+        input bytes more same d e s t };
 }

@@ -1,10 +1,12 @@
 -- How plain values are put as bytes, and read.
-use Rattle.std.specs.Prelude.{ℕ, ◌≡◌, ◌≤◌, ◌+◌, ◌*◌, ◌/◌, ◌%◌, ◌^◌, nat_lt, if◌then◌else◌, List, [], ◌∷◌, ◌++◌, length, take, drop, Option, Some, None, ◌==◌}
+use Rattle.std.specs.Prelude.{ℕ, ◌≡◌, ◌≤◌, ◌+◌, ◌*◌, ◌/◌, ◌%◌, ◌^◌, nat_lt, if◌then◌else◌, List, []}
+use Rattle.std.specs.Prelude.{◌∷◌, ◌++◌, length, take, drop, Option, Some, None, ◌==◌}
 use Rattle.std.specs.Int.{Width, w64, byte_len, to_be_bytes, from_be_bytes}
 
 -- what was put is read back, whatever follows it
 abbrev pub ReadsBack : {X : Type 0} → (X → Type 0) → (X → List ℕ) → (List ℕ → X × List ℕ) → Type 0
-ReadsBack {X} fits bytes_of read = (x : X) (rest : List ℕ) → fits x → read (bytes_of x ++ rest) ≡ (x, rest)
+ReadsBack {X} fits bytes_of read = (x : X) (rest : List ℕ) → fits x
+    → read (bytes_of x ++ rest) ≡ (x, rest)
 
 -- a value has at most so many bytes
 abbrev pub IsAtMost : {X : Type 0} → (X → List ℕ) → ℕ → Type 0
@@ -18,10 +20,12 @@ byte_at (byte ∷ bytes) = (byte, bytes)
 -- the number at the front, its highest byte first, or 0 where there are too few bytes
 unfoldable pub number_at : Width → List ℕ → ℕ × List ℕ
 number_at width bytes =
-    if nat_lt (length bytes) (byte_len width) then (0, []) else (from_be_bytes width (take (byte_len width) bytes), drop (byte_len width) bytes)
+    if nat_lt (length bytes) (byte_len width) then (0, []) else
+    (from_be_bytes width (take (byte_len width) bytes), drop (byte_len width) bytes)
 
 -- a pair, the first in front
-abbrev pub pair_at : {X Y : Type 0} → (List ℕ → X × List ℕ) → (List ℕ → Y × List ℕ) → List ℕ → (X × Y) × List ℕ
+abbrev pub pair_at : {X Y : Type 0} → (List ℕ → X × List ℕ) → (List ℕ → Y × List ℕ) → List ℕ
+    → (X × Y) × List ℕ
 pair_at one other bytes = (((one bytes).0, (other (one bytes).1).0), (other (one bytes).1).1)
 
 -- a number of 128 bits: its high half, and its low half behind it
@@ -51,14 +55,17 @@ option_at read [] = (None, [])
 option_at read (byte ∷ bytes) = if byte == 0 then (None, bytes) else some_at (read bytes)
 
 -- the bytes begin with those of this value, and then come these
-pub record BeginsWith {X : Type 0} (fits : X → Type 0) (bytes_of : X → List ℕ) (bytes : List ℕ) (x : X) (rest : List ℕ) : Type 0 where
+pub record BeginsWith {X : Type 0} (fits : X → Type 0) (bytes_of : X → List ℕ) (bytes : List ℕ)
+    (x : X) (rest : List ℕ) : Type 0 where
   pub value_fits : fits x
   pub parts : bytes ≡ bytes_of x ++ rest
 
 -- the bytes begin with those of this value, and of no other
-pub record IsFront {X : Type 0} (fits : X → Type 0) (bytes_of : X → List ℕ) (bytes : List ℕ) (x : X) (rest : List ℕ) : Type 0 where
+pub record IsFront {X : Type 0} (fits : X → Type 0) (bytes_of : X → List ℕ) (bytes : List ℕ) (x : X)
+    (rest : List ℕ) : Type 0 where
   pub begins : BeginsWith fits bytes_of bytes x rest
-  pub only : (y : X) (more : List ℕ) → BeginsWith fits bytes_of bytes y more → (y ≡ x) × (more ≡ rest)
+  pub only : (y : X) (more : List ℕ) → BeginsWith fits bytes_of bytes y more → (y ≡ x)
+      × (more ≡ rest)
 
 -- a value is put as just these bytes
 abbrev pub IsPutAs : {X : Type 0} → (X → Type 0) → (X → List ℕ) → X → List ℕ → Type 0

@@ -1,4 +1,5 @@
-//! Plain values as bytes: numbers of a fixed width, whether something holds, options and pairs; what was put is read back.
+//! Plain values as bytes: numbers of a fixed width, whether something holds, options and pairs;
+//! what was put is read back.
 #![tactic(auto)]
 
 mod numbers;

@@ -38,7 +38,9 @@ impl<T: Plain> Plain for Option<T> {
         }
     }
 
-    ghost reads_back = { λ value rest fits. option_back T.fits T.bytes_of T.read T.reads_back value rest fits };
+    ghost reads_back = { λ value rest fits. option_back T.fits T.bytes_of T.read T.reads_back value
+        rest fits };
 
-    ghost at_most = { λ value. option_at_most T.fits T.bytes_of T.read T.reads_back T.most T.at_most value };
+    ghost at_most = { λ value. option_at_most T.fits T.bytes_of T.read T.reads_back T.most T.at_most
+        value };
 }

@@ -25,7 +25,9 @@ impl<A: Plain, B: Plain> Plain for (A, B) {
         ((one, other), rest)
     }
 
-    ghost reads_back = { λ pair rest fits. pair_back A.fits A.bytes_of A.read A.reads_back B.fits B.bytes_of B.read B.reads_back pair rest fits };
+    ghost reads_back = { λ pair rest fits. pair_back A.fits A.bytes_of A.read A.reads_back B.fits
+        B.bytes_of B.read B.reads_back pair rest fits };
 
-    ghost at_most = { λ pair. pair_at_most A.fits A.bytes_of A.read A.reads_back B.fits B.bytes_of B.read B.reads_back A.most B.most A.at_most B.at_most pair };
+    ghost at_most = { λ pair. pair_at_most A.fits A.bytes_of A.read A.reads_back B.fits B.bytes_of
+        B.read B.reads_back A.most B.most A.at_most B.at_most pair };
 }

@@ -5,8 +5,8 @@ ghost use Rattle.plain_bytes.specs.laws.FormLaws.{option_comes_back, pair_comes_
 
 use crate::{Plain, Saved, is_put, read_as};
 
-/// A value that plain parts tell. Not all parts need be those of a value: those that aren't are taken for some value, and one
-/// sees by its own parts that they are not.
+/// A value that plain parts tell. Not all parts need be those of a value: those that aren't are
+/// taken for some value, and one sees by its own parts that they are not.
 pub trait Parted: Drop {
     /// Its parts: numbers, options and pairs.
     type Parts: Plain;
@@ -39,7 +39,11 @@ pub fn put_parts<T: Parted>(value: &T, into: &mut Saved)
 /// The one value whose parts are put as just these bytes; None exactly where there is none.
 pub fn get_parts<T: Parted>(bytes: &[u8]) -> Option<T>
     requires { T.Parts.most ≤ 240 }
-    ensures { MatchOption result ((value : T) → ¬ IsPutAs T.Parts.fits T.Parts.bytes_of (T.parts_of value) bytes.now) (λ value. IsPutAs T.Parts.fits T.Parts.bytes_of (T.parts_of value) bytes.now × ((other : T) → IsPutAs T.Parts.fits T.Parts.bytes_of (T.parts_of other) bytes.now → other ≡ value)) }
+    ensures { MatchOption result
+        ((value : T) → ¬ IsPutAs T.Parts.fits T.Parts.bytes_of (T.parts_of value) bytes.now)
+        (λ value. IsPutAs T.Parts.fits T.Parts.bytes_of (T.parts_of value) bytes.now
+        × ((other : T) → IsPutAs T.Parts.fits T.Parts.bytes_of (T.parts_of other) bytes.now
+        → other ≡ value)) }
 {
     let value = T::of_parts(read_as(bytes));
     if is_put(value.parts(), bytes) {
@@ -70,7 +74,8 @@ impl<T: Parted> Parted for Option<T> {
         }
     }
 
-    ghost comes_back = { λ value fits. option_comes_back T.Parts.fits T.parts_of T.value_of T.comes_back value fits };
+    ghost comes_back = { λ value fits. option_comes_back T.Parts.fits T.parts_of T.value_of
+        T.comes_back value fits };
 }
 
 impl<A: Parted, B: Parted> Parted for (A, B) {
@@ -88,5 +93,6 @@ impl<A: Parted, B: Parted> Parted for (A, B) {
         (A::of_parts(parts.0), B::of_parts(parts.1))
     }
 
-    ghost comes_back = { λ pair fits. pair_comes_back A.Parts.fits A.parts_of A.value_of A.comes_back B.Parts.fits B.parts_of B.value_of B.comes_back pair fits };
+    ghost comes_back = { λ pair fits. pair_comes_back A.Parts.fits A.parts_of A.value_of
+        A.comes_back B.Parts.fits B.parts_of B.value_of B.comes_back pair fits };
 }

@@ -10,8 +10,8 @@ pub const MOST_SAVED: usize = 240;
 /// The bytes that are saved.
 pub type Saved = ArrayVec<u8, 240>;
 
-/// A value that is put as bytes. Reading is total: bytes that no value is put as are read as some value, and
-/// one sees by putting this again that they are not its own.
+/// A value that is put as bytes. Reading is total: bytes that no value is put as are read as some
+/// value, and one sees by putting this again that they are not its own.
 pub trait Plain: Copy {
     /// It is a value of its type: its numbers are in their ranges.
     ghost fits: { Self → Type 0 };

@@ -22,10 +22,13 @@ pub fn is_put<T: Plain>(value: T, bytes: &[u8]) -> bool
     own.as_slice() == bytes
 }
 
-/// The value that bytes begin with, and what is behind it; None where no value's bytes stand at the front.
+/// The value that bytes begin with, and what is behind it; None where no value's bytes stand at the
+/// front.
 pub fn front_of<T: Plain>(bytes: &[u8]) -> Option<(T, &[u8])>
     requires { T.most ≤ 240 }
-    ensures { MatchOption result ((x : T) (rest : List ℕ) → ¬ BeginsWith T.fits T.bytes_of bytes.now x rest) (λ found. IsFront T.fits T.bytes_of bytes.now found.0 found.1.now) }
+    ensures { MatchOption result ((x : T) (rest : List ℕ)
+        → ¬ BeginsWith T.fits T.bytes_of bytes.now x rest)
+        (λ found. IsFront T.fits T.bytes_of bytes.now found.0 found.1.now) }
 {
     let (value, rest) = T::get(bytes);
     let front = bytes.len().saturating_sub(rest.len());

@@ -74,6 +74,12 @@ module _ {L : Type 0} {fits : ℕ × (ℕ × ℕ) → Type 0} {bytes_of : ℕ ×
         }
 
 module _ {D : Type 0} {fits : ℕ → Type 0} {bytes_of : ℕ → List ℕ} {puts : D → List ℕ → Type 0} where
+  -- followers that hold the same save the same
+  pub same_followed : OneForm puts → (one other : D) (from theirs : ℕ) → one ≡ other → from ≡ theirs → (bytes more : List ℕ) → FollowerSaves fits bytes_of puts one from bytes → FollowerSaves fits bytes_of puts other theirs more → bytes ≡ more
+  same_followed one_form one other from theirs equal starts bytes more s t =
+      let rest : s.rest ≡ t.rest = one_form other s.rest t.rest (subst (λ (m : D). puts m s.rest) equal s.its) t.its in
+      s.parts ∙ (λ i. bytes_of (starts i) ++ rest i) ∙ sym t.parts
+
   -- followers of one setup that have consumed one input save the same
   pub follower_one_saved : {S : Type 0} (setup : D → S) (stands : D → List Packet → Type 0) (wire : S → Wire) → OnePacketMachine setup stands → OneForm puts
       → (one other : D) (from theirs : ℕ) (input : List Item) (bytes more : List ℕ) → setup one ≡ setup other
@@ -81,10 +87,8 @@ module _ {D : Type 0} {fits : ℕ → Type 0} {bytes_of : ℕ → List ℕ} {put
       → FollowerSaves fits bytes_of puts one from bytes → FollowerSaves fits bytes_of puts other theirs more → bytes ≡ more
   follower_one_saved {S} setup stands wire one_machine one_form one other from theirs input bytes more same d e s t =
       let also = subst (λ (w : S). Follows stands (wire w) other theirs input) (sym same) e in
-      let equal : one ≡ other = one_machine one other (counted_packets (wire (setup one)) input) same d.machine_stands also.machine_stands in
-      let starts : from ≡ theirs = d.last_is ∙ sym also.last_is in
-      let rest : s.rest ≡ t.rest = one_form other s.rest t.rest (subst (λ (m : D). puts m s.rest) equal s.its) t.its in
-      s.parts ∙ (λ i. bytes_of (starts i) ++ rest i) ∙ sym t.parts
+      same_followed one_form one other from theirs (one_machine one other (counted_packets (wire (setup one)) input) same d.machine_stands also.machine_stands)
+      (d.last_is ∙ sym also.last_is) bytes more s t
 
   module _ (given bytes : List ℕ) (is : given ≡ bytes) (machine : D) (from : ℕ) (s : FollowerSaves fits bytes_of puts machine from bytes) where
     begun : BeginsWith fits bytes_of given from s.rest

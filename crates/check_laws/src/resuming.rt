@@ -1,0 +1,38 @@
+// Reads a checkpoint, and runs the tree on.
+ghost use Rattle.std.specs.Prelude.{◌≡◌, ◌≤◌, ℕ, List, length, map};
+ghost use Rattle.tree_runs.specs.Taking.{IsTree};
+ghost use Rattle.check_laws.specs.Resuming.{IsCheckBehind, ResumesAs};
+
+use check_point::{CheckFault, read_check};
+use decoder_core::{Keep, RunEnd};
+use la_io::{MarkTake, RunFeed};
+use stack_direct::run_direct;
+
+/// Loads machines from a checkpoint, and runs their tree on; answers the number of samples that it
+/// was made behind, and how the run ended. Where the word is a checkpoint of machines of their
+/// setups, behind samples on which these stand, it isn't refused, the run gives what follows the
+/// outputs on these samples, and the machines stand on the whole.
+pub fn resume<M: Keep, F: RunFeed, G: MarkTake>(
+    word: &str,
+    machines: &mut [M],
+    kinds: &[u8],
+    parents: &[Option<u32>],
+    feed: &mut F,
+    take: &mut G,
+) -> Result<(u64, RunEnd), CheckFault>
+    requires short { length word.now ≤ 4096 }
+    requires count { length kinds.now ≡ length machines.old }
+    requires most { length kinds.now ≤ 8 }
+    requires tree { IsTree parents.now (length machines.old) (G.instances take.old) }
+    ensures resumes { (earlier : List ℕ)
+        → IsCheckBehind M.setup M.outputs M.consumed M.saves kinds.now parents.now
+        (map M.setup machines.old) word.now earlier
+        → ResumesAs M.outputs M.near M.consumed parents.now (map M.setup machines.old) machines.new
+        earlier (F.gave feed.old) (F.gave feed.new) (G.took take.old) (G.took take.new)
+        (F.at_end feed.new) result }
+{
+    match read_check(word, machines, kinds) {
+        Ok(samples) => Ok((samples, run_direct(machines, parents, feed, take))),
+        Err(fault) => Err(fault),
+    }
+}

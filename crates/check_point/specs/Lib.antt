@@ -1,0 +1,4 @@
+pub mod Checks
+pub mod Loading
+pub mod CheckLaws
+pub mod laws

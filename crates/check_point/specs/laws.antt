@@ -1,0 +1,2 @@
+-- Lemmas on checks.
+pub mod EntryLaws
