@@ -4,10 +4,12 @@
 //! transactions shows what it does with one packet of the one that is open, and is then a decoder.
 #![tactic(auto)]
 
+mod kept;
 mod laws;
 mod open;
 mod transacting;
 
+pub use kept::HeldTransaction;
 pub use laws::{transaction_laws, walk_laws};
 pub use open::OpenTransaction;
 pub use transacting::Transacting;

@@ -15,7 +15,7 @@ use la_base::{Packet, Rate, Wire};
 /// the transaction that is open, if there is one.
 #[derive(Drop)]
 pub struct Transacting<O: OpenTransaction> {
-    held: Option<O>,
+    pub(crate) held: Option<O>,
 }
 
 // What is kept behind a packet where no transaction is open.
