@@ -16,8 +16,8 @@ use la_base::{Packet, Wire};
 /// their bytes.
 #[derive(Drop)]
 pub struct Phased<D: I2cDevice> {
-    device: D,
-    kept: Track,
+    pub(crate) device: D,
+    pub(crate) kept: Track,
 }
 
 // What a packet is to the device happens to it.
