@@ -4,6 +4,7 @@
 
 mod frames;
 mod held;
+mod kept;
 mod machine;
 mod opening;
 mod options;
