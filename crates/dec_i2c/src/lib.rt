@@ -3,6 +3,7 @@
 #![tactic(auto)]
 
 mod held;
+mod kept;
 mod machine;
 mod outputs;
 mod steps;
