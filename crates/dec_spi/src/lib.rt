@@ -4,6 +4,7 @@
 
 mod alternatives;
 mod held;
+mod kept;
 mod levels;
 mod lines;
 mod machine;

@@ -49,11 +49,11 @@ same_bus one other same = λ i. record {
 lines_set : IsSet Lines
 lines_set = hlevel (ℕ_set, Bool-set)
 
-pub one_spi : (one other : Spi) (list : List ℕ) → opts_of one ≡ opts_of other → StandsFor one list
-    → StandsFor other list → one ≡ other
+-- the lines are those of the options, so the options and what is held make the machine
+pub same_spi : (one other : Spi) → opts_of one ≡ opts_of other → one.held ≡ other.held
+    → one ≡ other
 unfolding same_bus
-one_spi one other list same stands also =
-    let held : one.held ≡ other.held = stands.1 ∙ (λ i. held_at (same i) list) ∙ sym also.1 in
+same_spi one other same held =
     let lines : one.lines ≡ other.lines =
     one.lines_are ∙ (λ i. lines_of (same i)) ∙ sym other.lines_are in
     λ i. record {
@@ -64,6 +64,11 @@ one_spi one other list same stands also =
           to_path_p (λ j. lines j ≡ lines_of (same j)) {a = one.lines_are}
           (lines_set _ _ _ other.lines_are) i;
     }
+
+pub one_spi : (one other : Spi) (list : List ℕ) → opts_of one ≡ opts_of other → StandsFor one list
+    → StandsFor other list → one ≡ other
+one_spi one other list same stands also =
+    same_spi one other same (stands.1 ∙ (λ i. held_at (same i) list) ∙ sym also.1)
 
 pub spi_one_stop : (one other : Spi) (seen more : List ℕ) → opts_of one ≡ opts_of other
     → StandsFor one seen → StandsFor other (seen ++ more) → Rests (alts_of one) seen more
