@@ -4,4 +4,5 @@ pub mod Net
 pub mod Texts
 pub mod Opening
 pub mod Rows
+pub mod Kept
 pub mod laws

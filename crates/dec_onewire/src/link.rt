@@ -6,6 +6,7 @@
 //! with the bit as `a`.
 
 mod held;
+mod kept;
 mod machine;
 mod opening;
 mod options;

@@ -10,6 +10,7 @@
 
 mod crc;
 mod held;
+mod kept;
 mod machine;
 mod opening;
 mod packets;
