@@ -10,6 +10,7 @@
 
 mod bytes;
 mod held;
+mod kept;
 mod machine;
 mod rows;
 mod status;
