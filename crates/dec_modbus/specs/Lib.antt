@@ -3,4 +3,5 @@ pub mod Shapes
 pub mod Texts
 pub mod Opening
 pub mod Rows
+pub mod Kept
 pub mod laws

@@ -3,6 +3,7 @@
 
 mod crc;
 mod held;
+mod kept;
 mod laws;
 mod machine;
 mod message;

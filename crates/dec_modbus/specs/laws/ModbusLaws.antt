@@ -84,12 +84,10 @@ module _ (machine : Modbus) (seen : List Packet) (stands : StandsFor machine see
         (sym (is ∙ (λ i. gives (machine.gap_is i) (stands i) packet)))
 
 -- the gap is that of the options at the rate, so the line and what is held make the machine
-pub one_modbus : (one other : Modbus) (packets : List Packet) → line_of one ≡ line_of other
-    → StandsFor one packets → StandsFor other packets → one ≡ other
-one_modbus one other packets same stands also =
+pub same_modbus : (one other : Modbus) → line_of one ≡ line_of other → one.held ≡ other.held
+    → one ≡ other
+same_modbus one other same held =
     let own = λ (line : Line). gap_of line.opts line.rate in
-    let held : one.held ≡ other.held =
-    stands ∙ (λ i. held_of (own (same i)) packets) ∙ sym also in
     let gap : one.gap ≡ other.gap = one.gap_is ∙ (λ i. own (same i)) ∙ sym other.gap_is in
     λ i. record {
       line = same i;
@@ -98,3 +96,9 @@ one_modbus one other packets same stands also =
       gap_is = to_path_p (λ j. gap j ≡ own (same j)) {a = one.gap_is}
           (ℕ_set _ _ _ other.gap_is) i;
     }
+
+pub one_modbus : (one other : Modbus) (packets : List Packet) → line_of one ≡ line_of other
+    → StandsFor one packets → StandsFor other packets → one ≡ other
+one_modbus one other packets same stands also =
+    same_modbus one other same
+    (stands ∙ (λ i. held_of (gap_of (same i).opts (same i).rate) packets) ∙ sym also)

@@ -1,0 +1,90 @@
+// A decoder between two packets as bytes: those of the message that nothing has ended yet.
+ghost use Rattle.std.specs.Prelude.{◌≡◌};
+ghost use Rattle.std.proofs.Common.{sym, ◌∙◌};
+ghost use Rattle.plain_bytes.specs.Forms.{IsPutAs};
+ghost use Rattle.dec_modbus.specs.Kept.{held_back, held_of, held_parts};
+ghost use Rattle.dec_modbus.specs.Kept.{message_of, message_parts};
+
+use crate::{Held, Message, Modbus};
+use decoder_core::{Hold, Saved};
+use plain_bytes::{Parted, Plain, get_parts, put_parts};
+
+// Where a message starts and ends; how many bytes it has; the CRC of all but the last two, and
+// these; whether one of its frames has an error.
+type MessageParts = ((u64, (u64, u64)), (u16, ((u8, u8), u8)));
+
+type Parts = Option<MessageParts>;
+
+fn message_parts(message: Message) -> MessageParts
+    ensures { result ≡ message_parts message }
+{
+    (
+        (message.start, (message.end, message.count)),
+        (
+            message.crc,
+            ((message.low, message.high), message.errors as u8),
+        ),
+    )
+}
+
+fn message_of(parts: MessageParts) -> Message
+    ensures { result ≡ message_of parts }
+{
+    let ((start, (end, count)), (crc, ((low, high), errors))) = parts;
+    Message {
+        start,
+        end,
+        count,
+        crc,
+        low,
+        high,
+        errors: errors == 1,
+    }
+}
+
+impl Parted for Held {
+    type Parts = Parts;
+
+    ghost parts_of = { λ held. held_parts held };
+
+    ghost value_of = { λ parts. held_of parts };
+
+    fn parts(&self) -> Parts {
+        match *self {
+            Held::Outside => None,
+            Held::Inside { message } => Some(message_parts(message)),
+        }
+    }
+
+    fn of_parts(parts: Parts) -> Held {
+        match parts {
+            None => Held::Outside,
+            Some(parts) => Held::Inside {
+                message: message_of(parts),
+            },
+        }
+    }
+
+    ghost comes_back = { λ held fits. held_back held };
+}
+
+impl Hold for Modbus {
+    ghost puts = { λ machine bytes. IsPutAs ⟦<Parts as Plain>⟧.fits ⟦<Parts as Plain>⟧.bytes_of
+        (held_parts machine.held) bytes };
+
+    fn put(&self, into: &mut Saved) {
+        put_parts(&self.held, into);
+    }
+
+    fn get(&mut self, bytes: &[u8]) -> bool {
+        match get_parts(bytes) {
+            Some(held) => {
+                self.held = held;
+                true
+            }
+            None => false,
+        }
+    }
+
+    ghost one_form = { λ machine one other mine theirs. mine.1 ∙ sym theirs.1 };
+}
