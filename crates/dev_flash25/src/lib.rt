@@ -4,6 +4,7 @@
 
 mod closing;
 mod held;
+mod kept;
 mod machine;
 mod rows;
 mod texts;
