@@ -3,3 +3,4 @@ pub mod Held
 pub mod ByteLaws
 pub mod SoundLaws
 pub mod ProbeLaws
+pub mod KeptLaws

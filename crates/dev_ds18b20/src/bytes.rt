@@ -1,5 +1,5 @@
 // The first bytes of a scratchpad.
-ghost use Rattle.std.specs.Prelude.{◌≡◌, ◌<◌, ◌≤◌, [], ◌∷◌, ◌++◌, List, length, take};
+ghost use Rattle.std.specs.Prelude.{◌≡◌, ◌<◌, ◌≤◌, [], ◌∷◌, ◌++◌, List, length, min, take};
 ghost use Rattle.dev_ds18b20.specs.Probe.{spot_of};
 ghost use Rattle.dev_ds18b20.specs.declared.spot.Spot.{Spot};
 
@@ -39,6 +39,16 @@ impl Bytes {
         Bytes {
             room: [BLANK; MOST],
             count: 0,
+        }
+    }
+
+    /// The first of these bytes, as many as are asked for.
+    pub fn first_of(room: [Spot; MOST], count: u8) -> Bytes
+        ensures { result ≡ take (min count 8) room }
+    {
+        Bytes {
+            room,
+            count: MOST.min(count as usize),
         }
     }
 

@@ -4,6 +4,7 @@
 
 mod bytes;
 mod held;
+mod kept;
 mod machine;
 mod rows;
 mod scratchpad;
