@@ -2,4 +2,5 @@ pub mod Clock
 pub mod Opening
 pub mod Texts
 pub mod Rows
+pub mod Kept
 pub mod laws

@@ -5,6 +5,7 @@
 mod chip;
 mod device;
 mod held;
+mod kept;
 mod laws;
 mod opening;
 mod rows;
