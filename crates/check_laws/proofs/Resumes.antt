@@ -1,5 +1,5 @@
 -- Machines that were loaded from a check stand on what it was made behind.
-use Rattle.std.proofs.Common.{◌≡◌, ℕ, zero, suc, ◌+◌, ◌<◌, ◌≤◌, List, [], ◌∷◌, ◌++◌, map, length, get_or, Option, refl, sym, ◌∙◌, ap, ap₂, subst, arith}
+use Rattle.std.proofs.Common.{◌≡◌, ℕ, suc, ◌<◌, List, [], ◌∷◌, ◌++◌, map, length, get_or, Option, refl, sym, ◌∙◌, ap, ap₂, subst, arith}
 use Rattle.std.proofs.Math.ListN.{get_or-map}
 use Rattle.std.proofs.lemmas.List.{length-map}
 use Rattle.la_base.specs.declared.wires.Out.{Out}
@@ -8,8 +8,8 @@ use Rattle.tree_runs.specs.Machines.{Stand}
 use Rattle.tree_runs.specs.Runs.{StandOn, input_at, nodes_of}
 use Rattle.std.specs.Int.{w64, to_be_bytes}
 use Rattle.decoder_core.specs.Keeping.{OneSaved}
-use Rattle.check_point.specs.Checks.{AllSave, AreEntries, IsWord}
-use Rattle.check_point.specs.Loading.{LoadedTo, NoneSaves, RefusedAs}
+use Rattle.check_point.specs.Checks.{AllSave, AreEntries}
+use Rattle.check_point.specs.Loading.{LoadedTo, RefusedAs}
 use Rattle.check_point.specs.declared.faults.CheckWhy.{CheckWhy}
 use Rattle.check_point.specs.declared.faults.CheckWhy.TheVariants.{Many, Form, Fit}
 use Rattle.check_point.specs.laws.EntryLaws.{one_tail, one_word}
