@@ -1,5 +1,4 @@
 // A decoder between two events as bytes.
-ghost use Rattle.std.specs.Prelude.{◌≡◌};
 ghost use Rattle.std.proofs.Common.{sym, ◌∙◌};
 ghost use Rattle.plain_bytes.specs.Forms.{IsPutAs};
 ghost use Rattle.dec_spi.specs.Kept.{held_back, held_of, held_parts};

@@ -2,7 +2,6 @@
 ghost use Rattle.std.specs.Prelude.{◌≡◌, ◌≤◌};
 ghost use Rattle.std.proofs.Common.{sym, ◌∙◌};
 ghost use Rattle.plain_bytes.specs.Forms.{IsPutAs};
-ghost use Rattle.list_cuts.specs.Bits.{bit_of};
 ghost use Rattle.i2c_phases.specs.Kept.{OneOfHeld, role_at, role_place, track_back, track_of};
 ghost use Rattle.i2c_phases.specs.Kept.{track_parts};
 

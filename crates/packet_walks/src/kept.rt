@@ -1,5 +1,5 @@
 // A transaction that is open as bytes.
-ghost use Rattle.std.specs.Prelude.{◌≡◌, ◌≤◌};
+ghost use Rattle.std.specs.Prelude.{◌≤◌};
 ghost use Rattle.std.proofs.Common.{sym, ◌∙◌};
 ghost use Rattle.plain_bytes.specs.Forms.{IsPutAs, option_map};
 

@@ -1,5 +1,4 @@
 // A decoder of the link between two edges as bytes.
-ghost use Rattle.std.specs.Prelude.{◌≡◌};
 ghost use Rattle.std.proofs.Common.{sym, ◌∙◌};
 ghost use Rattle.plain_bytes.specs.Forms.{IsPutAs};
 ghost use Rattle.dec_onewire.specs.Kept.{link_back, link_of, link_parts};

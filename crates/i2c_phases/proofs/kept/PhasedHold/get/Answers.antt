@@ -1,4 +1,4 @@
-use Rattle.std.proofs.Common.{◌≡◌, ◌∙◌, ap, sym}
+use Rattle.std.proofs.Common.{◌∙◌, ap, sym}
 use Rattle.i2c_phases.specs.declared.tracker.Track.{Track}
 use Rattle.i2c_phases.proofs.kept.PhasedHold.get.Goals as goal
 
