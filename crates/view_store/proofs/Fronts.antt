@@ -1,0 +1,27 @@
+-- Fronts of one list.
+use Rattle.std.proofs.Common.{◌≡◌, ◌≤◌, List, [], ◌∷◌, ◌++◌, length, refl, ap, sym, ◌∙◌, arith, append_assoc, append-nil}
+use Rattle.view_store.specs.Listings.{IsFront}
+
+pub front_self : {A : Type 0} (xs : List A) → IsFront xs xs
+front_self xs = ([], append-nil xs)
+
+pub front_trans : {A : Type 0} (xs ys zs : List A) → IsFront xs ys → IsFront ys zs → IsFront xs zs
+front_trans xs ys zs p q = (p.0 ++ q.0, sym (append_assoc xs p.0 q.0) ∙ (ap (λ w. w ++ q.0) p.1 ∙ q.1))
+
+-- of two fronts of one list the shorter is a front of the longer
+pub front_shorter : {A : Type 0} (xs ys zs : List A) → IsFront xs zs → IsFront ys zs → length xs ≤ length ys → IsFront xs ys
+front_shorter [] ys zs p q le = (ys, refl)
+front_shorter (x ∷ xs) [] zs p q le = absurd (omega arith)
+front_shorter (x ∷ xs) (y ∷ ys) [] p q le = absurd (cc (p.1))
+front_shorter (x ∷ xs) (y ∷ ys) (z ∷ zs) p q le =
+    let heads : x ≡ y = cc (p.1, q.1) in
+    let rest = front_shorter xs ys zs (p.0, cc (p.1)) (q.0, cc (q.1)) (omega arith) in
+    (rest.0, cc (heads, rest.1))
+
+-- a front as long as the whole is the whole
+pub front_whole : {A : Type 0} (xs ys : List A) → IsFront xs ys → length ys ≤ length xs → xs ≡ ys
+front_whole [] [] p le = refl
+front_whole [] (y ∷ ys) p le = absurd (omega arith)
+front_whole (x ∷ xs) [] p le = absurd (cc (p.1))
+front_whole (x ∷ xs) (y ∷ ys) p le =
+    let rest = front_whole xs ys (p.0, cc (p.1)) (omega arith) in cc (p.1, rest)
