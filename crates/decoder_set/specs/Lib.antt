@@ -7,3 +7,4 @@ pub mod Faults
 pub mod Owning
 pub mod Opening
 pub mod Whole
+pub mod Saving

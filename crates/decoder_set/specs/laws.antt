@@ -3,3 +3,5 @@ pub mod RangeLaws
 pub mod FitLaws
 pub mod KindLaws
 pub mod OwnLaws
+pub mod OneDecoder
+pub mod SavedLaws

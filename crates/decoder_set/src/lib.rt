@@ -3,6 +3,7 @@
 
 mod any;
 mod any_machine;
+mod keep;
 mod kinds;
 mod laws;
 mod machine;

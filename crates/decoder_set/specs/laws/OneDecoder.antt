@@ -69,7 +69,7 @@ use Rattle.decoder_set.specs.Owning.{kind_in}
 use Rattle.decoder_set.specs.Whole.{SameDecoder, SameMachine}
 
 -- two buses with the same lines are equal
-same_bus : (one other : Bus) → one.scl ≡ other.scl → one.sda ≡ other.sda → one ≡ other
+pub same_bus : (one other : Bus) → one.scl ≡ other.scl → one.sda ≡ other.sda → one ≡ other
 same_bus one other scl sda = λ i. record {
   scl = scl i;
   sda = sda i;
@@ -89,7 +89,7 @@ range_prop opts f g = λ i. record {
 }
 
 -- two lines with the same options at the same rate are equal
-same_line : (one other : Line) → one.opts ≡ other.opts → one.rate ≡ other.rate → one ≡ other
+pub same_line : (one other : Line) → one.opts ≡ other.opts → one.rate ≡ other.rate → one ≡ other
 same_line one other opts rate = λ i. record {
   opts = opts i;
   rate = rate i;
@@ -99,7 +99,7 @@ same_line one other opts rate = λ i. record {
 }
 
 -- and so are two lines of 1-Wire
-same_dq : (one other : DqLine) → one.opts ≡ other.opts → one.rate ≡ other.rate → one ≡ other
+pub same_dq : (one other : DqLine) → one.opts ≡ other.opts → one.rate ≡ other.rate → one ≡ other
 same_dq one other opts rate = λ i. record {
   opts = opts i;
   rate = rate i;
@@ -107,11 +107,11 @@ same_dq one other opts rate = λ i. record {
 }
 
 -- and two lines of messages
-same_modbus : (one other : ModbusLine) → one.opts ≡ other.opts → one.rate ≡ other.rate → one ≡ other
+pub same_modbus : (one other : ModbusLine) → one.opts ≡ other.opts → one.rate ≡ other.rate → one ≡ other
 same_modbus one other opts rate = λ i. record { opts = opts i; rate = rate i }
 
 -- what a machine of a kind holds
-abbrev Inner : Kind → Type 0
+abbrev pub Inner : Kind → Type 0
 Inner kind.I2c = Driver I2c Bus
 Inner kind.Spi = Driver Spi SpiOpts
 Inner kind.Uart = Driver Uart Line
@@ -125,7 +125,7 @@ Inner kind.Flash25 = Follower FlashDecoder FlashOpts
 Inner kind.Modbus = Follower Modbus ModbusLine
 Inner kind.Midi = Follower Midi MidiOpts
 
-abbrev inner : (held : AnyMachine) → Inner (kind_in held)
+abbrev pub inner : (held : AnyMachine) → Inner (kind_in held)
 inner (machine.I2c x) = x
 inner (machine.Spi x) = x
 inner (machine.Uart x) = x
@@ -139,7 +139,7 @@ inner (machine.Flash25 x) = x
 inner (machine.Modbus x) = x
 inner (machine.Midi x) = x
 
-abbrev wrapped : (k : Kind) → Inner k → AnyMachine
+abbrev pub wrapped : (k : Kind) → Inner k → AnyMachine
 wrapped kind.I2c x = machine.I2c x
 wrapped kind.Spi x = machine.Spi x
 wrapped kind.Uart x = machine.Uart x
@@ -153,7 +153,7 @@ wrapped kind.Flash25 x = machine.Flash25 x
 wrapped kind.Modbus x = machine.Modbus x
 wrapped kind.Midi x = machine.Midi x
 
-wrapped_inner : (held : AnyMachine) → held ≡ wrapped (kind_in held) (inner held)
+pub wrapped_inner : (held : AnyMachine) → held ≡ wrapped (kind_in held) (inner held)
 wrapped_inner (machine.I2c x) = refl
 wrapped_inner (machine.Spi x) = refl
 wrapped_inner (machine.Uart x) = refl
@@ -168,7 +168,7 @@ wrapped_inner (machine.Modbus x) = refl
 wrapped_inner (machine.Midi x) = refl
 
 -- a machine of this kind is one that holds such a thing
-of_kind : (k : Kind) (held : AnyMachine) → k ≡ kind_in held → (x : Inner k) × (held ≡ wrapped k x)
+pub of_kind : (k : Kind) (held : AnyMachine) → k ≡ kind_in held → (x : Inner k) × (held ≡ wrapped k x)
 of_kind k held is = subst (λ (j : Kind). (x : Inner j) × (held ≡ wrapped j x)) (sym is) (inner held, wrapped_inner held)
 
 module _ (values : List (Option ℕ)) (rate : Rate) (input : List Item) where
