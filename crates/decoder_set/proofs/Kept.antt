@@ -1,5 +1,5 @@
 -- What a decoder of any kind that is loaded from bytes was, and stands for.
-use Rattle.std.proofs.Common.{◌≡◌, ℕ, List, Option, sym, ◌∙◌, subst}
+use Rattle.std.proofs.Common.{◌≡◌, ℕ, List, sym, ◌∙◌, subst}
 use Rattle.decoder_core.specs.Inputs.{Item}
 use Rattle.decoder_set.specs.Opening.{Consumed, ConsumedAs, HasConsumed}
 use Rattle.decoder_set.specs.Owning.{IsOwn, OwnAs, kind_in}

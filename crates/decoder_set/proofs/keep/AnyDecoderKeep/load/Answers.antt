@@ -1,4 +1,4 @@
-use Rattle.std.proofs.Common.{◌≡◌, rules, refl, sym, subst, ◌∙◌, true, false}
+use Rattle.std.proofs.Common.{◌≡◌, rules, refl, sym, subst, ◌∙◌}
 use Rattle.dec_i2c.specs.Opening as i2c
 use Rattle.dec_i2c.specs.declared.held.Bus.{Bus}
 use Rattle.dec_modbus.specs.Opening as modbus
