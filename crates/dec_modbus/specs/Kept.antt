@@ -11,9 +11,10 @@ MessageParts = (ℕ × (ℕ × ℕ)) × (ℕ × ((ℕ × ℕ) × ℕ))
 -- where it starts and ends; how many bytes it has; the CRC of all but the last two, and these;
 -- whether one of its frames has an error
 abbrev pub message_parts : Message → MessageParts
-message_parts message =
-    ((message.start, (message.end, message.count)),
-    (message.crc, ((message.low, message.high), bit_of message.errors)))
+message_parts message = (
+  (message.start, (message.end, message.count)),
+  (message.crc, ((message.low, message.high), bit_of message.errors)),
+)
 
 abbrev pub message_of : MessageParts → Message
 message_of parts =

@@ -43,9 +43,10 @@ count_of bytes = if nat_le (length bytes) 8 then length bytes else 256
 
 -- eight bytes, those behind the last of them blank
 abbrev pub eight_parts : List Spot → EightSpots
-eight_parts bytes =
-    (((nth bytes 0, nth bytes 1), (nth bytes 2, nth bytes 3)),
-    ((nth bytes 4, nth bytes 5), (nth bytes 6, nth bytes 7)))
+eight_parts bytes = (
+  ((nth bytes 0, nth bytes 1), (nth bytes 2, nth bytes 3)),
+  ((nth bytes 4, nth bytes 5), (nth bytes 6, nth bytes 7)),
+)
 
 abbrev pub bytes_parts : List Spot → BytesParts
 bytes_parts bytes = (count_of bytes, eight_parts bytes)
