@@ -12,7 +12,7 @@ use Rattle.la_base.specs.declared.wires.Mark.{Mark}
 use Rattle.stage_ring.specs.Link.{Link, Opens, received, rx_link, sent, slots, tx_link}
 use Rattle.stage_ring.specs.declared.ends.Rx.{Rx}
 use Rattle.stage_ring.specs.declared.ends.Tx.{Tx}
-use Rattle.stage_run.specs.Inputs.{came, input_link, reads_samples}
+use Rattle.stage_run.specs.Inputs.{input_link, reads_samples, taken}
 use Rattle.stage_run.specs.Stages.{Links}
 use Rattle.stage_run.specs.declared.input.Input.TheVariants.{Packets}
 use Rattle.stage_run.specs.declared.input.Stretch.{Stretch}
@@ -267,13 +267,13 @@ pub joined_child : (parent : Option ℕ) (p wide : ℕ) (tx : Tx Feed) (rx : Rx 
     → new.input ≡ old.input → new.marks ≡ old.marks → new.children.items ≡ old.children.items ++ tx ∷ [] → Opens wide tx rx → Joins wide parent (Packets rx) ends (set ends p new) feeds feeds
 joined_child parent p wide tx rx ends old new feeds is low there input marks children opens = record {
   samples = ap is_root (sym is);
-  came = opens.received_none;
+  none = ap length opens.received_none;
   stages = child_joined ends p old new (rx_link rx) low (links_new ∙ ap (λ (e : StageEnds). record (ends_links e) { children = (ends_links e).children ++ rx_link rx ∷ [] }) there) ∙ ap (λ (o : Option ℕ). stages_with o (rx_link rx) (map ends_links ends)) (sym is);
   feeds = ap (λ (o : Option ℕ). feeds_with o (rx_link rx) (map tx_link feeds)) (sym is);
   still_ends = λ news.
       let was : AreNew old = subst AreNew (sym there) (news p old low) in
       All-set AreNew ends p new (record {
-        input = ap came input ∙ was.input;
+        input = ap taken input ∙ was.input;
         children = All-same (λ child. sent child ≡ []) new.children.items (old.children.items ++ tx ∷ []) children (All-push (λ child. sent child ≡ []) old.children.items tx was.children opens.sent_none);
         marks = ap sent marks ∙ was.marks;
       }) news;
@@ -306,7 +306,7 @@ grown parent wide old new mid e rx joins ends marks none opens = record {
   gathers = ap (map rx_link) marks ∙ map-append rx_link old.marks.items (rx ∷ []);
   still_new = λ was. record {
     ends = All-same AreNew new.ends.items (mid ++ e ∷ []) ends (All-push AreNew mid e (joins.still_ends was.ends) (record {
-      input = joins.came;
+      input = joins.none;
       children = All-same (λ child. sent child ≡ []) e.children.items [] none (All-nil (λ child. sent child ≡ []));
       marks = opens.sent_none;
     }));

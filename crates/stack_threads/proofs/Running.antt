@@ -11,7 +11,7 @@ use Rattle.la_base.specs.declared.wires.Feed.{Feed}
 use Rattle.la_base.specs.declared.wires.Mark.{Mark}
 use Rattle.la_base.specs.declared.wires.Mark.TheVariants.{End as EndMark}
 use Rattle.decoder_core.specs.Inputs.{Item}
-use Rattle.decoder_core.specs.Promises.{GivesNothing, KeepsFront}
+use Rattle.decoder_core.specs.Promises.{KeepsFront}
 use Rattle.decoder_core.specs.declared.end.RunEnd.{RunEnd}
 use Rattle.decoder_core.specs.declared.machine.Machine.{Ghosts as MachineGhosts}
 use Rattle.tree_runs.specs.Machines.{Stand, defined}

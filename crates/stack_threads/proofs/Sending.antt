@@ -1,27 +1,13 @@
 -- What the driver sent and gathered.
-use Rattle.std.proofs.Common.{◌≡◌, ◌≤◌, ℕ, zero, suc, Bool, true, false, ◌||◌, List, [], ◌∷◌, ◌++◌, map, refl, sym, ◌∙◌, ap, subst, arith, if◌then◌else◌}
+use Rattle.std.proofs.Common.{◌≡◌, Bool, true, false, ◌||◌, List, [], ◌∷◌, ◌++◌, refl, sym, ◌∙◌, ap, subst, if◌then◌else◌}
 use Rattle.std.proofs.lemmas.List.{append-nil}
-use Rattle.std.proofs.Props.{props}
-use Rattle.la_base.specs.declared.samples.Run.{Run}
-use Rattle.la_base.specs.declared.wires.Feed.TheVariants.{Run as RunFeed, End as EndFeed}
 use Rattle.la_base.specs.declared.wires.Mark.{Mark}
 use Rattle.la_base.specs.declared.wires.Mark.TheVariants.{Note as NoteMark, Piece as PieceMark, Floor as FloorMark, End as EndMark}
 use Rattle.tree_runs.specs.Reaching.{Reaches}
 use Rattle.stack_laws.specs.Links.{EndsLast, IsFront, some}
 use Rattle.stack_laws.specs.Feeds.{ends_marks}
 use Rattle.stack_laws.proofs.Lists.{front_trans, some-append, some_front}
-use Rattle.stage_run.specs.Inputs.{at_least_one, feed_by, feed_of}
-use Rattle.stage_crew.specs.Driving.{EndsWith, end_stretch, real, stretch_of}
-
-run_feed : (value len : ℕ) (some : 1 ≤ len) → feed_by value len ≡ RunFeed (record { value = value; len = len; not_empty = some })
-run_feed value zero some = absurd (omega (arith, some))
-run_feed value (suc n) some =
-    let one : IsProp (1 ≤ suc n) = hlevel props in
-    ap (λ (e : 1 ≤ suc n). RunFeed (record { value = value; len = suc n; not_empty = e })) (one (at_least_one n) some)
-
-pub run_feeds : (runs : List Run) → map feed_of (map stretch_of runs ++ end_stretch ∷ []) ≡ map RunFeed runs ++ EndFeed ∷ []
-run_feeds [] = refl
-run_feeds (run ∷ runs) = λ i. run_feed run.value run.len run.not_empty i ∷ run_feeds runs i
+use Rattle.stage_crew.specs.Driving.{EndsWith, real}
 
 -- of marks whose only end is the last, all others are real
 pub real_body : (body : List Mark) → EndsLast ends_marks (body ++ EndMark ∷ []) → (real (body ++ EndMark ∷ []) ≡ body) × (some ends_marks body ≡ false)

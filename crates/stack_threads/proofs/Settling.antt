@@ -2,7 +2,7 @@
 use Rattle.std.proofs.Common.{◌≡◌, ◌<◌, ◌≤◌, ◌+◌, ◌⊎◌, inl, inr, ℕ, zero, suc, Bool, true, false, ◌||◌, List, [], ◌∷◌, ◌++◌, map, length, length-append, get_or, slice_get, Option, Some, None, refl, sym, ◌∙◌, ap, subst, arith, if◌then◌else◌}
 use Rattle.std.specs.Prelude.{nat_lt}
 use Rattle.std.proofs.lemmas.Bool.{cases_lt}
-use Rattle.std.proofs.lemmas.List.{append-nil, length-map, length-replicate, map-append}
+use Rattle.std.proofs.lemmas.List.{append-nil, length-map, length-replicate}
 use Rattle.std.proofs.lemmas.List.Elements.{All-replicate}
 use Rattle.std.proofs.lemmas.Option.{get_or_from_slice_get, slice_get-get_or, slice_get_past}
 use Rattle.la_base.specs.declared.samples.Run.{Run}
@@ -14,7 +14,7 @@ use Rattle.la_base.specs.declared.wires.Out.{Out}
 use Rattle.la_io.specs.Feeds.{together}
 use Rattle.decoder_core.specs.Inputs.{Item}
 use Rattle.decoder_core.specs.Marks.{marks_of}
-use Rattle.decoder_core.specs.Promises.{GivesNothing, KeepsFront}
+use Rattle.decoder_core.specs.Promises.{GivesNothing}
 use Rattle.decoder_core.specs.declared.end.RunEnd.{RunEnd}
 use Rattle.decoder_core.specs.declared.machine.Machine.{Ghosts as MachineGhosts}
 use Rattle.tree_runs.specs.Machines.{Definitions, Stand, defined, near_at, near_of, outputs_at, whole_of}
@@ -37,7 +37,8 @@ use Rattle.stack_laws.proofs.Rests.{nothing_behind}
 use Rattle.stage_ring.specs.Link.{known, received, sent, slots}
 use Rattle.stage_ring.specs.declared.ends.Rx.{Rx}
 use Rattle.stage_ring.specs.declared.ends.Tx.{Tx}
-use Rattle.stage_run.specs.Inputs.{came, feed_of}
+use Rattle.stage_run.specs.Inputs.{came, feeds_in, told_behind}
+use Rattle.stage_run.proofs.Telling.{feeds_in-append, feeds_in_few}
 use Rattle.stage_run.specs.Stages.{PartsMean, all_sent, blank, no_sending}
 use Rattle.stage_run.specs.declared.input.Input.{Input}
 use Rattle.stage_run.specs.declared.input.Input.TheVariants.{Samples, Packets}
@@ -47,7 +48,7 @@ use Rattle.stage_crew.specs.Driving.{Drove, EndsWith, real}
 use Rattle.stack_threads.specs.Ties.{KnowsPackets, KnowsSamples, Tied, given_by, got_on, heard_by, heard_on, sent_on}
 use Rattle.stack_threads.specs.Trees.{on_place, place_of}
 use Rattle.stack_threads.proofs.Counting.{same_children, same_place_among}
-use Rattle.stack_threads.proofs.Sending.{marks_front, run_feeds}
+use Rattle.stack_threads.proofs.Sending.{marks_front}
 
 -- a stage that has received and made nothing
 pub blank_keeps : (whole : List Item → List Out) (near : List Item → ℕ) → GivesNothing whole → (n : ℕ) → Keeps whole near (blank n)
@@ -167,7 +168,7 @@ module _ {M S : Type 0} (m : MachineGhosts M S)
   abbrev ends : Ends
   ends = record {
     views = λ j. pick j (cases_lt j n);
-    roots = λ j. all_sent (map feed_of (get_or (map sent feeds) (place_of parents j None) []));
+    roots = λ j. all_sent (feeds_in 0 (get_or (map sent feeds) (place_of parents j None) []));
     gathered = λ j. pick_marks j (cases_lt j n);
   }
 
@@ -194,14 +195,14 @@ module _ {M S : Type 0} (m : MachineGhosts M S)
   roots_by j at =
       let r = root_sent j at in
       let fed = d.fed (place_of parents j None) (sent r.0) (map_at sent feeds (place_of parents j None) r.0 r.1) in
-      (ap (map feed_of) (r.2 ∙ fed) ∙ run_feeds (together d.lists), ([], sym (append-nil (map feed_of (get_or (map sent feeds) (place_of parents j None) [])))))
+      (ap (feeds_in 0) r.2 ∙ fed, ([], sym (append-nil (feeds_in 0 (get_or (map sent feeds) (place_of parents j None) [])))))
 
   -- the input of an instance is tied
-  samples_known : (input : Input) (tx : Tx Stretch) → KnowsSamples (heard_on input) (sent_on tx) → (rest : List Feed) × (came input ++ rest ≡ map feed_of (sent tx)) × (length rest ≤ slots tx)
+  samples_known : (input : Input) (tx : Tx Stretch) → KnowsSamples (heard_on input) (sent_on tx) → (rest : List Feed) × (came input ++ rest ≡ feeds_in 0 (sent tx)) × (length rest ≤ slots tx)
   samples_known (Samples rx) tx knows = (
-    map feed_of (known rx),
-    sym (map-append feed_of (received rx) (known rx)) ∙ ap (map feed_of) knows.all,
-    (let few = knows.few in omega (arith, few, length-map (known rx) feed_of)),
+    feeds_in (told_behind 0 (received rx)) (known rx),
+    sym (feeds_in-append 0 (received rx) (known rx)) ∙ ap (feeds_in 0) knows.all,
+    (let few = knows.few in omega (arith, few, feeds_in_few (told_behind 0 (received rx)) (known rx))),
   )
   samples_known (Packets rx) tx knows = absurd knows
 
@@ -234,7 +235,7 @@ module _ {M S : Type 0} (m : MachineGhosts M S)
           let r = root_sent j at in
           let knows = (tied j low).root at (heard_by s.part) (sent_on r.0) (map_at heard_by parts j s.part s.at) (map_at sent_on feeds (place_of parents j None) r.0 r.1) in
           let k = samples_known s.part.input r.0 knows in
-          (k.0, ap (λ (l : List Feed). l ++ k.0) s.means.received ∙ k.1 ∙ ap (map feed_of) (sym r.2) ∙ ap (λ (o : Option (Option ℕ)). (sender parents ends j o).sent) (sym at), slots r.0, k.2)
+          (k.0, ap (λ (l : List Feed). l ++ k.0) s.means.received ∙ k.1 ∙ ap (feeds_in 0) (sym r.2) ∙ ap (λ (o : Option (Option ℕ)). (sender parents ends j o).sent) (sym at), slots r.0, k.2)
       on (Some q) at =
           let s = settled_at j less in
           let below = forest j q at in

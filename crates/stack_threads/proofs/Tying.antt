@@ -10,7 +10,7 @@ use Rattle.tree_runs.specs.Passing.{same_place}
 use Rattle.stage_ring.specs.Link.{Link, known, received, rx_link, sent, slots, tx_link}
 use Rattle.stage_ring.specs.declared.ends.Tx.{Tx}
 use Rattle.stage_ring.specs.declared.ends.Rx.{Rx}
-use Rattle.stage_run.specs.Inputs.{came, feed_of, input_link, reads_samples}
+use Rattle.stage_run.specs.Inputs.{came, feeds_in, input_link, reads_samples}
 use Rattle.stage_run.specs.Stages.{Links, parts_links}
 use Rattle.stage_run.specs.declared.input.Input.{Input}
 use Rattle.stage_run.specs.declared.input.Input.TheVariants.{Samples, Packets}
@@ -122,7 +122,7 @@ module _ {M : Type 0} where
     links =
         ap (λ (l : Link). record { input = l; samples = true; children = map tx_link p.children.items; marks = tx_link p.marks }) link
         ∙ ap (λ (i : Input). record { input = input_link i; samples = reads_samples i; children = map tx_link p.children.items; marks = tx_link p.marks }) (sym is);
-    came = ap (map feed_of) same ∙ sym (ap came is);
+    came = ap (feeds_in 0) same ∙ sym (ap came is);
     given = refl;
   }
 

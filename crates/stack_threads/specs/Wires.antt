@@ -4,7 +4,7 @@ use Rattle.std.specs.Prelude.{None}
 use Rattle.std.specs.List.{All}
 use Rattle.stage_ring.specs.Link.{Link, received, rx_link, sent, slots, tx_link}
 use Rattle.stage_ring.specs.declared.ends.Tx.{Tx}
-use Rattle.stage_run.specs.Inputs.{came, input_link, reads_samples}
+use Rattle.stage_run.specs.Inputs.{input_link, reads_samples, taken}
 use Rattle.stage_run.specs.Stages.{Links}
 use Rattle.stage_run.specs.declared.input.Input.{Input}
 use Rattle.stage_run.specs.declared.input.Stretch.{Stretch}
@@ -25,7 +25,7 @@ all_links wires = map ends_links wires.ends.items
 
 -- nothing was received or sent on them
 pub record AreNew (e : StageEnds) : Type 0 where
-  pub input : came e.input ≡ []
+  pub input : taken e.input ≡ 0
   pub children : All (λ child. sent child ≡ []) e.children.items
   pub marks : sent e.marks ≡ []
 
@@ -53,7 +53,7 @@ feeds_with (Some parent) link feeds = feeds
 pub record Joins (wide : ℕ) (parent : Option ℕ) (input : Input) (ends_old ends_new : List StageEnds)
     (feeds_old feeds_new : List (Tx Stretch)) : Type 0 where
   pub samples : reads_samples input ≡ is_root parent
-  pub came : came input ≡ []
+  pub none : taken input ≡ 0
   pub stages : map ends_links ends_new
       ≡ stages_with parent (input_link input) (map ends_links ends_old)
   pub feeds : map tx_link feeds_new ≡ feeds_with parent (input_link input) (map tx_link feeds_old)

@@ -5,6 +5,8 @@ use Rattle.std.proofs.lemmas.Bool.Decides.{nat_tests}
 use Rattle.std.proofs.lemmas.List.{append-nil}
 use Rattle.std.proofs.lemmas.Option.{slice_get_within}
 use Rattle.la_base.specs.declared.samples.Run.{Run}
+use Rattle.la_base.specs.declared.wires.Feed.{Feed}
+use Rattle.la_base.specs.declared.wires.Feed.TheVariants.{Run as RunFeed, End as EndFeed}
 use Rattle.la_base.specs.declared.wires.Mark.{Mark}
 use Rattle.la_base.specs.declared.wires.Mark.TheVariants.{End as EndMark}
 use Rattle.la_io.specs.declared.feeds.MarkTake.{Ghosts as TakeGhosts}
@@ -16,8 +18,10 @@ use Rattle.tree_runs.proofs.Joining.{took_then, took_nothing}
 use Rattle.stage_ring.specs.declared.ends.Rx.{Rx}
 use Rattle.stage_ring.specs.declared.ends.Tx.{Tx}
 use Rattle.stage_ring.specs.Link.{received, sent}
+use Rattle.stage_run.specs.Inputs.{feeds_in, telling}
 use Rattle.stage_run.specs.declared.input.Stretch.{Stretch}
-use Rattle.stage_crew.specs.Driving.{Drove, real, stretch_of, end_stretch}
+use Rattle.stage_run.proofs.Telling.{end_feeds}
+use Rattle.stage_crew.specs.Driving.{Drove, real}
 use Rattle.stage_crew.specs.Fans.{Fans}
 use Rattle.stage_crew.specs.Gathering.{Fronts, Gathers, TakesUntil}
 use Rattle.stage_crew.specs.Keeping.{Drives, Kept, SameLinks}
@@ -50,17 +54,18 @@ no_flag (suc n) (suc i) is = no_flag n i is
 module _ {A O B Q : Type 0} (f : FeedGhosts A O) (g : TakeGhosts B Q) where
   -- nothing was done yet
   pub kept_none : (feed : A) (take : B) (pump : Pump) (sents : List (List Stretch)) (state : Gatherer) (gathered : List (List Mark))
-      → pump.row ≡ [] → pump.handed.child ≡ 0 → pump.at ≡ length (f.held feed) → pump.over ≡ false → pump.said ≡ false → state.over ≡ replicate 24 false → state.stopped ≡ false
+      → pump.row ≡ [] → pump.handed.child ≡ 0 → pump.at ≡ length (f.held feed) → pump.upper ≡ 0 → pump.over ≡ false → pump.said ≡ false → state.over ≡ replicate 24 false → state.stopped ≡ false
       → ((k : ℕ) (s : List Stretch) → slice_get sents k ≡ Some s → s ≡ []) → ((k : ℕ) (m : List Mark) → slice_get gathered k ≡ Some m → m ≡ [])
       → Kept f g feed feed take take pump sents state gathered
-  kept_none feed take pump sents state gathered none first at over said unset going fresh_feeds fresh_marks = record {
+  kept_none feed take pump sents state gathered none first at upper over said unset going fresh_feeds fresh_marks = record {
     lists = [];
     gave = λ earlier had. subst (f.gave feed) (sym (append-nil earlier)) had;
     pumped = record {
       fed = [];
-      left = ap (map stretch_of) (gone (f.held feed) pump.at (omega (arith, at)));
+      left = ap (map RunFeed) (gone (f.held feed) pump.at (omega (arith, at)));
+      told = sym upper;
       all = λ is. absurd (not_true said is);
-      fans = subst (λ (b : Bool). Fans sents pump.row pump.handed (end_if end_stretch b)) (sym said) (subst (λ (l : List Stretch). Fans sents l pump.handed []) (sym none) (fans_fresh sents pump.handed first fresh_feeds));
+      fans = subst (λ (b : Bool). Fans sents pump.row pump.handed (end_if (telling pump.upper) b)) (sym said) (subst (λ (l : List Stretch). Fans sents l pump.handed []) (sym none) (fans_fresh sents pump.handed first fresh_feeds));
     };
     in_place = record { at = omega (arith, at); said = λ is. absurd (not_true said is) };
     origin = refl;
@@ -76,20 +81,22 @@ module _ {A O B Q : Type 0} (f : FeedGhosts A O) (g : TakeGhosts B Q) where
   -- one round more
   pub kept_next : {feed0 feed1 feed2 : A} {take0 take1 take2 : B} {p1 p2 p3 : Pump} {sents1 sents2 : List (List Stretch)} {s1 s2 : Gatherer} {g1 g2 : List (List Mark)}
       → Kept f g feed0 feed1 take0 take1 p1 sents1 s1 g1 → Pumps f feed1 feed2 p1 p2 sents1 sents2 → Gathers g take1 take2 s1 s2 g1 g2
-      → p3.row ≡ p2.row → p3.handed ≡ p2.handed → p3.at ≡ p2.at → p3.said ≡ p2.said → p3.over ≡ (p2.over || s2.stopped)
+      → p3.row ≡ p2.row → p3.handed ≡ p2.handed → p3.at ≡ p2.at → p3.said ≡ p2.said → p3.upper ≡ p2.upper → p3.over ≡ (p2.over || s2.stopped)
       → Kept f g feed0 feed2 take0 take2 p3 sents2 s2 g2
-  kept_next {feed0} {feed1} {feed2} {take0} {take1} {take2} {p1} {p2} {p3} {sents1} {sents2} {s1} {s2} k p q row handed at said over =
+  kept_next {feed0} {feed1} {feed2} {take0} {take1} {take2} {p1} {p2} {p3} {sents1} {sents2} {s1} {s2} k p q row handed at said upper over =
       let now = p.pumped k.lists k.pumped in
       record {
         lists = k.lists ++ p.more;
         gave = λ earlier had. subst (f.gave feed2) (append_assoc earlier k.lists p.more) (p.gave (earlier ++ k.lists) (k.gave earlier had));
         pumped = record {
           fed = now.fed;
-          left = ap (λ (n : ℕ). now.fed ++ map stretch_of (drop n (f.held feed2))) at ∙ now.left;
+          left = ap (λ (n : ℕ). feeds_in 0 now.fed ++ map RunFeed (drop n (f.held feed2))) at ∙ now.left;
+          told = now.told ∙ sym upper;
           all = λ is. ap (λ (n : ℕ). drop n (f.held feed2)) at ∙ now.all (sym said ∙ is);
-          fans = subst (λ (h : Handed). Fans sents2 p3.row h (now.fed ++ end_if end_stretch p3.said)) (sym handed)
-              (subst (λ (l : List Stretch). Fans sents2 l p2.handed (now.fed ++ end_if end_stretch p3.said)) (sym row)
-              (subst (λ (b : Bool). Fans sents2 p2.row p2.handed (now.fed ++ end_if end_stretch b)) (sym said) now.fans));
+          fans = subst (λ (h : Handed). Fans sents2 p3.row h (now.fed ++ end_if (telling p3.upper) p3.said)) (sym handed)
+              (subst (λ (l : List Stretch). Fans sents2 l p2.handed (now.fed ++ end_if (telling p3.upper) p3.said)) (sym row)
+              (subst (λ (u : ℕ). Fans sents2 p2.row p2.handed (now.fed ++ end_if (telling u) p3.said)) (sym upper)
+              (subst (λ (b : Bool). Fans sents2 p2.row p2.handed (now.fed ++ end_if (telling p2.upper) b)) (sym said) now.fans)));
         };
         in_place = record { at = omega (arith, at, p.in_place.at); said = λ is. over_on p2.over p3.over s2.stopped p2.said p.in_place.said over (sym said ∙ is) };
         origin = p.origin ∙ k.origin;
@@ -112,8 +119,9 @@ module _ {A O B Q : Type 0} (f : FeedGhosts A O) (g : TakeGhosts B Q) where
     lists = kept.lists;
     gave = kept.gave;
     fed = λ j s there.
-        fans_given kept.pumped.fans none first j s there ∙ ap (λ (b : Bool). kept.pumped.fed ++ end_if end_stretch b) said
-        ∙ ap (λ (l : List Stretch). l ++ end_stretch ∷ []) (sym (append-nil kept.pumped.fed) ∙ ap (λ (l : List Run). kept.pumped.fed ++ map stretch_of l) (sym (kept.pumped.all said)) ∙ kept.pumped.left);
+        ap (feeds_in 0) (fans_given kept.pumped.fans none first j s there ∙ ap (λ (b : Bool). kept.pumped.fed ++ end_if (telling pump.upper) b) said)
+        ∙ end_feeds kept.pumped.fed pump.upper pump.upper kept.pumped.told refl
+        ∙ ap (λ (l : List Feed). l ++ EndFeed ∷ []) (sym (append-nil (feeds_in 0 kept.pumped.fed)) ∙ ap (λ (l : List Run). feeds_in 0 kept.pumped.fed ++ map RunFeed l) (sym (kept.pumped.all said)) ∙ kept.pumped.left);
     came = λ i marks there. kept.overs i marks there (all i (slice_get_within gathered i marks there));
     done = not state.stopped;
     taken = kept.taken;

@@ -1,12 +1,19 @@
 -- Runs that were put into the row and handed out.
 use Rattle.std.proofs.Common.{◌≡◌, ◌<◌, ◌≤◌, ◌+◌, ◌-◌, ℕ, Bool, true, false, not, List, [], ◌∷◌, ◌++◌, map, length, take, drop, get_or, set, refl, sym, ◌∙◌, ap, subst, arith, append_assoc, take-append-drop}
+use Rattle.std.specs.Prelude.{nat_eq}
+use Rattle.std.specs.List.{All}
+use Rattle.std.proofs.lemmas.Bool.Decides.{nat_tests}
+use Rattle.std.proofs.lemmas.List.Elements.{All-push, All-same}
 use Rattle.std.proofs.lemmas.List.{append-nil, drop-drop, take_more, map-append, length-drop, length-set, take_all, take-set, get_or-set_same}
 use Rattle.la_base.specs.declared.samples.Run.{Run}
+use Rattle.la_base.specs.declared.wires.Feed.{Feed}
+use Rattle.la_base.specs.declared.wires.Feed.TheVariants.{Run as RunFeed}
 use Rattle.la_io.specs.Feeds.{GivesRuns, TellsMore, given_now, together}
 use Rattle.la_io.specs.declared.feeds.RunFeed.{Ghosts as FeedGhosts}
 use Rattle.la_io.proofs.Together.{together-append}
+use Rattle.stage_run.specs.Inputs.{feeds_in, stretch_of, telling, told_behind, upper_of}
 use Rattle.stage_run.specs.declared.input.Stretch.{Stretch}
-use Rattle.stage_crew.specs.Driving.{stretch_of, end_stretch}
+use Rattle.stage_run.proofs.Telling.{feeds_in-append, plain_feeds, tell_feeds, tell_told, told-append}
 use Rattle.stage_crew.specs.Fans.{Fans}
 use Rattle.stage_crew.specs.Pumping.{InPlace, IsFree, Pumped, Pumps, end_if}
 use Rattle.stage_crew.specs.declared.fan.Handed.{Handed}
@@ -15,19 +22,32 @@ use Rattle.stage_crew.proofs.Common.{gone, not_true}
 use Rattle.stage_crew.proofs.Handing.{fans_append}
 
 -- one more stretch at the front of room
-pub row_next : (runs : List Run) (i : ℕ) (d : Run) (room : List Stretch) (stretch : Stretch) → i < length runs → i < length room → stretch.value ≡ (get_or runs i d).value → stretch.len ≡ (get_or runs i d).len
+pub row_next : (runs : List Run) (i : ℕ) (d : Run) (room : List Stretch) (stretch : Stretch) → i < length runs → i < length room → stretch ≡ stretch_of (get_or runs i d)
     → take i room ≡ map stretch_of (take i runs) → take (i + 1) (set room i stretch) ≡ map stretch_of (take (i + 1) runs)
-row_next runs i d room stretch within low v l had =
+row_next runs i d room stretch within low is had =
     let longer : i < length (set room i stretch) = omega (arith, low, length-set room i stretch) in
     take_more (set room i stretch) i stretch longer ∙ (λ k. take-set room i stretch k ++ get_or-set_same room i stretch stretch low k ∷ [])
-    ∙ (λ k. had k ++ record { value = v k; len = l k } ∷ []) ∙ sym (map-append stretch_of (take i runs) (get_or runs i d ∷ [])) ∙ ap (map stretch_of) (sym (take_more runs i d within))
+    ∙ (λ k. had k ++ is k ∷ []) ∙ sym (map-append stretch_of (take i runs) (get_or runs i d ∷ [])) ∙ ap (map stretch_of) (sym (take_more runs i d within))
+
+-- one more run with this upper half of its lines
+pub uppers_next : (upper : ℕ) (runs : List Run) (i : ℕ) (d : Run) → i < length runs → upper_of (get_or runs i d) ≡ upper → All (λ run. upper_of run ≡ upper) (take i runs) → All (λ run. upper_of run ≡ upper) (take (i + 1) runs)
+uppers_next upper runs i d within is had =
+    All-same (λ run. upper_of run ≡ upper) (take (i + 1) runs) (take i runs ++ get_or runs i d ∷ []) (take_more runs i d within) (All-push (λ run. upper_of run ≡ upper) (take i runs) (get_or runs i d) had is)
 
 -- the end isn't told yet
-untold : (fed : List Stretch) (said : Bool) → said ≡ false → fed ++ end_if end_stretch said ≡ fed
-untold fed said still = ap (λ (b : Bool). fed ++ end_if end_stretch b) still ∙ append-nil fed
+untold : (fed : List Stretch) (upper : ℕ) (said : Bool) → said ≡ false → fed ++ end_if (telling upper) said ≡ fed
+untold fed upper said still = ap (λ (b : Bool). fed ++ end_if (telling upper) b) still ∙ append-nil fed
 
-nothing_more : (lists : List (List Run)) → map stretch_of (together lists) ≡ map stretch_of (together (lists ++ []))
-nothing_more lists = ap (λ (l : List (List Run)). map stretch_of (together l)) (sym (append-nil lists))
+nothing_more : (lists : List (List Run)) → map RunFeed (together lists) ≡ map RunFeed (together (lists ++ []))
+nothing_more lists = ap (λ (l : List (List Run)). map RunFeed (together l)) (sym (append-nil lists))
+
+-- they are other numbers
+other : (one two : ℕ) → (one ≡ two → ⊥) → nat_eq one two ≡ false
+other one two differ = by (nat_eq one two) refl
+  where
+    by : (b : Bool) → nat_eq one two ≡ b → nat_eq one two ≡ false
+    by true is = let same : one ≡ two = grind (arith, nat_tests, is) in absurd (differ same)
+    by false is = is
 
 -- what the feed holds is what it gave last
 given_is : (more ended : Bool) (held : List Run) → TellsMore more ended held → together (given_now more held) ≡ held
@@ -46,16 +66,18 @@ module _ {A O : Type 0} (f : FeedGhosts A O) (feed : A) (p q : Pump) (sents : Li
   same_gave earlier had = subst (f.gave feed) (sym (append-nil earlier)) had
 
   -- what was in the row was handed out
-  pub pumps_hand : (sents_new : List (List Stretch)) → InPlace held p → q.at ≡ p.at → q.over ≡ p.over → q.said ≡ p.said
+  pub pumps_hand : (sents_new : List (List Stretch)) → InPlace held p → q.at ≡ p.at → q.over ≡ p.over → q.said ≡ p.said → q.upper ≡ p.upper
       → ((all : List Stretch) → Fans sents p.row p.handed all → Fans sents_new q.row q.handed all) → Pumps f feed feed p q sents sents_new
-  pumps_hand sents_new place at over said fans = record {
+  pumps_hand sents_new place at over said upper fans = record {
     more = [];
     gave = same_gave;
     pumped = λ lists had. record {
       fed = had.fed;
-      left = ap (λ (n : ℕ). had.fed ++ map stretch_of (drop n held)) at ∙ had.left ∙ nothing_more lists;
+      left = ap (λ (n : ℕ). feeds_in 0 had.fed ++ map RunFeed (drop n held)) at ∙ had.left ∙ nothing_more lists;
+      told = had.told ∙ sym upper;
       all = λ is. ap (λ (n : ℕ). drop n held) at ∙ had.all (sym said ∙ is);
-      fans = subst (λ (b : Bool). Fans sents_new q.row q.handed (had.fed ++ end_if end_stretch b)) (sym said) (fans (had.fed ++ end_if end_stretch p.said) had.fans);
+      fans = subst (λ (u : ℕ). Fans sents_new q.row q.handed (had.fed ++ end_if (telling u) q.said)) (sym upper)
+          (subst (λ (b : Bool). Fans sents_new q.row q.handed (had.fed ++ end_if (telling p.upper) b)) (sym said) (fans (had.fed ++ end_if (telling p.upper) p.said) had.fans));
     };
     in_place = record { at = omega (arith, at, place.at); said = λ is. over ∙ place.said (sym said ∙ is) };
     origin = refl;
@@ -63,25 +85,37 @@ module _ {A O : Type 0} (f : FeedGhosts A O) (feed : A) (p q : Pump) (sents : Li
     at_end = λ still is. absurd (not_true still (sym over ∙ is));
   }
 
+  -- these were put into the row
+  added_fans : (fed new : List Stretch) → IsFree p → p.handed.given ≤ length p.row → q.said ≡ p.said → q.handed ≡ p.handed → q.row ≡ p.row ++ new → Fans sents p.row p.handed (fed ++ end_if (telling p.upper) p.said)
+      → Fans sents q.row q.handed ((fed ++ new) ++ end_if (telling q.upper) q.said)
+  added_fans fed new free within said handed row fans =
+      let all : List Stretch = (fed ++ new) ++ end_if (telling q.upper) q.said in
+      subst (λ (h : Handed). Fans sents q.row h all) (sym handed)
+      (subst (λ (l : List Stretch). Fans sents l p.handed all) (sym row)
+      (fans_append fans new all within free.first
+      (untold (fed ++ new) q.upper q.said (said ∙ free.said) ∙ ap (λ (l : List Stretch). l ++ new) (sym (untold fed p.upper p.said free.said)))))
+
   -- further runs were put into the row
-  pub pumps_fill : (n : ℕ) → InPlace held p → IsFree p → p.handed.given ≤ length p.row → n ≤ length (take (length held - p.at) (drop p.at held)) → q.at ≡ p.at + n → q.over ≡ p.over → q.said ≡ p.said → q.handed ≡ p.handed
-      → q.row ≡ map stretch_of (take n (take (length held - p.at) (drop p.at held))) → Pumps f feed feed p q sents sents
-  pumps_fill n place free within few at over said handed row = record {
+  pub pumps_fill : (n : ℕ) → InPlace held p → IsFree p → p.handed.given ≤ length p.row → n ≤ length (take (length held - p.at) (drop p.at held)) → q.at ≡ p.at + n → q.over ≡ p.over → q.said ≡ p.said → q.upper ≡ p.upper → q.handed ≡ p.handed
+      → q.row ≡ map stretch_of (take n (take (length held - p.at) (drop p.at held))) → All (λ run. upper_of run ≡ p.upper) (take n (take (length held - p.at) (drop p.at held))) → Pumps f feed feed p q sents sents
+  pumps_fill n place free within few at over said upper handed row uppers = record {
     more = [];
     gave = same_gave;
     pumped = λ lists had.
-        let new = map stretch_of (take n (drop p.at held)) in
+        let runs = take n (drop p.at held) in
+        let new = map stretch_of runs in
+        let plain = plain_feeds p.upper runs (subst (λ (l : List Run). All (λ run. upper_of run ≡ p.upper) (take n l)) whole uppers) in
         let row_is : q.row ≡ p.row ++ new = row ∙ ap (λ (l : List Run). map stretch_of (take n l)) whole ∙ ap (λ (l : List Stretch). l ++ new) (sym free.none) in
-        let parts : map stretch_of (drop p.at held) ≡ new ++ map stretch_of (drop q.at held) =
-        ap (map stretch_of) (sym (take-append-drop n (drop p.at held))) ∙ map-append stretch_of (take n (drop p.at held)) (drop n (drop p.at held)) ∙ ap (λ (l : List Run). new ++ map stretch_of l) (drop-drop n p.at held ∙ ap (λ (k : ℕ). drop k held) (omega (arith, at))) in
+        let parts : map RunFeed (drop p.at held) ≡ map RunFeed runs ++ map RunFeed (drop q.at held) =
+        ap (map RunFeed) (sym (take-append-drop n (drop p.at held))) ∙ map-append RunFeed runs (drop n (drop p.at held)) ∙ ap (λ (l : List Run). map RunFeed runs ++ map RunFeed l) (drop-drop n p.at held ∙ ap (λ (k : ℕ). drop k held) (omega (arith, at))) in
+        let feeds_new : feeds_in 0 (had.fed ++ new) ≡ feeds_in 0 had.fed ++ map RunFeed runs =
+        feeds_in-append 0 had.fed new ∙ ap (λ (u : ℕ). feeds_in 0 had.fed ++ feeds_in u new) had.told ∙ ap (λ (l : List Feed). feeds_in 0 had.fed ++ l) plain.0 in
         record {
           fed = had.fed ++ new;
-          left = append_assoc had.fed new (map stretch_of (drop q.at held)) ∙ ap (λ (l : List Stretch). had.fed ++ l) (sym parts) ∙ had.left ∙ nothing_more lists;
+          left = ap (λ (l : List Feed). l ++ map RunFeed (drop q.at held)) feeds_new ∙ append_assoc (feeds_in 0 had.fed) (map RunFeed runs) (map RunFeed (drop q.at held)) ∙ ap (λ (l : List Feed). feeds_in 0 had.fed ++ l) (sym parts) ∙ had.left ∙ nothing_more lists;
+          told = told-append 0 had.fed new ∙ ap (λ (u : ℕ). told_behind u new) had.told ∙ plain.1 ∙ sym upper;
           all = λ is. absurd (not_true (said ∙ free.said) is);
-          fans = subst (λ (h : Handed). Fans sents q.row h ((had.fed ++ new) ++ end_if end_stretch q.said)) (sym handed)
-              (subst (λ (l : List Stretch). Fans sents l p.handed ((had.fed ++ new) ++ end_if end_stretch q.said)) (sym row_is)
-              (fans_append had.fans new ((had.fed ++ new) ++ end_if end_stretch q.said) within free.first
-              (untold (had.fed ++ new) q.said (said ∙ free.said) ∙ ap (λ (l : List Stretch). l ++ new) (sym (untold had.fed p.said free.said)))));
+          fans = added_fans had.fed new free within said handed row_is had.fans;
         };
     in_place = record { at = omega (arith, at, place.at, few, ap length whole, length-drop p.at held); said = λ is. absurd (not_true (said ∙ free.said) is) };
     origin = refl;
@@ -92,21 +126,44 @@ module _ {A O : Type 0} (f : FeedGhosts A O) (feed : A) (p q : Pump) (sents : Li
       whole : take (length held - p.at) (drop p.at held) ≡ drop p.at held
       whole = take_all (length held - p.at) (drop p.at held) (omega (arith, length-drop p.at held))
 
-  -- the end was put into the row
-  pub pumps_end : InPlace held p → IsFree p → p.handed.given ≤ length p.row → length held ≤ p.at → p.over ≡ true → q.at ≡ p.at → q.over ≡ p.over → q.said ≡ true → q.handed ≡ p.handed → q.row ≡ p.row ++ end_stretch ∷ []
+  -- what tells another upper half of the lines was put into the row
+  pub pumps_tell : (upper : ℕ) → InPlace held p → IsFree p → p.handed.given ≤ length p.row → (upper ≡ p.upper → ⊥) → q.at ≡ p.at → q.over ≡ p.over → q.said ≡ p.said → q.upper ≡ upper → q.handed ≡ p.handed → q.row ≡ p.row ++ telling upper ∷ []
       → Pumps f feed feed p q sents sents
-  pumps_end place free within all is_over at over said handed row = record {
+  pumps_tell upper place free within differ at over said is_upper handed row = record {
     more = [];
     gave = same_gave;
     pumped = λ lists had. record {
-      fed = had.fed;
-      left = ap (λ (n : ℕ). had.fed ++ map stretch_of (drop n held)) at ∙ had.left ∙ nothing_more lists;
-      all = λ is. gone held q.at (omega (arith, at, all));
-      fans = subst (λ (h : Handed). Fans sents q.row h (had.fed ++ end_if end_stretch q.said)) (sym handed)
-          (subst (λ (b : Bool). Fans sents q.row p.handed (had.fed ++ end_if end_stretch b)) (sym said)
-          (subst (λ (l : List Stretch). Fans sents l p.handed (had.fed ++ end_stretch ∷ [])) (sym row)
-          (fans_append had.fans (end_stretch ∷ []) (had.fed ++ end_stretch ∷ []) within free.first (ap (λ (l : List Stretch). l ++ end_stretch ∷ []) (sym (untold had.fed p.said free.said))))));
+      fed = had.fed ++ telling upper ∷ [];
+      left = ap (λ (n : ℕ). feeds_in 0 (had.fed ++ telling upper ∷ []) ++ map RunFeed (drop n held)) at ∙ ap (λ (l : List Feed). l ++ map RunFeed (drop p.at held)) (tell_feeds had.fed upper p.upper had.told (other upper p.upper differ)) ∙ had.left ∙ nothing_more lists;
+      told = tell_told had.fed upper p.upper had.told ∙ sym is_upper;
+      all = λ is. absurd (not_true (said ∙ free.said) is);
+      fans = added_fans had.fed (telling upper ∷ []) free within said handed row had.fans;
     };
+    in_place = record { at = omega (arith, at, place.at); said = λ is. absurd (not_true (said ∙ free.said) is) };
+    origin = refl;
+    over = λ is. (over ∙ is, refl);
+    at_end = λ still is. absurd (not_true still (sym over ∙ is));
+  }
+
+  -- the end was put into the row
+  pub pumps_end : InPlace held p → IsFree p → p.handed.given ≤ length p.row → length held ≤ p.at → p.over ≡ true → q.at ≡ p.at → q.over ≡ p.over → q.said ≡ true → q.upper ≡ p.upper → q.handed ≡ p.handed → q.row ≡ p.row ++ telling p.upper ∷ []
+      → Pumps f feed feed p q sents sents
+  pumps_end place free within all is_over at over said upper handed row = record {
+    more = [];
+    gave = same_gave;
+    pumped = λ lists had.
+        let end : List Stretch = telling p.upper ∷ [] in
+        record {
+          fed = had.fed;
+          left = ap (λ (n : ℕ). feeds_in 0 had.fed ++ map RunFeed (drop n held)) at ∙ had.left ∙ nothing_more lists;
+          told = had.told ∙ sym upper;
+          all = λ is. gone held q.at (omega (arith, at, all));
+          fans = subst (λ (h : Handed). Fans sents q.row h (had.fed ++ end_if (telling q.upper) q.said)) (sym handed)
+              (subst (λ (u : ℕ). Fans sents q.row p.handed (had.fed ++ end_if (telling u) q.said)) (sym upper)
+              (subst (λ (b : Bool). Fans sents q.row p.handed (had.fed ++ end_if (telling p.upper) b)) (sym said)
+              (subst (λ (l : List Stretch). Fans sents l p.handed (had.fed ++ end)) (sym row)
+              (fans_append had.fans end (had.fed ++ end) within free.first (ap (λ (l : List Stretch). l ++ end) (sym (untold had.fed p.upper p.said free.said)))))));
+        };
     in_place = record { at = omega (arith, at, place.at); said = λ is. over ∙ is_over };
     origin = refl;
     over = λ is. (over ∙ is, refl);
@@ -115,19 +172,22 @@ module _ {A O : Type 0} (f : FeedGhosts A O) (feed : A) (p q : Pump) (sents : Li
 
   -- the feed was asked for more
   pub pumps_ask : (new : A) (more : Bool) → IsFree p → length held ≤ p.at → p.over ≡ false → TellsMore more (f.at_end new) (f.held new) → GivesRuns more (f.gave feed) (f.gave new) (f.held new) → f.origin new ≡ f.origin feed
-      → q.at ≡ 0 → q.over ≡ not more → q.said ≡ p.said → q.handed ≡ p.handed → q.row ≡ p.row → Pumps f feed new p q sents sents
-  pumps_ask new more free all going tells gives origin at over said handed row = record {
+      → q.at ≡ 0 → q.over ≡ not more → q.said ≡ p.said → q.upper ≡ p.upper → q.handed ≡ p.handed → q.row ≡ p.row → Pumps f feed new p q sents sents
+  pumps_ask new more free all going tells gives origin at over said upper handed row = record {
     more = given_now more (f.held new);
     gave = gives.gave;
     pumped = λ lists had. record {
       fed = had.fed;
       left =
-          ap (λ (n : ℕ). had.fed ++ map stretch_of (drop n (f.held new))) at ∙ ap (λ (l : List Stretch). l ++ map stretch_of (f.held new)) (sym (append-nil had.fed) ∙ ap (λ (l : List Run). had.fed ++ map stretch_of l) (sym (gone held p.at all)) ∙ had.left)
-          ∙ sym (map-append stretch_of (together lists) (f.held new)) ∙ ap (λ (l : List Run). map stretch_of (together lists ++ l)) (sym (given_is more (f.at_end new) (f.held new) tells)) ∙ ap (map stretch_of) (sym (together-append lists (given_now more (f.held new))));
+          ap (λ (n : ℕ). feeds_in 0 had.fed ++ map RunFeed (drop n (f.held new))) at
+          ∙ ap (λ (l : List Feed). l ++ map RunFeed (f.held new)) (sym (append-nil (feeds_in 0 had.fed)) ∙ ap (λ (l : List Run). feeds_in 0 had.fed ++ map RunFeed l) (sym (gone held p.at all)) ∙ had.left)
+          ∙ sym (map-append RunFeed (together lists) (f.held new)) ∙ ap (λ (l : List Run). map RunFeed (together lists ++ l)) (sym (given_is more (f.at_end new) (f.held new) tells)) ∙ ap (map RunFeed) (sym (together-append lists (given_now more (f.held new))));
+      told = had.told ∙ sym upper;
       all = λ is. absurd (not_true (said ∙ free.said) is);
-      fans = subst (λ (h : Handed). Fans sents q.row h (had.fed ++ end_if end_stretch q.said)) (sym handed)
-          (subst (λ (l : List Stretch). Fans sents l p.handed (had.fed ++ end_if end_stretch q.said)) (sym row)
-          (subst (λ (b : Bool). Fans sents p.row p.handed (had.fed ++ end_if end_stretch b)) (sym said) had.fans));
+      fans = subst (λ (h : Handed). Fans sents q.row h (had.fed ++ end_if (telling q.upper) q.said)) (sym handed)
+          (subst (λ (l : List Stretch). Fans sents l p.handed (had.fed ++ end_if (telling q.upper) q.said)) (sym row)
+          (subst (λ (u : ℕ). Fans sents p.row p.handed (had.fed ++ end_if (telling u) q.said)) (sym upper)
+          (subst (λ (b : Bool). Fans sents p.row p.handed (had.fed ++ end_if (telling p.upper) b)) (sym said) had.fans)));
     };
     in_place = record { at = omega (arith, at); said = λ is. absurd (not_true (said ∙ free.said) is) };
     origin = origin;
@@ -137,7 +197,7 @@ module _ {A O : Type 0} (f : FeedGhosts A O) (feed : A) (p q : Pump) (sents : Li
 
   -- nothing was done
   pub pumps_none : InPlace held p → q ≡ p → Pumps f feed feed p q sents sents
-  pumps_none place same = pumps_hand sents place (ap (λ (x : Pump). x.at) same) (ap (λ (x : Pump). x.over) same) (ap (λ (x : Pump). x.said) same) (λ all fans. subst (λ (x : Pump). Fans sents x.row x.handed all) (sym same) fans)
+  pumps_none place same = pumps_hand sents place (ap (λ (x : Pump). x.at) same) (ap (λ (x : Pump). x.over) same) (ap (λ (x : Pump). x.said) same) (ap (λ (x : Pump). x.upper) same) (λ all fans. subst (λ (x : Pump). Fans sents x.row x.handed all) (sym same) fans)
 
 -- it has ended, where no more is asked for
 ended_then : (o1 o2 e1 e2 : Bool) → (o1 ≡ true → e1 ≡ true) → (o1 ≡ true → (o2 ≡ true) × (e2 ≡ e1)) → (o1 ≡ false → o2 ≡ true → e2 ≡ true) → o2 ≡ true → e2 ≡ true

@@ -2,6 +2,7 @@
 use Rattle.std.specs.Prelude.{ℕ, ◌≡◌, ◌≤◌, nat_lt, Bool, true, if◌then◌else◌}
 use Rattle.std.specs.Prelude.{List, [], ◌∷◌, ◌++◌, map, length, Some, slice_get}
 use Rattle.la_base.specs.declared.samples.Run.{Run}
+use Rattle.la_base.specs.declared.wires.Feed.TheVariants.{Run as RunFeed, End as EndFeed}
 use Rattle.la_base.specs.declared.wires.Mark.{Mark}
 use Rattle.la_base.specs.declared.wires.Mark.TheVariants.{Note as NoteMark, Piece as PieceMark}
 use Rattle.la_base.specs.declared.wires.Mark.TheVariants.{Floor as FloorMark, End as EndMark}
@@ -13,14 +14,8 @@ use Rattle.tree_runs.specs.Reaching.{Reaches}
 use Rattle.stage_ring.specs.declared.ends.Rx.{Rx}
 use Rattle.stage_ring.specs.declared.ends.Tx.{Tx}
 use Rattle.stage_ring.specs.Link.{received, sent}
+use Rattle.stage_run.specs.Inputs.{feeds_in}
 use Rattle.stage_run.specs.declared.input.Stretch.{Stretch}
-
--- a run on a link, and the end
-abbrev pub stretch_of : Run → Stretch
-stretch_of run = record { value = run.value; len = run.len }
-
-abbrev pub end_stretch : Stretch
-end_stretch = record { value = 0; len = 0 }
 
 -- this is the last of a list
 abbrev pub EndsWith : {X : Type 0} → X → List X → Type 0
@@ -43,7 +38,7 @@ pub record Drove (gave_old gave_new : List (List Run) → Type 0)
   pub lists : List (List Run)
   pub gave : (earlier : List (List Run)) → gave_old earlier → gave_new (earlier ++ lists)
   pub fed : (k : ℕ) (s : List Stretch) → slice_get sents k ≡ Some s
-      → s ≡ map stretch_of (together lists) ++ end_stretch ∷ []
+      → feeds_in 0 s ≡ map RunFeed (together lists) ++ EndFeed ∷ []
   pub came : (i : ℕ) (marks : List Mark) → slice_get gathered i ≡ Some marks
       → EndsWith EndMark marks
   pub done : Bool

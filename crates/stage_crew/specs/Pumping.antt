@@ -1,10 +1,11 @@
 -- How far the runs of a feed were sent to the roots.
 use Rattle.std.specs.Prelude.{◌≡◌, ◌≤◌, Bool, true, false, List, [], ◌∷◌, ◌++◌, map, drop, length}
 use Rattle.la_base.specs.declared.samples.Run.{Run}
+use Rattle.la_base.specs.declared.wires.Feed.TheVariants.{Run as RunFeed}
 use Rattle.la_io.specs.Feeds.{together}
 use Rattle.la_io.specs.declared.feeds.RunFeed.{Ghosts as FeedGhosts}
+use Rattle.stage_run.specs.Inputs.{feeds_in, told_behind, telling}
 use Rattle.stage_run.specs.declared.input.Stretch.{Stretch}
-use Rattle.stage_crew.specs.Driving.{stretch_of, end_stretch}
 use Rattle.stage_crew.specs.Fans.{Fans}
 use Rattle.stage_crew.specs.declared.pump.Pump.{Pump}
 
@@ -18,9 +19,10 @@ end_if last false = []
 pub record Pumped (lists : List (List Run)) (held : List Run) (pump : Pump)
     (sents : List (List Stretch)) : Type 0 where
   pub fed : List Stretch
-  pub left : fed ++ map stretch_of (drop pump.at held) ≡ map stretch_of (together lists)
+  pub left : feeds_in 0 fed ++ map RunFeed (drop pump.at held) ≡ map RunFeed (together lists)
+  pub told : told_behind 0 fed ≡ pump.upper
   pub all : pump.said ≡ true → drop pump.at held ≡ []
-  pub fans : Fans sents pump.row pump.handed (fed ++ end_if end_stretch pump.said)
+  pub fans : Fans sents pump.row pump.handed (fed ++ end_if (telling pump.upper) pump.said)
 
 -- the place is one of these runs; and the end is told once no more runs are asked for
 pub record InPlace (held : List Run) (pump : Pump) : Type 0 where

@@ -6,6 +6,7 @@ ghost use Rattle.stage_crew.specs.Gathering.{Pauses};
 
 use crate::fan::{Handed, hand_out};
 use crate::row::SendRow;
+use la_base::high_half;
 use la_io::{MarkTake, RunFeed};
 use stage_ring::Tx;
 use stage_run::Stretch;
@@ -14,13 +15,14 @@ use stage_run::Stretch;
 const STEPS: u32 = 64;
 
 /// How far the runs of a feed were sent. `at` is the place of the next run that is to be put into
-/// the row, of those that the feed gave last; `over`: no more runs are asked for; `said`: the end
-/// is in the row, or was sent.
+/// the row, of those that the feed gave last; `upper`: the upper half of the lines that was told;
+/// `over`: no more runs are asked for; `said`: the end is in the row, or was sent.
 #[derive(Drop)]
 pub(crate) struct Pump {
     pub(crate) row: SendRow,
     pub(crate) handed: Handed,
     pub(crate) at: usize,
+    pub(crate) upper: u64,
     pub(crate) over: bool,
     pub(crate) said: bool,
     ghost within: { handed.given ≤ length row },
@@ -33,13 +35,14 @@ impl Pump {
     /// Nothing was put into the row yet. `at` is how many runs the feed gave before.
     pub(crate) fn new(at: usize) -> Pump
         ensures row { (result.row ≡ []) × (result.handed.child ≡ 0) × (result.handed.given ≡ 0) }
-        ensures at { result.at ≡ at }
+        ensures at { (result.at ≡ at) × (result.upper ≡ 0) }
         ensures going { (result.over ≡ false) × (result.said ≡ false) }
     {
         Pump {
             row: SendRow::new(),
             handed: Handed { child: 0, given: 0 },
             at,
+            upper: 0,
             over: false,
             said: false,
         }
@@ -69,7 +72,8 @@ impl Pump {
     /// Asks for no more runs, where it was stopped.
     pub(crate) fn stop(&mut self, stopped: bool)
         ensures row { (self.new.row ≡ self.old.row) × (self.new.handed ≡ self.old.handed) }
-        ensures place { (self.new.at ≡ self.old.at) × (self.new.said ≡ self.old.said) }
+        ensures place { (self.new.at ≡ self.old.at) × (self.new.said ≡ self.old.said)
+            × (self.new.upper ≡ self.old.upper) }
         ensures over { self.new.over ≡ (self.old.over || stopped) }
     {
         if stopped {
@@ -80,7 +84,7 @@ impl Pump {
     // Hands out of the row. Answers whether it could.
     fn hand_on(&mut self, feeds: &mut Vec<Tx<Stretch>>) -> bool
         ensures same { (self.new.at ≡ self.old.at) × (self.new.over ≡ self.old.over)
-            × (self.new.said ≡ self.old.said) }
+            × (self.new.said ≡ self.old.said) × (self.new.upper ≡ self.old.upper) }
         ensures links { map tx_link feeds.new.items ≡ map tx_link feeds.old.items }
         ensures fans { (all : List StretchIs)
             → Fans (map sent feeds.old.items) self.old.row self.old.handed all
@@ -97,8 +101,8 @@ impl Pump {
         now.child != was.child || now.given != was.given
     }
 
-    // Puts the next runs into the row, or the end, or asks the feed for more. Answers whether it
-    // did.
+    // Puts the next runs into the row, or what tells the upper half of their lines, or the end, or
+    // asks the feed for more. Answers whether it did.
     fn refill<F: RunFeed, G: MarkTake>(&mut self, feed: &mut F, take: &mut G, quiet: bool) -> bool
         requires place { InPlace (F.held feed.old) self.old }
         requires free { IsFree self.old }
@@ -108,13 +112,19 @@ impl Pump {
     {
         let runs = feed.runs();
         if self.at < runs.len() {
-            let count = self.row.fill(&runs[self.at..]);
+            let upper = high_half(runs[self.at].value);
+            if upper != self.upper {
+                self.upper = upper;
+                self.row.push(Stretch::telling(upper));
+                return true;
+            }
+            let count = self.row.fill(upper, &runs[self.at..]);
             self.at += count;
             return true;
         }
         if self.over {
             self.said = true;
-            self.row.push(Stretch { value: 0, len: 0 });
+            self.row.push(Stretch::telling(self.upper));
             return true;
         }
         if !may_read(feed, take, quiet) {

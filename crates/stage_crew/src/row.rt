@@ -1,9 +1,10 @@
 // A short row of stretches.
 ghost use Rattle.std.specs.Prelude.{◌≡◌, ◌≤◌, ◌<◌, ◌++◌, ◌∷◌, [], List, length, map, take};
 ghost use Rattle.stage_run.specs.declared.input.Stretch.{Stretch as StretchIs};
-ghost use Rattle.stage_crew.specs.Driving.{stretch_of};
+ghost use Rattle.stage_run.specs.Inputs.{stretch_of, upper_of};
+ghost use Rattle.std.specs.List.{All};
 
-use la_base::Run;
+use la_base::{Run, high_half};
 use stage_run::Stretch;
 use std::marker::Model;
 
@@ -29,7 +30,7 @@ impl SendRow {
         ensures { result ≡ [] }
     {
         SendRow {
-            room: [Stretch { value: 0, len: 0 }; ROOM],
+            room: [Stretch::telling(0); ROOM],
             count: 0,
         }
     }
@@ -60,30 +61,34 @@ impl SendRow {
         self.count = 0;
     }
 
-    /// Puts in the first of these runs, as many as there is room for, and answers how many.
-    pub(crate) fn fill(&mut self, runs: &[Run]) -> usize
+    /// Puts in the stretches of the first of these runs, as many as there is room for and have such
+    /// an upper half of their lines, and answers how many.
+    pub(crate) fn fill(&mut self, upper: u64, runs: &[Run]) -> usize
         requires { self.old ≡ [] }
         ensures within { result ≤ length runs.now }
         ensures row { self.new ≡ map stretch_of (take result runs.now) }
+        ensures upper { All (λ run. upper_of run ≡ upper) (take result runs.now) }
     {
-        self.count = first_stretches(&mut self.room, runs);
+        self.count = first_stretches(&mut self.room, upper, runs);
         self.count
     }
 }
 
-// The first of these runs, as many as there is room for, at the front of room for them; the answer
-// is how many.
-fn first_stretches(room: &mut [Stretch; ROOM], runs: &[Run]) -> usize
+// The stretches of the first of these runs, as many as there is room for and have such an upper half
+// of their lines, at the front of room for them; the answer is how many.
+fn first_stretches(room: &mut [Stretch; ROOM], upper: u64, runs: &[Run]) -> usize
     ensures within { (result ≤ length runs.now) × (result ≤ 128) }
     ensures len { length room.new ≡ 128 }
     ensures row { take result room.new ≡ map stretch_of (take result runs.now) }
+    ensures upper { All (λ run. upper_of run ≡ upper) (take result runs.now) }
 {
     let count = runs.len().min(ROOM);
     for place in 0..count {
         let run = runs[place];
-        let stretch = &mut room[place];
-        stretch.value = run.value;
-        stretch.len = run.len;
+        if high_half(run.value) != upper {
+            return place;
+        }
+        room[place] = Stretch::of(run);
     }
     count
 }

@@ -1,5 +1,6 @@
 mod Rows
 mod Lists
+pub mod Telling
 mod Coming
 mod Serving
 mod Counts

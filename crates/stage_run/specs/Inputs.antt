@@ -1,6 +1,8 @@
 -- What came on the link that a stage receives from.
-use Rattle.std.specs.Prelude.{ℕ, zero, suc, ◌≤◌, Bool, true, false, List, map}
+use Rattle.std.specs.Prelude.{ℕ, zero, suc, ◌≤◌, ◌+◌, ◌*◌, ◌/◌, ◌%◌, ◌^◌, Bool, true, false}
+use Rattle.std.specs.Prelude.{List, [], ◌∷◌, ◌++◌, length, nat_eq, if◌then◌else◌}
 use Rattle.std.proofs.Common.{arith}
+use Rattle.la_base.specs.declared.samples.Run.{Run}
 use Rattle.la_base.specs.declared.wires.Feed.{Feed}
 use Rattle.la_base.specs.declared.wires.Feed.TheVariants.{Run as RunFeed, End as EndFeed}
 use Rattle.stage_ring.specs.Link.{Link, rx_link, received, rx_misses}
@@ -11,15 +13,47 @@ use Rattle.stage_run.specs.declared.input.Input.TheVariants.{Samples, Packets}
 pub at_least_one : (n : ℕ) → 1 ≤ suc n
 at_least_one n = omega arith
 
--- a run of so many samples; none is the end
-abbrev pub feed_by : ℕ → ℕ → Feed
-feed_by value zero = EndFeed
-feed_by value (suc n) =
-    RunFeed (record { value = value; len = suc n; not_empty = at_least_one n })
+-- the upper half of the lines of a run
+abbrev pub upper_of : Run → ℕ
+upper_of run = run.value / 2 ^ 64
 
--- a stretch as a feed
-abbrev pub feed_of : Stretch → Feed
-feed_of stretch = feed_by stretch.value stretch.len
+-- a run as a stretch, where that was told
+abbrev pub stretch_of : Run → Stretch
+stretch_of run = record { value = run.value % 2 ^ 64; len = run.len }
+
+-- what tells such an upper half, or the end
+abbrev pub telling : ℕ → Stretch
+telling upper = record { value = upper; len = 0 }
+
+-- both halves of the lines
+abbrev pub whole_value : ℕ → ℕ → ℕ
+whole_value upper lower = upper * 2 ^ 64 + lower
+
+-- the upper half of the lines that is told behind a stretch of so many samples
+abbrev pub upper_by : ℕ → ℕ → ℕ → ℕ
+upper_by upper value zero = value
+upper_by upper value (suc n) = upper
+
+-- the same behind several
+abbrev pub told_behind : ℕ → List Stretch → ℕ
+told_behind upper [] = upper
+told_behind upper (s ∷ others) = told_behind (upper_by upper s.value s.len) others
+
+-- what a stretch means, where the upper half of the lines was told: a run of so many samples; with
+-- none it is the end, where it tells the same, and else nothing by itself
+abbrev pub feeds_by : ℕ → ℕ → ℕ → List Feed
+feeds_by upper value zero = if nat_eq value upper then EndFeed ∷ [] else []
+feeds_by upper value (suc n) = RunFeed (record {
+  value = whole_value upper value;
+  len = suc n;
+  not_empty = at_least_one n;
+}) ∷ []
+
+-- what several mean
+abbrev pub feeds_in : ℕ → List Stretch → List Feed
+feeds_in upper [] = []
+feeds_in upper (s ∷ others) =
+    feeds_by upper s.value s.len ++ feeds_in (upper_by upper s.value s.len) others
 
 abbrev pub input_link : Input → Link
 input_link (Samples rx) = rx_link rx
@@ -32,8 +66,18 @@ reads_samples (Packets rx) = false
 
 -- what came
 abbrev pub came : Input → List Feed
-came (Samples rx) = map feed_of (received rx)
+came (Samples rx) = feeds_in 0 (received rx)
 came (Packets rx) = received rx
+
+-- how many items were received
+abbrev pub taken : Input → ℕ
+taken (Samples rx) = length (received rx)
+taken (Packets rx) = length (received rx)
+
+-- the upper half of the lines that was told
+abbrev pub told_on : Input → ℕ
+told_on (Samples rx) = told_behind 0 (received rx)
+told_on (Packets rx) = 0
 
 -- how often nothing was there
 abbrev pub input_misses : Input → ℕ

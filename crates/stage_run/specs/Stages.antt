@@ -16,7 +16,7 @@ use Rattle.stack_laws.specs.Rests.{near_behind, whole_behind}
 use Rattle.stage_ring.specs.Link.{Link, sent, tx_link}
 use Rattle.stage_run.specs.Boxes.{SameSent, children_of, given_by, missed_by, received_of, told_of}
 use Rattle.stage_run.specs.Boxes.{is_empty, waiting_of}
-use Rattle.stage_run.specs.Inputs.{came, input_link, input_misses, reads_samples}
+use Rattle.stage_run.specs.Inputs.{came, input_link, input_misses, reads_samples, taken}
 use Rattle.stage_run.specs.declared.input.Input.{Input}
 use Rattle.stage_run.specs.declared.outbox.Outbox.{Outbox}
 use Rattle.stage_run.specs.declared.stage.Stage.{Stage}
@@ -85,7 +85,7 @@ module _ {M : Type 0} where
 
   -- how many things it has taken and given
   abbrev pub passed : Stage M → ℕ
-  passed s = given_by s.outbox + length (received_of s.inbox)
+  passed s = given_by s.outbox + taken s.inbox.input
 
   -- the misses of all its ends together
   abbrev pub missed : Stage M → ℕ

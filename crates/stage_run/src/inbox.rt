@@ -7,7 +7,8 @@ ghost use Rattle.la_base.specs.declared.wires.Feed.{Feed as FeedIs};
 ghost use Rattle.stack_laws.specs.Links.{some};
 ghost use Rattle.stack_laws.specs.Feeds.{ends_feed, items_in};
 ghost use Rattle.stage_ring.specs.Link.{more_if};
-ghost use Rattle.stage_run.specs.Inputs.{came, feed_of, input_link, input_misses, reads_samples};
+ghost use Rattle.stage_run.specs.Inputs.{came, feeds_in, input_link, input_misses, reads_samples};
+ghost use Rattle.stage_run.specs.Inputs.{taken, told_behind, told_on};
 ghost use Rattle.stage_run.specs.Rows.{none_kept, waiting};
 
 use crate::input::{Input, Stretch};
@@ -21,45 +22,54 @@ pub(crate) struct Inbox {
     stretches: Row<Stretch>,
     pub(crate) runs: Row<Run>,
     pub(crate) feeds: Row<Feed>,
+    // the upper half of the lines that the stretches told
+    upper: u64,
     // the end has come
     pub(crate) over: bool,
+    ghost told: { upper ≡ told_on input },
 }
 
 // Puts stretches as runs into a row, in place of what it had, and answers whether the end is among
-// them: one after another.
-fn put_each(runs: &mut Row<Run>, stretches: &[Stretch]) -> bool
+// them: one after another. `upper` is the upper half of the lines that was told.
+fn put_each(runs: &mut Row<Run>, upper: &mut u64, stretches: &[Stretch]) -> bool
     requires { length stretches.now ≤ 64 }
     ensures start { runs.new.at ≡ 0 }
-    ensures items { map Sample (samples_of runs.new.list) ≡ items_in (map feed_of stretches.now) }
-    ensures ends { result ≡ true → some ends_feed (map feed_of stretches.now) ≡ true }
+    ensures items { map Sample (samples_of runs.new.list)
+        ≡ items_in (feeds_in upper.old stretches.now) }
+    ensures upper { upper.new ≡ told_behind upper.old stretches.now }
+    ensures ends { result ≡ true → some ends_feed (feeds_in upper.old stretches.now) ≡ true }
 {
     let mut ended = false;
     runs.clear();
     for stretch in stretches {
         if stretch.len > 0 {
             runs.push(Run {
-                value: stretch.value,
+                value: stretch.whole(*upper),
                 len: stretch.len,
             });
-        } else {
+        } else if stretch.value == *upper {
             ended = true;
+        } else {
+            *upper = stretch.value;
         }
     }
     ended
 }
 
-// The same, by one look at each where no end is among them, as mostly.
+// The same, by one look at each where each has samples, as mostly.
 #[inline]
-fn put_runs(runs: &mut Row<Run>, stretches: &[Stretch]) -> bool
+fn put_runs(runs: &mut Row<Run>, upper: &mut u64, stretches: &[Stretch]) -> bool
     requires { length stretches.now ≤ 64 }
     ensures start { runs.new.at ≡ 0 }
-    ensures items { map Sample (samples_of runs.new.list) ≡ items_in (map feed_of stretches.now) }
-    ensures ends { result ≡ true → some ends_feed (map feed_of stretches.now) ≡ true }
+    ensures items { map Sample (samples_of runs.new.list)
+        ≡ items_in (feeds_in upper.old stretches.now) }
+    ensures upper { upper.new ≡ told_behind upper.old stretches.now }
+    ensures ends { result ≡ true → some ends_feed (feeds_in upper.old stretches.now) ≡ true }
 {
-    if runs.put(stretches) {
+    if runs.put(*upper, stretches) {
         return false;
     }
-    put_each(runs, stretches)
+    put_each(runs, upper, stretches)
 }
 
 // Whether the last of some feeds is the end.
@@ -87,15 +97,17 @@ impl Inbox {
 
     /// Nothing was received yet.
     pub(crate) fn new(input: Input) -> Inbox
+        requires { taken input ≡ 0 }
         ensures input { result.input ≡ input }
         ensures none { waiting_of result ≡ [] }
         ensures open { result.over ≡ false }
     {
         Inbox {
             input,
-            stretches: Row::new(Stretch { value: 0, len: 0 }),
+            stretches: Row::new(Stretch::telling(0)),
             runs: Row::new(Run { value: 0, len: 1 }),
             feeds: Row::new(Feed::End),
+            upper: 0,
             over: false,
         }
     }
@@ -113,7 +125,8 @@ impl Inbox {
         requires { is_idle self.old ≡ true }
         ensures link { (input_link self.new.input ≡ input_link self.old.input)
             × (reads_samples self.new.input ≡ reads_samples self.old.input) }
-        ensures came { (more : List FeedIs) × (length more ≡ result) × (length more ≤ 64)
+        ensures count { taken self.new.input ≡ taken self.old.input + result }
+        ensures came { (more : List FeedIs) × (length more ≤ 64)
             × (came self.new.input ≡ came self.old.input ++ more)
             × (waiting_of self.new ≡ items_in more)
             × (self.new.over ≡ true → some ends_feed more ≡ true) }
@@ -123,7 +136,7 @@ impl Inbox {
         match &mut self.input {
             Input::Samples(from) => {
                 let count = self.stretches.fill(from);
-                self.over = put_runs(&mut self.runs, self.stretches.waiting());
+                self.over = put_runs(&mut self.runs, &mut self.upper, self.stretches.waiting());
                 count
             }
             Input::Packets(from) => {

@@ -1,13 +1,49 @@
 // What a stage receives: stretches of samples, or packets.
-use la_base::{Feed, Word};
+use la_base::{Feed, HALF_BITS, Run, Word, low_half};
 use stage_ring::Rx;
 
-/// `len` samples in a row, each `value`; none is the end. On a link it takes less room than a
-/// `Feed`.
+/// What a link to a stage that stands on nothing carries: `len` samples in a row, all alike, with
+/// `value` on the lower half of their lines, and on the upper half what was told last, 0 at first.
+/// A stretch of no samples tells the upper half of those behind it; it is the end where that was
+/// told already. So a run takes half the room that its whole value would, and mostly one item.
 #[derive(Clone, Copy, Debug, PartialEq, Eq)]
 pub struct Stretch {
-    pub value: Word,
+    pub value: u64,
     pub len: u64,
+}
+
+impl Stretch {
+    ghost use Rattle.std.specs.Prelude.{◌≡◌};
+    ghost use Rattle.stage_run.specs.Inputs.{stretch_of, telling, whole_value};
+
+    /// The stretch of a run, where the upper half of its lines was told.
+    #[inline(always)]
+    pub fn of(run: Run) -> Stretch
+        ensures { result ≡ stretch_of run }
+    {
+        Stretch {
+            value: low_half(run.value),
+            len: run.len,
+        }
+    }
+
+    /// Tells the upper half of the lines; or the end, where that was told already.
+    pub fn telling(upper: u64) -> Stretch
+        ensures { result ≡ telling upper }
+    {
+        Stretch {
+            value: upper,
+            len: 0,
+        }
+    }
+
+    /// The value of its samples.
+    #[inline(always)]
+    pub(crate) fn whole(self, upper: u64) -> Word
+        ensures { result ≡ whole_value upper self.value }
+    {
+        upper as Word * (1 << HALF_BITS) + self.value as Word
+    }
 }
 
 /// The end of a link that a stage receives from.

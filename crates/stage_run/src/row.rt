@@ -5,7 +5,7 @@ ghost use Rattle.la_base.specs.Runs.{samples_of};
 ghost use Rattle.decoder_core.specs.Inputs.{Sample};
 ghost use Rattle.stack_laws.specs.Feeds.{items_in};
 ghost use Rattle.stage_ring.specs.Link.{received, rx_link, rx_misses, more_if};
-ghost use Rattle.stage_run.specs.Inputs.{feed_of};
+ghost use Rattle.stage_run.specs.Inputs.{feeds_in, told_behind};
 ghost use Rattle.stage_run.specs.Rows.{Kept, none_kept, waiting, with_left};
 
 use crate::input::Stretch;
@@ -143,17 +143,18 @@ impl<T: Copy + Send> Row<T> {
 
 impl Row<Run> {
     /// Puts in the runs of these stretches, in place of what it had, and answers whether it could.
-    /// It can't where one of them is the end.
+    /// It can't where one of them has no samples. `upper` is the upper half of all their lines.
     #[inline]
-    pub(crate) fn put(&mut self, stretches: &[Stretch]) -> bool
+    pub(crate) fn put(&mut self, upper: u64, stretches: &[Stretch]) -> bool
         requires { length stretches.now ≤ 64 }
         ensures start { result ≡ true → self.new.at ≡ 0 }
-        ensures items { result ≡ true
-            → map Sample (samples_of self.new.list) ≡ items_in (map feed_of stretches.now) }
+        ensures items { result ≡ true → map Sample (samples_of self.new.list)
+            ≡ items_in (feeds_in upper stretches.now) }
+        ensures upper { result ≡ true → told_behind upper stretches.now ≡ upper }
     {
         self.at = 0;
         self.count = 0;
-        if !all_runs(&mut self.room, stretches) {
+        if !all_runs(&mut self.room, upper, stretches) {
             return false;
         }
         self.count = stretches.len();
@@ -161,14 +162,15 @@ impl Row<Run> {
     }
 }
 
-// The runs of stretches, at the front of room for them; the answer is whether none of them is the
-// end. Behind an end nothing is put.
+// The runs of stretches, at the front of room for them; the answer is whether each has samples.
+// Behind one that has none nothing is put.
 #[inline]
-fn all_runs(room: &mut [Run; ROOM], stretches: &[Stretch]) -> bool
+fn all_runs(room: &mut [Run; ROOM], upper: u64, stretches: &[Stretch]) -> bool
     requires { length stretches.now ≤ 64 }
     ensures len { length room.new ≡ 64 }
     ensures items { result ≡ true → map Sample (samples_of (take (length stretches.now) room.new))
-        ≡ items_in (map feed_of stretches.now) }
+        ≡ items_in (feeds_in upper stretches.now) }
+    ensures upper { result ≡ true → told_behind upper stretches.now ≡ upper }
 {
     for place in 0..stretches.len() {
         let stretch = stretches[place];
@@ -176,7 +178,7 @@ fn all_runs(room: &mut [Run; ROOM], stretches: &[Stretch]) -> bool
             return false;
         }
         let run = &mut room[place];
-        run.value = stretch.value;
+        run.value = stretch.whole(upper);
         run.len = stretch.len;
     }
     true

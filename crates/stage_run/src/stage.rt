@@ -6,7 +6,7 @@ ghost use Rattle.decoder_core.specs.Inputs.{Item};
 ghost use Rattle.stage_ring.specs.Link.{sent, tx_link};
 ghost use Rattle.stage_run.specs.Acts.{Acts, Goings};
 ghost use Rattle.stage_run.specs.Boxes.{HasRoom, IsFresh, SameSent, is_empty, is_idle};
-ghost use Rattle.stage_run.specs.Inputs.{came, input_link, reads_samples};
+ghost use Rattle.stage_run.specs.Inputs.{input_link, reads_samples, taken};
 ghost use Rattle.stage_run.specs.Rows.{waiting};
 
 use crate::inbox::Inbox;
@@ -270,7 +270,7 @@ impl<M: Machine> Stage<M> {
 
     /// A stage that has received and given nothing, of a machine that may have consumed an input.
     pub fn open(machine: M, input: Input, children: Vec<Tx<Feed>>, marks: Tx<Mark>) -> Stage<M>
-        requires ends { (came input ≡ []) × (sent marks ≡ [])
+        requires ends { (taken input ≡ 0) × (sent marks ≡ [])
             × All (λ child. sent child ≡ []) children.items }
         ensures links { links result ≡ record {
           input = input_link input;

@@ -1,12 +1,17 @@
-use Rattle.std.proofs.Common.{◌∙◌, ap, arith}
+use Rattle.std.proofs.Common.{◌∙◌, ap, arith, sym}
 use Rattle.std.proofs.lemmas.List.{length-set}
-use Rattle.la_base.specs.declared.samples.Run.{Run}
-use Rattle.stage_crew.proofs.Pumping.{row_next}
+use Rattle.stage_run.specs.Inputs.{stretch_of, upper_of}
+use Rattle.stage_crew.proofs.Pumping.{row_next, uppers_next}
 use Rattle.stage_crew.proofs.row.first_stretches.Goals as goal
 
 pub loop-place-preserved : goal.loop-place-preserved
 loop-place-preserved c =
+    let runs = c.args.runs.now in
+    let i = c.loop-place.place in
     let run = c.index-runs-place.result in
     let is = c.index-runs-place.is in
-    let had = c.loop-place.invariant in
-    (length-set c.loop-place.room c.loop-place.place _ ∙ had.0, row_next c.args.runs.now c.loop-place.place run c.loop-place.room _ (omega arith) (omega arith) (ap (λ (r : Run). r.value) is) (ap (λ (r : Run). r.len) is) had.1)
+    let had = c.loop-place.invariant in (
+      length-set c.loop-place.room i _ ∙ had.0,
+      row_next runs i run c.loop-place.room _ (omega arith) (omega arith) (c.of.ensures ∙ ap stretch_of is) had.1,
+      uppers_next c.args.upper runs i run (omega arith) (ap upper_of (sym is) ∙ sym c.high_half.ensures ∙ c.if-high_half-upper.false) had.2,
+    )

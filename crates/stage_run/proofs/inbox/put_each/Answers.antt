@@ -1,20 +1,23 @@
-use Rattle.std.proofs.Common.{◌∙◌, List, length, map, ap, sym, refl, arith}
+use Rattle.std.proofs.Common.{◌≡◌, ◌∙◌, get_or, List, length, map, ap, sym, refl, arith}
 use Rattle.la_base.specs.Runs.{samples_of}
 use Rattle.la_base.specs.declared.samples.Run.{Run}
 use Rattle.decoder_core.specs.Inputs.{Sample}
 use Rattle.stage_run.specs.Rows.{Kept}
 use Rattle.stage_run.specs.declared.input.Stretch.{Stretch}
-use Rattle.stage_run.proofs.Coming.{ended_ends, ended_items, pushed_ends, pushed_few, pushed_items}
+use Rattle.stage_run.proofs.Coming.{ended_ends, ended_items, ended_told, pushed_ends, pushed_few, pushed_items, pushed_told}
 use Rattle.stage_run.proofs.inbox.put_each.Goals as goal
-use Rattle.stage_run.proofs.inbox.put_each.Goals.{then-stretch-gt0, else-stretch-gt0}
+use Rattle.stage_run.proofs.inbox.put_each.Goals.{then-stretch-gt0, else-stretch-gt0+then-stretch-upper, else-stretch-gt0+else-stretch-upper}
 
 pub loop-stretch-preserved : goal.loop-stretch-preserved
 loop-stretch-preserved c =
+    let first = c.args.upper.now in
     let xs = c.args.stretches.now in
     let i = c.loop-stretch.stretch-index in
     let none : Stretch = record { value = 0; len = 0 } in
     let had = c.loop-stretch.invariant in
     let old = c.loop-stretch.runs in
+    let now = c.loop-stretch.upper in
+    let low = c.loop-stretch-test.true in
     elim c.if-stretch-gt0.branch [
       | then-stretch-gt0 w ↦ (
           let is = w.runs-is ∙ w.push.ensures in
@@ -22,15 +25,29 @@ loop-stretch-preserved c =
           record {
             start = ap (λ (r : Kept Run). r.at) is ∙ had.start;
             few = pushed_few _ old.list _ i list had.few;
-            items = ap (λ (l : List Run). map Sample (samples_of l)) list ∙ pushed_items xs i none c.loop-stretch-test.true old.list _ refl refl had.items;
-            ends = λ e. pushed_ends xs i none c.loop-stretch-test.true w.if-stretch-gt0.true (had.ends (sym w.ended-is ∙ e));
+            items = ap (λ (l : List Run). map Sample (samples_of l)) list ∙ pushed_items first xs i none low now old.list _ had.told w.whole.ensures refl had.items;
+            told = w.upper-is ∙ pushed_told first xs i none low now had.told w.if-stretch-gt0.true;
+            ends = λ e. pushed_ends first xs i none low (had.ends (sym w.ended-is ∙ e));
           })
-      | else-stretch-gt0 w ↦ (
+      | else-stretch-gt0+then-stretch-upper w ↦ (
           let zero_len = w.if-stretch-gt0.false in
+          let none_len : (get_or xs i none).len ≡ 0 = omega (arith, zero_len) in
+          let same = w.if-stretch-upper.true in
           record {
             start = ap (λ (r : Kept Run). r.at) w.runs-is ∙ had.start;
             few = omega (arith, ap (λ (r : Kept Run). length r.list) w.runs-is, had.few);
-            items = ap (λ (r : Kept Run). map Sample (samples_of r.list)) w.runs-is ∙ ended_items xs i none c.loop-stretch-test.true (omega (arith, zero_len)) old.list had.items;
-            ends = λ e. ended_ends xs i none c.loop-stretch-test.true (omega (arith, zero_len));
+            items = ap (λ (r : Kept Run). map Sample (samples_of r.list)) w.runs-is ∙ ended_items first xs i none low none_len old.list had.items;
+            told = w.upper-is ∙ sym same ∙ ended_told first xs i none low none_len;
+            ends = λ e. ended_ends first xs i none low now had.told none_len same;
+          })
+      | else-stretch-gt0+else-stretch-upper w ↦ (
+          let zero_len = w.if-stretch-gt0.false in
+          let none_len : (get_or xs i none).len ≡ 0 = omega (arith, zero_len) in
+          record {
+            start = ap (λ (r : Kept Run). r.at) w.runs-is ∙ had.start;
+            few = omega (arith, ap (λ (r : Kept Run). length r.list) w.runs-is, had.few);
+            items = ap (λ (r : Kept Run). map Sample (samples_of r.list)) w.runs-is ∙ ended_items first xs i none low none_len old.list had.items;
+            told = w.upper-is ∙ ended_told first xs i none low none_len;
+            ends = λ e. pushed_ends first xs i none low (had.ends (sym w.ended-is ∙ e));
           })
     ]

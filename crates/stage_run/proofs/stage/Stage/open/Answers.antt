@@ -1,12 +1,13 @@
 use Rattle.std.proofs.Common.{◌≡◌, ◌∙◌, false, true, refl, sym, ap, subst}
 use Rattle.std.proofs.lemmas.List.{append-nil}
 use Rattle.stage_run.specs.Inputs.{came}
+use Rattle.stage_run.proofs.Coming.{none_came}
 use Rattle.stage_run.proofs.Ending.{opened_children, opened_told}
 use Rattle.stage_run.proofs.stage.Stage.«open».Goals as goal
 
 pub returns-clause-means : goal.returns-clause-means
 returns-clause-means g c = λ start stands. record {
-  received = sym (ap came c.new.ensures.input ∙ c.requires.ends.0);
+  received = sym (ap came c.new.ensures.input ∙ (none_came c.args.input c.requires.ends.0).0);
   stands = subst (g.M.Machine.consumed c.args.machine) (sym (append-nil start)) stands;
   left = sym c.new.ensures.none;
   over = λ over. let no : false ≡ true = sym c.new.ensures.«open» ∙ over in absurd cc;
