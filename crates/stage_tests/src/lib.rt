@@ -14,3 +14,5 @@ mod threads;
 mod trees;
 #[cfg(test)]
 mod turns;
+#[cfg(test)]
+mod wide;

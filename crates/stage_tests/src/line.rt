@@ -18,8 +18,13 @@ pub const RATE: Rate = Rate {
 pub const SILENCE: u64 = 8_000;
 
 pub fn opened_line() -> Result<Driver<Uart>, Fail> {
+    opened_line_on(0)
+}
+
+/// The same on another line of the samples.
+pub fn opened_line_on(rx: u32) -> Result<Driver<Uart>, Fail> {
     let opts = UartOpts {
-        rx: 0,
+        rx,
         baud: 1_000_000,
         bits: 8,
         parity: 0,
@@ -68,16 +73,13 @@ pub fn runs_of(alloc: Global, bytes: &[u8]) -> Result<Vec<Run>, AllocError> {
     Ok(runs)
 }
 
-/// Runs as stretches, and the end.
+/// Runs of which no upper half of the lines is high, as stretches, and the end.
 pub fn stretches_of(alloc: Global, runs: &[Run]) -> Result<Vec<Stretch>, AllocError> {
     let mut stretches = Vec::new(alloc);
     for run in runs {
-        stretches.push(Stretch {
-            value: run.value,
-            len: run.len,
-        })?;
+        stretches.push(Stretch::of(*run))?;
     }
-    stretches.push(Stretch { value: 0, len: 0 })?;
+    stretches.push(Stretch::telling(0))?;
     Ok(stretches)
 }
 

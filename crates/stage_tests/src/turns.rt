@@ -36,7 +36,7 @@ fn a_stage_waits_moves_and_ends(rt: HostRuntime) -> Result<(), Fail> {
     assert!(rt; !stage.is_over() && stage.turn(1) == Turn::Moved);
     assert!(rt; matches!(marks.take(), Some(Mark::Floor(_))));
     assert!(rt; !stage.is_over() && stage.turn(9) == Turn::Idle && stage.misses() == 2);
-    assert!(rt; feeds.offer(Stretch { value: 0, len: 0 }).is_ok());
+    assert!(rt; feeds.offer(Stretch::telling(0)).is_ok());
     assert!(rt; !stage.is_over() && stage.turn(9) == Turn::Ended && stage.is_over());
     assert!(rt; matches!(marks.take(), Some(Mark::End)) && marks.take().is_none());
     assert!(rt; packets.take() == Some(Feed::End) && packets.take().is_none());
