@@ -12,8 +12,8 @@ import subprocess
 import sys
 import tempfile
 
-from decode import LDECODE
-from threads import BUS, PROGRAM
+from program import built
+from threads import BUS
 
 HERE = os.path.dirname(os.path.abspath(__file__))
 
@@ -71,7 +71,7 @@ def run(words, path, library, number):
     environment = dict(os.environ, LD_PRELOAD=library, REFUSED=str(number), REFUSED_FILE=str(write))
     with open(path, "rb") as capture:
         done = subprocess.run(
-            [PROGRAM, *words], stdin=capture, capture_output=True, env=environment, pass_fds=[write], timeout=60
+            [built(), *words], stdin=capture, capture_output=True, env=environment, pass_fds=[write], timeout=60
         )
     os.close(write)
     refused = os.read(read, 1) == b"x"
@@ -80,7 +80,7 @@ def run(words, path, library, number):
 
 
 def main():
-    subprocess.run([LDECODE, BUS], stdin=subprocess.DEVNULL, check=True)
+    built()
     with tempfile.TemporaryDirectory() as folder:
         source, library = os.path.join(folder, "refuse.c"), os.path.join(folder, "refuse.so")
         with open(source, "w", encoding="utf-8") as file:

@@ -13,23 +13,17 @@ the device's, in hexadecimal: 50, an EEPROM of one address byte, or 68, a clock,
 """
 import sys
 
-from decode import draws
+from buses import I2c, draws
 
 
 def samples(segments):
     """The samples of one transaction: segments of bytes, each with whether it is acknowledged."""
-    clock, data = [1] * 4, [1, 1, 0, 0]
-    for number, segment in enumerate(segments):
-        if number > 0:
-            clock += [0, 0, 1, 1, 1, 1]
-            data += [1, 1, 1, 1, 0, 0]
-        for byte, acknowledged in segment:
-            for bit in [byte >> place & 1 for place in range(7, -1, -1)] + [0 if acknowledged else 1]:
-                clock += [0, 0, 1, 1]
-                data += [bit] * 4
-    clock += [0, 0] + [1] * 6
-    data += [0] * 4 + [1] * 4
-    return bytes(c | d << 1 for c, d in zip(clock, data))
+    bus = I2c(late=0, low=2, high=2)
+    bus.hold(1, 2)
+    for segment in segments:
+        bus.segment(segment)
+    bus.stop(4)
+    return bytes(bus.samples)
 
 
 def transaction(address, kind, place, one, other):

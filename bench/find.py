@@ -17,10 +17,9 @@ import random
 import subprocess
 import sys
 import tempfile
-import time
 
-TOP = os.path.dirname(os.path.dirname(os.path.abspath(__file__)))
-LDECODE = os.path.join(TOP, "bin", "ldecode")
+from program import built, seconds
+
 BLOCK = 1 << 20
 
 
@@ -41,23 +40,17 @@ def make(path, kind, size):
             written += len(piece)
 
 
-def seconds(command):
-    start = time.perf_counter()
-    subprocess.run(command, shell=True, check=True, stdout=subprocess.DEVNULL)
-    return time.perf_counter() - start
-
-
 def main():
     megabytes = int(sys.argv[1]) if len(sys.argv) > 1 else 64
-    subprocess.run([LDECODE, "--job", "find", "D0=h"], stdin=subprocess.DEVNULL, check=True)
+    program = built()
     with tempfile.TemporaryDirectory() as folder:
         for kind, word in (("runs", "D0=r"), ("others", "D7=h"), ("noise", "D0=s")):
             path = os.path.join(folder, kind)
             make(path, kind, megabytes * BLOCK)
             plain, found = [], []
             for _ in range(5):
-                plain.append(seconds(f"cat {path} | wc -c"))
-                found.append(seconds(f"{LDECODE} --job find {word} < {path}"))
+                plain.append(seconds(f"cat {path} | wc -c", stdout=subprocess.DEVNULL))
+                found.append(seconds(f"{program} --job find {word} < {path}", stdout=subprocess.DEVNULL))
             ratio = min(found) / min(plain)
             print(f"{kind:6} cat {min(plain):.3f} s, ldecode {min(found):.3f} s: {ratio:.1f} times")
 

@@ -19,38 +19,7 @@ changes one sample behind the fall of SCL.
 """
 import sys
 
-SCL, SDA = 1, 2
-
-
-class Bus:
-    def __init__(self):
-        self.samples = bytearray()
-        self.data = 1
-
-    def hold(self, clock, count):
-        self.samples += bytes([clock * SCL | self.data * SDA]) * count
-
-    def bit(self, value):
-        self.hold(0, 1)
-        self.data = value
-        self.hold(0, 3)
-        self.hold(1, 4)
-
-    def byte(self, value, acknowledged):
-        for place in range(7, -1, -1):
-            self.bit(value >> place & 1)
-        self.bit(0 if acknowledged else 1)
-
-    def start(self):
-        if not self.samples or self.samples[-1] & SCL == 0:
-            self.bit(1)
-        self.data = 0
-        self.hold(1, 4)
-
-    def stop(self):
-        self.bit(0)
-        self.data = 1
-        self.hold(1, 12)
+from buses import I2c
 
 
 def address(text):
@@ -64,23 +33,22 @@ def address(text):
     return [int(text, 16)]
 
 
-def send(bus, transaction):
-    for segment in transaction.split("/"):
-        head, *data = segment.split(",")
-        values = address(head) + [int(byte, 16) for byte in data]
-        bus.start()
-        for place, value in enumerate(values):
-            last_read = values[0] & 1 and place > 0 and place == len(values) - 1
-            bus.byte(value, not last_read)
-        bus.hold(0, 1)
-    bus.stop()
+def sent(segment):
+    """The bytes of a segment, each with whether it is acknowledged."""
+    head, *data = segment.split(",")
+    values = address(head) + [int(byte, 16) for byte in data]
+    for place, value in enumerate(values):
+        last_read = values[0] & 1 and place > 0 and place == len(values) - 1
+        yield value, not last_read
 
 
 def main():
-    bus = Bus()
+    bus = I2c(late=1, low=4, high=4)
     bus.hold(1, 12)
     for transaction in sys.argv[1:]:
-        send(bus, transaction)
+        for segment in transaction.split("/"):
+            bus.segment(sent(segment))
+        bus.stop(12)
     sys.stdout.buffer.write(bus.samples)
 
 

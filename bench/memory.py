@@ -10,7 +10,8 @@ and a serial line beside it. Exits with 1 where a run takes more than 12 MB.
 import subprocess
 import sys
 
-import decode
+from buses import LENGTH, made
+from program import built
 
 STACKS = [
     ["i2c:scl=D0:sda=D1"],
@@ -28,12 +29,8 @@ def most_resident(process):
 
 
 def kilobytes(words, count):
-    numbers = decode.draws(7)
-    part = bytearray()
-    for _ in range(1000):
-        address = 8 + next(numbers) % 112
-        part += decode.transaction(address, next(numbers), next(numbers), next(numbers))
-    run = subprocess.Popen([decode.LDECODE] + words, stdin=subprocess.PIPE, stdout=subprocess.DEVNULL)
+    part = b"".join(made(1000))
+    run = subprocess.Popen([built(), *words], stdin=subprocess.PIPE, stdout=subprocess.DEVNULL)
     for _ in range(count // 1000):
         run.stdin.write(part)
     run.stdin.flush()
@@ -51,7 +48,7 @@ def main():
         for count in counts:
             taken = kilobytes(words, count)
             most = max(most, taken)
-            print(f"{count * decode.LENGTH} samples, {' '.join(words)}: {taken / 1000:.1f} MB")
+            print(f"{count * LENGTH} samples, {' '.join(words)}: {taken / 1000:.1f} MB")
     if most > MOST:
         sys.exit(1)
 

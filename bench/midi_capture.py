@@ -11,7 +11,7 @@ each word.
 """
 import sys
 
-from uart_capture import bits_of, sampled
+from buses import bits_of, sampled
 
 RATE, BAUD = 1000000, 31250
 PAUSE = [1] * (BAUD // 1000)

@@ -13,7 +13,7 @@ stop bit at 19200 baud, and the bytes of a message follow one another without a 
 """
 import sys
 
-from uart_capture import bits_of, sampled
+from buses import bits_of, sampled
 
 RATE, BAUD = 1000000, 19200
 PAUSE = [1] * (5 * BAUD // 1000)

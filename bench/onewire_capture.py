@@ -12,39 +12,11 @@ each step the devices send their bits and the complements of these, and the mast
 """
 import sys
 
-
-class Line:
-    def __init__(self):
-        self.samples = bytearray(b"\1" * 10)
-
-    def hold(self, level, count):
-        self.samples += bytes([level]) * count
-
-    def reset(self):
-        for level, count in (0, 480), (1, 30), (0, 120), (1, 350):
-            self.hold(level, count)
-
-    def bit(self, value):
-        self.hold(0, 6 if value else 60)
-        self.hold(1, 64 if value else 10)
-
-    def byte(self, value):
-        for place in range(8):
-            self.bit(value >> place & 1)
-
-    def search(self, devices):
-        """The triples of a search that finds the first of these ROMs."""
-        taking_part = devices
-        for place in range(64):
-            bits = [rom[place // 8] >> place % 8 & 1 for rom in taking_part]
-            self.bit(all(bits))
-            self.bit(not any(bits))
-            self.bit(bits[0])
-            taking_part = [rom for rom, bit in zip(taking_part, bits) if bit == bits[0]]
+from buses import OneWire
 
 
 def main():
-    line = Line()
+    line = OneWire()
     for word in sys.argv[1:]:
         line.reset()
         sent, _, roms = word.partition(":")

@@ -13,19 +13,11 @@ import sys
 import threading
 import time
 
-import decode
+from buses import LENGTH, made
+from program import built
 
 COUNT = 200
 JOBS = [["i2c:scl=D0:sda=D1"], ["--job", "find", "D0=r"]]
-
-
-def capture():
-    numbers = decode.draws(7)
-    parts = []
-    for _ in range(COUNT):
-        address = 8 + next(numbers) % 112
-        parts.append(decode.transaction(address, next(numbers), next(numbers), next(numbers)))
-    return b"".join(parts)
 
 
 def collect(pipe, got):
@@ -37,11 +29,12 @@ def collect(pipe, got):
 
 
 def check(words, samples):
-    middle = len(samples) // 2 + decode.LENGTH // 2
-    before = middle - middle % decode.LENGTH
-    whole = subprocess.run([decode.LDECODE] + words, input=samples, capture_output=True, check=True).stdout
-    settled = subprocess.run([decode.LDECODE] + words, input=samples[:before], capture_output=True, check=True).stdout
-    run = subprocess.Popen([decode.LDECODE] + words, stdin=subprocess.PIPE, stdout=subprocess.PIPE)
+    middle = len(samples) // 2 + LENGTH // 2
+    before = middle - middle % LENGTH
+    command = [built(), *words]
+    whole = subprocess.run(command, input=samples, capture_output=True, check=True).stdout
+    settled = subprocess.run(command, input=samples[:before], capture_output=True, check=True).stdout
+    run = subprocess.Popen(command, stdin=subprocess.PIPE, stdout=subprocess.PIPE)
     got = bytearray()
     reader = threading.Thread(target=collect, args=(run.stdout, got))
     reader.start()
@@ -61,7 +54,7 @@ def check(words, samples):
 
 
 def main():
-    samples = capture()
+    samples = b"".join(made(COUNT))
     for words in JOBS:
         check(words, samples)
 

@@ -16,17 +16,16 @@ The busiest bus, a word for each sixteen samples with data on both lines:
 """
 import sys
 
-SELECT = 8
+from buses import SELECT, spi_transaction
 
 
-def transaction(word, half):
-    mosi, miso = (bytes.fromhex(part) for part in word.split(":"))
-    line = [0, 0]
-    for out, back in zip(mosi, miso, strict=True):
-        for place in range(7, -1, -1):
-            data = (out >> place & 1) << 1 | (back >> place & 1) << 2
-            line += [data] * half + [data | 1] * half
-    return line + [0, 0]
+def transactions(words, half, times):
+    """The samples of transactions, with a rest before each and behind the last."""
+    once = []
+    for word in words:
+        mosi, miso = (bytes.fromhex(part) for part in word.split(":"))
+        once += [SELECT] * 8 + spi_transaction(mosi, miso, half)
+    return bytes(once) * times + bytes([SELECT] * 8)
 
 
 def main():
@@ -36,10 +35,7 @@ def main():
     times = int(words.pop()) if len(words) > 1 and ":" not in words[-1] else 1
     if not words:
         sys.exit(__doc__)
-    once = []
-    for word in words:
-        once += [SELECT] * 8 + transaction(word, half)
-    sys.stdout.buffer.write(bytes(once) * times + bytes([SELECT] * 8))
+    sys.stdout.buffer.write(transactions(words, half, times))
 
 
 if __name__ == "__main__":

@@ -14,8 +14,8 @@ import sys
 import tempfile
 import time
 
-from decode import LDECODE
-from threads import PROGRAM, make
+from program import built
+from threads import make
 
 BUS = "i2c:scl=D0:sda=D1"
 STACKS = [
@@ -38,7 +38,7 @@ def main():
     runs = int(sys.argv[1]) if len(sys.argv) > 1 else 100
     draw = random.Random(7)
     cores = sorted(os.sched_getaffinity(0))
-    subprocess.run([LDECODE, BUS], stdin=subprocess.DEVNULL, check=True)
+    program = built()
     with tempfile.TemporaryDirectory() as folder:
         path = os.path.join(folder, "capture")
         make(path, TRANSACTIONS)
@@ -46,7 +46,7 @@ def main():
         for stack in STACKS:
             with open(path, "rb") as capture:
                 done = subprocess.run(
-                    [PROGRAM, "--threads", "no", *stack], stdin=capture, capture_output=True, check=True
+                    [program, "--threads", "no", *stack], stdin=capture, capture_output=True, check=True
                 )
             want.append(done.stdout)
         busy = [subprocess.Popen(["nice", "-n", str(NICE), "sh", "-c", "while :; do :; done"]) for _ in cores]
@@ -57,7 +57,7 @@ def main():
                 ring = draw.choice(RINGS)
                 some = draw.sample(cores, draw.randint(1, len(cores)))
                 command = ["taskset", "-c", ",".join(map(str, some)), "nice", "-n", str(draw.randint(0, NICE))]
-                command += [PROGRAM, "--ring", str(ring), *STACKS[place]]
+                command += [program, "--ring", str(ring), *STACKS[place]]
                 start = time.perf_counter()
                 with open(path, "rb") as capture:
                     done = subprocess.run(command, stdin=capture, capture_output=True, timeout=MOST_SECONDS)

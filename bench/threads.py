@@ -13,10 +13,9 @@ import sys
 import tempfile
 import time
 
-from decode import LDECODE, TOP, draws, transaction
+from buses import made
+from program import built
 
-# What `bin/ldecode` runs, once it is built.
-PROGRAM = os.path.join(TOP, "crates", "ldecode_main", "out", "ldecode_main")
 ROUNDS = 5
 BUS = "i2c:scl=D0:sda=D1"
 LOADS = [
@@ -30,12 +29,9 @@ LOADS = [
 
 def make(path, count):
     """Three equal buses, on D0 and D1, D3 and D4, D5 and D6."""
-    numbers = draws(7)
     spread = bytes((b & 7) | (b & 3) << 3 | (b & 3) << 5 for b in range(256))
     with open(path, "wb") as file:
-        for _ in range(count):
-            address = 8 + next(numbers) % 112
-            one = transaction(address, next(numbers), next(numbers), next(numbers))
+        for one in made(count):
             file.write(one.translate(spread))
 
 
@@ -44,7 +40,7 @@ def run(words, threads, path):
     with open(path, "rb") as capture:
         start = time.perf_counter()
         done = subprocess.run(
-            [PROGRAM, "--threads", threads, *words], stdin=capture, capture_output=True, check=True
+            [built(), "--threads", threads, *words], stdin=capture, capture_output=True, check=True
         )
         return time.perf_counter() - start, done.stdout
 
@@ -64,7 +60,7 @@ def compare(words, path):
 
 def main():
     count = int(sys.argv[1]) if len(sys.argv) > 1 else 100000
-    subprocess.run([LDECODE, BUS], stdin=subprocess.DEVNULL, check=True)
+    built()
     with tempfile.TemporaryDirectory() as folder:
         path = os.path.join(folder, "capture")
         make(path, count)

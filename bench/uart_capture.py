@@ -10,22 +10,7 @@ before and behind them.
 """
 import sys
 
-
-def bits_of(data):
-    """The levels of a line, bit by bit."""
-    for byte in data:
-        yield 0
-        for place in range(8):
-            yield byte >> place & 1
-        yield 1
-
-
-def sampled(levels, rate, baud):
-    """The samples of levels that each last a bit."""
-    line = bytearray()
-    for number, level in enumerate(levels, 1):
-        line += bytes([level]) * (number * rate // baud - len(line))
-    return bytes(line)
+from buses import bits_of, sampled
 
 
 def main():
