@@ -95,6 +95,11 @@ def quoted():
     return re.sub(rb"([^,\n]+)", rb'"\1"', piped("csv_capture.py"))
 
 
+def odd_quotes():
+    """A table in which each line has a quote inside a field, so that it isn't read in place."""
+    return b"D0,D1,D2\n" + b'""1,0,0\n""0,0,0\n' * 500
+
+
 def wide_dump():
     """64 channels, of which four change at each time."""
     codes = [chr(33 + number) for number in range(64)]
@@ -194,6 +199,7 @@ FIGURES = [
         None,
         TRANSACTIONS * 120,
     ),
+    ("a line with a quote inside a field", odd_quotes, ["--format", "csv", *find("D0=r")], None, 1000),
     (
         "a table without quotes, a sample",
         lambda: piped("csv_capture.py"),
@@ -213,7 +219,7 @@ def count(words, path):
 
 
 def alone(words):
-    return words if words[:2] == ["--job", "find"] else ["--threads", "no", *words]
+    return words if "find" in words else ["--threads", "no", *words]
 
 
 def figure(capture, words, without, units, folder):
