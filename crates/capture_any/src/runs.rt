@@ -1,6 +1,6 @@
 // Several runs at once.
 ghost use Rattle.std.specs.Prelude.{◌≡◌, ◌≤◌, ◌<◌, ◌+◌, ◌^◌, ◌∷◌, ◌++◌, [], List, length, take};
-ghost use Rattle.std.specs.Prelude.{true, false};
+ghost use Rattle.std.specs.Prelude.{true, false, get_or, replicate};
 ghost use Rattle.la_base.specs.Runs.{samples_of};
 ghost use Rattle.capture_raw.specs.Reader.{SameForm, raw_given, raw_open};
 ghost use Rattle.capture_any.specs.Taking.{RawGave};
@@ -70,6 +70,28 @@ impl Runs {
     {
         self.room[self.count] = run;
         self.count += 1;
+    }
+
+    // Lets go what is behind the first runs.
+    fn keep(&mut self, count: usize)
+        requires { count ≤ length self.old }
+        ensures few { length self.old ≤ 256 }
+        ensures kept { self.new ≡ take count self.old }
+    {
+        self.count = count;
+    }
+
+    /// Lets go what is behind the first `left` samples of the run at a place.
+    pub fn cut(&mut self, place: usize, left: u64)
+        requires { place < length self.old }
+        ensures { (d : Run) → samples_of self.new
+            ≡ samples_of (take place self.old) ++ replicate left (get_or self.old place d).value }
+    {
+        let value = self.list()[place].value;
+        self.keep(place);
+        if left > 0 {
+            self.push(Run { value, len: left });
+        }
     }
 
     /// Appends the runs that a raw reader has read already, as far as there is room.

@@ -1,1 +1,1 @@
-mod Resumes
+pub mod Resumes

@@ -52,14 +52,14 @@ module _ {M S : Type 0} (setup : M → S) where
     pub never_refused : (word : List ℕ) (instance : ℕ) (why : CheckWhy) → RefusedAs setup consumed saves word kinds old new instance why → (earlier : List ℕ)
         → IsCheckBehind setup outputs consumed saves kinds parents (map setup old) word earlier → ⊥
     never_refused word instance Many refused earlier b = refused
-    never_refused word instance Form refused earlier b = refused.2 (length earlier) b.check.all (b.bytes, b.word_is, b.check.check)
+    never_refused word instance Form refused earlier b = refused.2 (length earlier) b.on.check.all (b.bytes, b.word_is, b.on.check.check)
     never_refused word instance Fit refused earlier b =
-        let same = (one_word word kinds refused.0 (length earlier) refused.1 b.check.all refused.2 (b.bytes, b.word_is, b.check.check)).1 in
+        let same = (one_word word kinds refused.0 (length earlier) refused.1 b.on.check.all refused.2 (b.bytes, b.word_is, b.on.check.check)).1 in
         let within = refused.3 in
-        let lens : length b.machines ≡ length old = sym (length-map b.machines setup) ∙ ap length b.setups_are ∙ length-map old setup in
-        let d = some_of b.machines (omega (arith, within, lens, count)) in
-        refused.5 d (get_or b.machines instance d) (setup_at b.machines old b.setups_are instance d)
-        (subst (λ (l : List (List ℕ)). saves (get_or b.machines instance d) (get_or l instance [])) (sym same) (b.check.save.each instance d (omega (arith, within, lens, count))))
+        let lens : length b.on.machines ≡ length old = sym (length-map b.on.machines setup) ∙ ap length b.on.setups_are ∙ length-map old setup in
+        let d = some_of b.on.machines (omega (arith, within, lens, count)) in
+        refused.5 d (get_or b.on.machines instance d) (setup_at b.on.machines old b.on.setups_are instance d)
+        (subst (λ (l : List (List ℕ)). saves (get_or b.on.machines instance d) (get_or l instance [])) (sym same) (b.on.check.save.each instance d (omega (arith, within, lens, count))))
 
 same_lists : (xs ys : List (List ℕ)) → length xs ≡ length ys → ((j : ℕ) → j < length xs → get_or xs j [] ≡ get_or ys j []) → xs ≡ ys
 same_lists [] [] len each = refl
@@ -77,16 +77,16 @@ module _ {M S : Type 0} (setup : M → S) (outputs : S → List Item → List Ou
   -- setups and samples make the check
   pub one_check : a.bytes ≡ b.bytes
   one_check =
-      let mine = count a.machines a.setups_are in
-      let theirs = count b.machines b.setups_are in
-      let mine_all = a.check.save.count in
-      let theirs_all = b.check.save.count in
-      let all : a.check.all ≡ b.check.all = same_lists a.check.all b.check.all (mine_all ∙ mine ∙ sym theirs ∙ sym theirs_all) (λ j below.
-      let d = some_of a.machines (omega (arith, below, mine_all)) in
-      let in_mine : j < length a.machines = omega (arith, below, mine_all) in
-      let in_theirs : j < length b.machines = omega (arith, below, mine_all, mine, theirs) in
+      let mine = count a.on.machines a.on.setups_are in
+      let theirs = count b.on.machines b.on.setups_are in
+      let mine_all = a.on.check.save.count in
+      let theirs_all = b.on.check.save.count in
+      let all : a.on.check.all ≡ b.on.check.all = same_lists a.on.check.all b.on.check.all (mine_all ∙ mine ∙ sym theirs ∙ sym theirs_all) (λ j below.
+      let d = some_of a.on.machines (omega (arith, below, mine_all)) in
+      let in_mine : j < length a.on.machines = omega (arith, below, mine_all) in
+      let in_theirs : j < length b.on.machines = omega (arith, below, mine_all, mine, theirs) in
       let in_parents : j < length parents = omega (arith, below, mine_all, mine, each) in
-      one_saved (get_or a.machines j d) (get_or b.machines j d) (input_at outputs (nodes_of setups parents) earlier j) (get_or a.check.all j []) (get_or b.check.all j [])
-      (setup_at setup a.machines b.machines (a.setups_are ∙ sym b.setups_are) j d) ((a.stand j in_parents).1 d) ((b.stand j in_parents).1 d) (a.check.save.each j d in_mine) (b.check.save.each j d in_theirs)) in
-      let tail = one_tail kinds b.check.all a.check.check.tail b.check.check.tail (subst (λ (l : List (List ℕ)). AreEntries kinds l a.check.check.tail) all a.check.check.entries) b.check.check.entries in
-      a.check.check.form ∙ ap (λ (l : List ℕ). 1 ∷ to_be_bytes w64 (length earlier) ++ length kinds ∷ l) tail ∙ sym b.check.check.form
+      one_saved (get_or a.on.machines j d) (get_or b.on.machines j d) (input_at outputs (nodes_of setups parents) earlier j) (get_or a.on.check.all j []) (get_or b.on.check.all j [])
+      (setup_at setup a.on.machines b.on.machines (a.on.setups_are ∙ sym b.on.setups_are) j d) ((a.on.stand j in_parents).1 d) ((b.on.stand j in_parents).1 d) (a.on.check.save.each j d in_mine) (b.on.check.save.each j d in_theirs)) in
+      let tail = one_tail kinds b.on.check.all a.on.check.check.tail b.on.check.check.tail (subst (λ (l : List (List ℕ)). AreEntries kinds l a.on.check.check.tail) all a.on.check.check.entries) b.on.check.check.entries in
+      a.on.check.check.form ∙ ap (λ (l : List ℕ). 1 ∷ to_be_bytes w64 (length earlier) ++ length kinds ∷ l) tail ∙ sym b.on.check.check.form

@@ -13,16 +13,23 @@ use Rattle.tree_runs.specs.Runs.{StandOn, StoppedIn, Told, feeds_on, input_on, s
 use Rattle.check_point.specs.Checks.{IsCheckOf}
 use Rattle.check_point.specs.declared.faults.CheckFault.{CheckFault}
 
--- a word is that of a checkpoint of machines of these setups, behind samples on which they stand
-pub record IsCheckBehind {M S : Type 0} (setup : M → S) (outputs : S → List Item → List Out)
+-- bytes are a checkpoint of machines of these setups, behind samples on which they stand
+pub record IsCheckOn {M S : Type 0} (setup : M → S) (outputs : S → List Item → List Out)
     (consumed : M → List Item → Type 0) (saves : M → List ℕ → Type 0)
-    (kinds : List ℕ) (parents : List (Option ℕ)) (setups : List S) (word earlier : List ℕ)
+    (kinds : List ℕ) (parents : List (Option ℕ)) (setups : List S) (bytes earlier : List ℕ)
     : Type 0 where
   pub machines : List M
   pub setups_are : map setup machines ≡ setups
   pub stand : StandOn outputs setups parents (Stand consumed machines) earlier
-  pub bytes : List ℕ
   pub check : IsCheckOf saves (length earlier) kinds machines bytes
+
+-- a word is that of such a checkpoint
+pub record IsCheckBehind {M S : Type 0} (setup : M → S) (outputs : S → List Item → List Out)
+    (consumed : M → List Item → Type 0) (saves : M → List ℕ → Type 0)
+    (kinds : List ℕ) (parents : List (Option ℕ)) (setups : List S) (word earlier : List ℕ)
+    : Type 0 where
+  pub bytes : List ℕ
+  pub on : IsCheckOn setup outputs consumed saves kinds parents setups bytes earlier
   pub word_is : decode_of word ≡ Ok bytes
 
 -- a run went on behind these samples: what was taken of each instance is what follows, and where it

@@ -41,6 +41,10 @@ pub enum CaptureFault {
     /// 2^60 bytes were taken, and the end wasn't seen.
     #[error("the capture is too long")]
     Bytes,
+    /// The samples go past the most that a part and those before it may have together. Of a
+    /// capture that is decoded whole it never comes.
+    #[error("the samples go past the most that parts may have")]
+    Past,
 }
 
 /// Why a capture can't be read on.
