@@ -4,6 +4,9 @@ use Rattle.std.specs.Prelude.{◌==◌, is_some, option_and_then, IfSome}
 use Rattle.std.specs.Option.{option_or}
 use Rattle.std.specs.List.{after_first, list_any, position_or_len}
 use Rattle.std.specs.Str.{bytes_eq}
+use Rattle.std.specs.String.{string_bytes}
+use Rattle.std.specs.declared.alloc.Global.{Global}
+use Rattle.std.specs.declared.string.String.{String}
 use Rattle.std.proofs.lemmas.List.{length-drop}
 use Rattle.std.proofs.lemmas.Slice.Eq.{bytes_eq-Decides}
 use Rattle.text_parts.specs.Chains.{WordText, chain_of}
@@ -15,7 +18,7 @@ use Rattle.words.specs.Readable.{IsShort}
 use Rattle.words.specs.Settings.{AreGood, unless_all, use_of, value_of, word_text}
 use Rattle.words.specs.Uses.{Part, Used, chains_of, is_of, parts_from, use_at, uses_of, why_value}
 use Rattle.words.specs.declared.options.Name.{Name}
-use Rattle.words.specs.declared.options.Name.TheVariants.{Job, Format, Channels, Rate, Down, Csv, Header, Threads, Ring, Show, Binary, Seed, Count}
+use Rattle.words.specs.declared.options.Name.TheVariants.{Job, Format, Channels, Rate, Down, Csv, Header, Threads, Ring, Show, Binary, Seed, Count, From}
 use Rattle.words.specs.declared.kinds.WordFault.{WordFault}
 use Rattle.words.proofs.Searches.{find_passes}
 use Rattle.words.proofs.Shapes.{Shape, chain, joined, split, shape_of}
@@ -106,6 +109,7 @@ named Show = refl
 named Binary = refl
 named Seed = refl
 named Count = refl
+named From = refl
 
 -- so two options have two names
 same_name : (a b : Name) → bytes_eq (row a).name (row b).name ≡ true → a ≡ b
@@ -133,6 +137,7 @@ usual_good Show = refl
 usual_good Binary = tt
 usual_good Seed = refl
 usual_good Count = refl
+usual_good From = tt
 
 good_value : (name : Name) (uses : List Used) → AllKept uses → IfSome (value_of name uses) (λ text. why_value (row name).takes text ≡ None)
 good_value name uses kept = by (use_of name uses) refl
@@ -192,3 +197,12 @@ module _ (words : List Text) (uses : List Used) (read : uses_of words ≡ Ok use
       by : (o : Option Used) → use_of Show uses ≡ o → Some (chain_of c) ≡ option_and_then unless_all o → IsShort c
       by None is e = cc
       by (Some u) is e = all u (kept_use Show uses kept u is) _ e
+
+  -- the text of an option without a usual value is short
+  pub text_fits : (name : Name) → (row name).usual ≡ None → (text : Option (String Global)) → option_map string_bytes text ≡ value_of name uses → IfSome text (λ t. length (string_bytes t) ≤ 4096)
+  text_fits name none None same = tt
+  text_fits name none (Some t) same = by (use_of name uses) refl (same ∙ ap (λ usual. option_or (option_map (λ u. u.text) (use_of name uses)) usual) none)
+    where
+      by : (o : Option Used) → use_of name uses ≡ o → Some (string_bytes t) ≡ option_or (option_map (λ u. u.text) o) None → length (string_bytes t) ≤ 4096
+      by None is e = cc
+      by (Some u) is e = let same : string_bytes t ≡ u.text = cc in subst (λ (text : Text). length text ≤ 4096) (sym same) (kept_use name uses kept u is).short

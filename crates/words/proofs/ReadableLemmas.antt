@@ -13,7 +13,7 @@ use Rattle.wait_cond.specs.declared.words.CondFault.{CondFault}
 use Rattle.words.specs.Readable.{IsReadable, IsShort}
 use Rattle.words.specs.Settings.{cond_fault, fault_behind, few_or_many, fault_of, job_fault, many_at, or_else, too_many, words_taken}
 use Rattle.words.specs.declared.kinds.Job.{Job}
-use Rattle.words.specs.declared.kinds.Job.TheVariants.{Decode, Find, Make}
+use Rattle.words.specs.declared.kinds.Job.TheVariants.{Decode, Find, Make, Part}
 use Rattle.words.specs.declared.kinds.WordCount.{WordCount}
 use Rattle.words.specs.declared.kinds.WordWhy.TheVariants as why
 use Rattle.words.specs.declared.kinds.WordFault.{WordFault}
@@ -62,6 +62,7 @@ good_in : (job : Job) (chains : List ChainWord) → None ≡ job_fault job (map 
 good_in Decode chains none is = cc
 good_in Find chains none is = good chains none
 good_in Make chains none is = cc
+good_in Part chains none is = cc
 
 pub readable : (count : ℕ) (job : Job) (chains : List ChainWord) → None ≡ fault_behind count job (map chain_of chains) → All IsShort chains → IsReadable job chains
 readable count job chains none short =

@@ -4,6 +4,7 @@ use Rattle.std.specs.Prelude.{find, Option, Some, None, Result, Ok, Err, IfSome,
 use Rattle.std.specs.Prelude.{codes, option_map, option_and_then, unwrap_or}
 use Rattle.std.specs.Option.{option_or}
 use Rattle.std.specs.Str.{bytes_eq}
+use Rattle.std.specs.String.{string_bytes}
 use Rattle.text_parts.specs.Chains.{WordText, chain_of}
 use Rattle.text_parts.specs.Numbers.{number_after}
 use Rattle.text_parts.specs.Reading.{then_read}
@@ -19,7 +20,7 @@ use Rattle.words.specs.declared.kinds.Format.TheVariants.{Raw, Vcd, Csv}
 use Rattle.la_base.specs.declared.modes.CsvMode.{CsvMode}
 use Rattle.la_base.specs.declared.modes.CsvMode.TheVariants.{Rows, Times}
 use Rattle.words.specs.declared.kinds.Job.{Job}
-use Rattle.words.specs.declared.kinds.Job.TheVariants.{Decode, Find, Make}
+use Rattle.words.specs.declared.kinds.Job.TheVariants.{Decode, Find, Make, Part}
 use Rattle.words.specs.declared.kinds.WordCount.{WordCount}
 use Rattle.words.specs.declared.kinds.WordWhy.{WordWhy}
 use Rattle.words.specs.declared.kinds.WordWhy.TheVariants as why
@@ -43,6 +44,7 @@ pub record Values : Type 0 where
   pub binary : Option WordText
   pub seed : ℕ
   pub count : ℕ
+  pub from : Option Text
   pub chains : List WordText
 
 -- the number and the text of a use
@@ -70,7 +72,7 @@ AreGood uses =
 abbrev pub job_named : Text → Job
 job_named text =
     if bytes_eq text (codes "find") then Find else if bytes_eq text (codes "make") then Make
-    else Decode
+    else if bytes_eq text (codes "part") then Part else Decode
 
 -- the form of capture that a good value names
 abbrev pub format_named : Text → Format
@@ -105,6 +107,7 @@ values_of uses = record {
   binary = option_map word_text (use_of name.Binary uses);
   seed = number_after 0 (text_of name.Seed uses);
   count = number_after 0 (text_of name.Count uses);
+  from = value_of name.From uses;
   chains = map word_text (chains_of uses);
 }
 
@@ -113,6 +116,7 @@ abbrev pub words_taken : Job → WordCount
 words_taken Decode = record { fewest = 1; most = 24 }
 words_taken Find = record { fewest = 1; most = 8 }
 words_taken Make = record { fewest = 0; most = 0 }
+words_taken Part = record { fewest = 1; most = 24 }
 
 -- what a word is that is one too many: Extra where there may be none, else Many
 abbrev pub too_many : ℕ → WordWhy
@@ -147,16 +151,33 @@ cond_fault [] = None
 cond_fault (chain ∷ chains) =
     or_else (fault_of chain.word (terms_of chain.text)) (cond_fault chains)
 
--- decode and make read no alternatives
+-- only find reads alternatives
 abbrev pub job_fault : Job → List WordText → Option WordFault
 job_fault Decode chains = None
 job_fault Find chains = cond_fault chains
 job_fault Make chains = None
+job_fault Part chains = None
 
 -- the rules behind all the words, of which there are `count`
 abbrev pub fault_behind : ℕ → Job → List WordText → Option WordFault
 fault_behind count job chains =
     or_else (few_or_many (words_taken job) count chains) (job_fault job chains)
+
+-- the fault of a part whose capture isn't raw, or of which binary data is wanted
+abbrev pub clash : ℕ → Job → Format → Option WordText → Option WordFault
+clash count Decode format binary = None
+clash count Find format binary = None
+clash count Make format binary = None
+clash count Part Raw None = None
+clash count Part Raw (Some wanted) = Some (record { word = count; at = 0; why = why.Clash })
+clash count Part Vcd binary = Some (record { word = count; at = 0; why = why.Clash })
+clash count Part Csv binary = Some (record { word = count; at = 0; why = why.Clash })
+
+-- the rules behind all the words, for these values
+abbrev pub values_fault : ℕ → Values → Option WordFault
+values_fault count values =
+    or_else (fault_behind count values.job values.chains)
+    (clash count values.job values.format values.binary)
 
 -- the values, unless there is a fault
 abbrev pub unless_fault : Option WordFault → Values → Result Values WordFault
@@ -166,7 +187,7 @@ unless_fault (Some fault) values = Err fault
 -- what the uses set
 abbrev pub values_behind : ℕ → List Used → Result Values WordFault
 values_behind count uses =
-    unless_fault (fault_behind count (values_of uses).job (values_of uses).chains) (values_of uses)
+    unless_fault (values_fault count (values_of uses)) (values_of uses)
 
 -- what the words set, or their first fault
 abbrev pub settings_of : List Text → Result Values WordFault
@@ -188,5 +209,6 @@ meaning_of s = record {
   binary = option_map chain_of s.binary;
   seed = s.seed;
   count = s.count;
+  from = option_map string_bytes s.from;
   chains = map chain_of s.chains.items;
 }

@@ -1,12 +1,12 @@
 // What is wrong with the words that are no options, behind all words.
-ghost use Rattle.std.specs.Prelude.{◌≡◌, map, All, IfOk};
+ghost use Rattle.std.specs.Prelude.{◌≡◌, map, option_map, All, IfOk};
 ghost use Rattle.text_parts.specs.Chains.{chain_of};
 ghost use Rattle.words.specs.Readable.{IsShort};
-ghost use Rattle.words.specs.Settings.{cond_fault, fault_behind, few_or_many, job_fault, too_many};
-ghost use Rattle.words.specs.Settings.{words_taken};
+ghost use Rattle.words.specs.Settings.{clash, cond_fault, fault_behind, few_or_many, job_fault};
+ghost use Rattle.words.specs.Settings.{too_many, words_taken};
 
 use crate::kinds::WordCount;
-use crate::{Job, WordFault, WordWhy};
+use crate::{Format, Job, WordFault, WordWhy};
 use std::alloc::{AllocError, Global};
 use text_parts::ChainWord;
 use wait_cond::{CondError, read_alt};
@@ -16,7 +16,7 @@ fn words_taken(job: Job) -> WordCount
     ensures { result ≡ words_taken job }
 {
     match job {
-        Job::Decode => WordCount {
+        Job::Decode | Job::Part => WordCount {
             fewest: 1,
             most: 24,
         },
@@ -82,7 +82,7 @@ fn job_fault(alloc: Global, job: Job, chains: &[ChainWord]) -> Result<Option<Wor
     ensures { IfOk result (λ fault. fault ≡ job_fault job (map chain_of chains.now)) }
 {
     match job {
-        Job::Decode | Job::Make => Ok(None),
+        Job::Decode | Job::Make | Job::Part => Ok(None),
         Job::Find => cond_fault(alloc, chains),
     }
 }
@@ -101,4 +101,21 @@ pub fn fault_behind(
         return Ok(Some(fault));
     }
     job_fault(alloc, job, chains)
+}
+
+/// The fault of a part whose capture isn't raw, or of which binary data is wanted; there are
+/// `count` words in all.
+pub fn clash(count: u32, job: Job, format: Format, binary: Option<&ChainWord>) -> Option<WordFault>
+    ensures { result
+        ≡ clash count job format (option_map (λ wanted. chain_of wanted.now) binary.entry) }
+{
+    match (job, format, binary) {
+        (Job::Decode | Job::Find | Job::Make, _, _) => None,
+        (Job::Part, Format::Raw, None) => None,
+        (Job::Part, _, _) => Some(WordFault {
+            word: count,
+            at: 0,
+            why: WordWhy::Clash,
+        }),
+    }
 }

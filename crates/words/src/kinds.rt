@@ -10,6 +10,9 @@ pub enum Job {
     Find,
     /// Decode a capture that is made from a seed, and write how much it gives.
     Make,
+    /// As `Decode`, of raw samples that go on where an earlier part ended; behind the notes a
+    /// checkpoint is written, with which a later part goes on.
+    Part,
 }
 
 /// How many chains of decoders, or alternatives of a condition, a job takes.
@@ -63,6 +66,9 @@ pub enum WordWhy {
     /// It is one word more than there may be.
     #[error("too many words")]
     Many,
+    /// The job reads raw samples alone and writes no binary data.
+    #[error("the job takes no such format and no binary data")]
+    Clash,
     /// The alternative has a fault.
     #[error("the alternative has a fault")]
     Cond,

@@ -23,6 +23,7 @@ pub enum Name {
     Binary,
     Seed,
     Count,
+    From,
 }
 
 /// The values that an option takes.
@@ -86,7 +87,7 @@ pub const MOST_SEED: u32 = 2_147_483_647;
 pub const MOST_COUNT: u32 = 1_000_000;
 
 /// The options, in the order in which they are told.
-pub const OPTIONS: [Name; 13] = [
+pub const OPTIONS: [Name; 14] = [
     Name::Job,
     Name::Format,
     Name::Channels,
@@ -100,6 +101,7 @@ pub const OPTIONS: [Name; 13] = [
     Name::Binary,
     Name::Seed,
     Name::Count,
+    Name::From,
 ];
 
 impl Name {
@@ -110,9 +112,9 @@ impl Name {
         match self {
             Name::Job => OptionRow {
                 name: "job",
-                takes: Takes::OneOf(&["decode", "find", "make"]),
+                takes: Takes::OneOf(&["decode", "find", "make", "part"]),
                 usual: Some("decode"),
-                help: "decode the capture, find where a condition holds, or decode a capture that is made",
+                help: "decode the capture, or a part of it, find where a condition holds, or decode one that is made",
             },
             Name::Format => OptionRow {
                 name: "format",
@@ -200,6 +202,12 @@ impl Name {
                 },
                 usual: Some("1000"),
                 help: "how many transactions a made capture has",
+            },
+            Name::From => OptionRow {
+                name: "from",
+                takes: Takes::Text,
+                usual: None,
+                help: "the checkpoint that the part before this one ended with",
             },
         }
     }

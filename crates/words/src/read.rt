@@ -1,5 +1,5 @@
 // The words of the command line.
-ghost use Rattle.std.specs.Prelude.{◌≡◌, [], List, length, map, IfOk, IfSome};
+ghost use Rattle.std.specs.Prelude.{◌≡◌, ◌≤◌, [], List, length, map, option_map, IfOk, IfSome};
 ghost use Rattle.std.specs.String.{string_bytes};
 ghost use Rattle.clap.specs.Words.{found_of, rows_of};
 ghost use Rattle.text_parts.specs.Chains.{chain_of};
@@ -7,12 +7,13 @@ ghost use Rattle.text_parts.specs.Reading.{Gives};
 ghost use Rattle.words.specs.App.{rows_of_uses};
 ghost use Rattle.words.specs.Given.{fault_in, used_of};
 ghost use Rattle.words.specs.Readable.{IsReadable, IsShort};
-ghost use Rattle.words.specs.Settings.{AreGood, settings_of, meaning_of, values_of, word_text};
-ghost use Rattle.words.specs.Uses.{chains_of};
+ghost use Rattle.words.specs.Settings.{AreGood, settings_of, meaning_of, value_of, values_of};
+ghost use Rattle.words.specs.Settings.{word_text};
+ghost use Rattle.words.specs.Uses.{Used, chains_of};
 
-use crate::alternatives::fault_behind;
+use crate::alternatives::{clash, fault_behind};
 use crate::chains::{binary, chains, numbers, shown};
-use crate::command::{chain_texts, matches, text};
+use crate::command::{chain_texts, matches, text, value};
 use crate::options::Name;
 use crate::reading::read_uses;
 use crate::uses::Given;
@@ -39,6 +40,17 @@ fn chains_in(
     }
 }
 
+// The checkpoint that the words give, if they do.
+fn checkpoint(alloc: Global, matches: &ArgMatches) -> Result<Option<String>, AllocError>
+    ensures { (uses : List Used) → rows_of (found_of matches.now) ≡ rows_of_uses [] uses
+        → IfOk result (λ from. option_map string_bytes from ≡ value_of Name.From uses) }
+{
+    match value(matches, Name::From) {
+        Some(text) => Ok(Some(String::from_str(alloc, text)?)),
+        None => Ok(None),
+    }
+}
+
 // What the matches set.
 fn settings(alloc: Global, matches: &ArgMatches, uses: &[Given]) -> Result<Settings, AllocError>
     requires rows { rows_of (found_of matches.now) ≡ rows_of_uses [] (map used_of uses.now) }
@@ -47,6 +59,7 @@ fn settings(alloc: Global, matches: &ArgMatches, uses: &[Given]) -> Result<Setti
 {
     let show = shown(alloc, uses, text(matches, Name::Show))?;
     let binary = binary(alloc, uses, text(matches, Name::Binary))?;
+    let from = checkpoint(alloc, matches)?;
     let chains = chains_in(alloc, matches, uses)?;
     let channels = number(Name::Channels, text(matches, Name::Channels));
     let down = number(Name::Down, text(matches, Name::Down));
@@ -67,6 +80,7 @@ fn settings(alloc: Global, matches: &ArgMatches, uses: &[Given]) -> Result<Setti
         binary,
         seed,
         count,
+        from,
         chains,
     })
 }
@@ -79,6 +93,8 @@ pub fn read_words(alloc: Global, words: &[String]) -> Result<Settings, WordsErro
     ensures readable { IfOk result (λ settings. IsReadable settings.job settings.chains.items) }
     ensures shown { IfOk result (λ settings. IfSome settings.show IsShort) }
     ensures binary { IfOk result (λ settings. IfSome settings.binary IsShort) }
+    ensures from { IfOk result (λ settings. IfSome settings.from (λ text.
+        length (string_bytes text) ≤ 4096)) }
 {
     let uses = match read_uses(alloc, words) {
         Ok(uses) => uses,
@@ -90,9 +106,19 @@ pub fn read_words(alloc: Global, words: &[String]) -> Result<Settings, WordsErro
     let Ok(settings) = settings(alloc, &matches, &uses) else {
         return Err(WordsError::NoMemory);
     };
-    match fault_behind(alloc, words.len() as u32, settings.job, &settings.chains) {
-        Ok(None) => Ok(settings),
-        Ok(Some(fault)) => Err(WordsError::Fault(fault)),
-        Err(_) => Err(WordsError::NoMemory),
+    let count = words.len() as u32;
+    match fault_behind(alloc, count, settings.job, &settings.chains) {
+        Ok(None) => {}
+        Ok(Some(fault)) => return Err(WordsError::Fault(fault)),
+        Err(_) => return Err(WordsError::NoMemory),
+    }
+    match clash(
+        count,
+        settings.job,
+        settings.format,
+        settings.binary.as_ref(),
+    ) {
+        None => Ok(settings),
+        Some(fault) => Err(WordsError::Fault(fault)),
     }
 }

@@ -37,6 +37,8 @@ pub struct Settings {
     pub seed: u64,
     /// How many transactions a made capture has.
     pub count: u64,
+    /// The checkpoint with which an earlier part ended.
+    pub from: Option<String>,
     /// The chains of decoders, or the alternatives of a condition; none where a capture is made.
     pub chains: Vec<ChainWord>,
     ghost channels_fit: { IsWithin (row Channels).takes channels },

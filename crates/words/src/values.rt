@@ -118,6 +118,7 @@ pub fn job_named(text: &str) -> Job
     match text {
         "find" => Job::Find,
         "make" => Job::Make,
+        "part" => Job::Part,
         _ => Job::Decode,
     }
 }
