@@ -13,12 +13,14 @@ use Rattle.capture_any.specs.Reading.{form_of, is_open_of, pins_of}
 use Rattle.capture_any.specs.declared.capture.Capture.{Capture}
 use Rattle.capture_any.specs.declared.end.ListingEnd.TheVariants.{NoMemory, Write}
 use Rattle.capture_any.proofs.ListingLemmas.{lists_on}
+use Rattle.la_base.specs.declared.wires.Out.{Out}
+use Rattle.decoder_core.specs.Inputs.{Item}
 use Rattle.decoder_core.specs.declared.end.RunEnd.{RunEnd}
 use Rattle.decoder_core.specs.declared.end.RunEnd.TheVariants.{Ended}
 use Rattle.decoder_core.specs.declared.machine.Machine.{Ghosts as MachineGhosts}
 use Rattle.decoder_core.specs.Promises.{GivesNothing, KeepsFront}
 use Rattle.tree_runs.specs.Machines.{Stand, defined, near_of, whole_of}
-use Rattle.tree_runs.specs.Runs.{nodes_of, samples_in}
+use Rattle.tree_runs.specs.Runs.{StandOn, Told as ToldOf, input_at, nodes_of, samples_in}
 use Rattle.tree_runs.specs.Taking.{IsTree}
 use Rattle.tree_runs.proofs.Fresh.{fresh}
 use Rattle.stack_laws.specs.Laws.{IsLawful}
@@ -34,13 +36,13 @@ use Rattle.decode_job.specs.Asking.{WantsOf}
 use Rattle.decode_job.specs.Decoding.{Decodes}
 use Rattle.decode_job.specs.Ending.{end_behind, end_of_stop}
 use Rattle.decode_job.specs.Feeding.{GaveRuns}
-use Rattle.decode_job.specs.Listing.{tree_output}
+use Rattle.decode_job.specs.Listing.{output_of, tree_output}
 use Rattle.decode_job.specs.Running.{Came, RanTo, Rested}
 use Rattle.decode_job.specs.declared.capture_feed.CaptureFeed.{CaptureFeed}
 use Rattle.decode_job.proofs.Ends.{StoppedBy, kept_cause, lists_moved, not_stopped, read_of_stop, stopped_by}
 use Rattle.decode_job.proofs.FeedLemmas.{closed_at_end, feed_cause, feed_failed, feed_stopped, feed_whole}
 use Rattle.decode_job.proofs.Handing.{nothing_done}
-use Rattle.decode_job.proofs.Listed.{all_of_tree, front_of_tree}
+use Rattle.decode_job.proofs.Listed.{all_of_tree, behind_nothing, front_of_tree}
 
 module _ {M Q S K : Type 0} (m : MachineGhosts M Q) (s : SourceGhosts S) (k : SinkGhosts K) (machines : List M) (parents : List (Option ℕ)) (feed : CaptureFeed S) (lister : Lister K) where
   abbrev capture : Capture
@@ -109,6 +111,11 @@ module _ {M Q S K : Type 0} (m : MachineGhosts M Q) (s : SourceGhosts S) (k : Si
       stand_at : All (λ machine. m.consumed machine []) machines → (j : ℕ) → j < length parents → Stand m.consumed machines j []
       stand_at new j within = (omega (arith, within, tree.each), λ d. new j d (omega (arith, within, tree.each)))
 
+      -- what was told of each instance
+      tells : StandOn m.outputs setups parents (Stand m.consumed machines) [] → (j : ℕ) → j < length parents
+          → (feeds : List (List Item)) × ToldOf end (not (is_open_of feed.capture.now)) (whole_of m.outputs setups j) (near_of m.near setups j) (input_at m.outputs (nodes_of setups parents) [] j) (input_at m.outputs (nodes_of setups parents) samples j) feeds (came.runs.marks j)
+      tells stand j within = let t = came.runs.told [] stand j within in (t.0, t.2)
+
       -- it wasn't stopped: all of the capture was decoded
       module _ (none : lister.cause ≡ None) where
         ended : end ≡ Ended
@@ -127,8 +134,8 @@ module _ {M Q S K : Type 0} (m : MachineGhosts M Q) (s : SourceGhosts S) (k : Si
         ended_decodes = record {
           lists = λ before told at stands new.
               let stand = fresh m.outputs setups parents tree.forest count nothing (Stand m.consumed machines) (stand_at new) in
-              let all : Whole samples = subst Whole (append-nil samples)
-              (all_of_tree m.outputs (near_of m.near setups) setups parents tree.forest count nothing keeps accepted end (not (is_open_of feed.capture.now)) samples [] came.runs.marks (came.runs.told [] stand) (λ _. refl) ended accepted.binary wanted lister.merge tree.takes old_bytes new_bytes written.2) in
+              let all : Whole samples = subst Whole (append-nil samples) (subst (λ (l : List (List Out)). Appends old_bytes new_bytes (output_of accepted accepted.binary l)) (behind_nothing m.outputs setups parents tree.forest count nothing (samples ++ []))
+              (all_of_tree m.outputs (near_of m.near setups) setups parents tree.forest count keeps accepted end (not (is_open_of feed.capture.now)) [] samples [] came.runs.marks (tells stand) (λ _. refl) ended accepted.binary wanted lister.merge tree.takes old_bytes new_bytes written.2)) in
               lists_on (form_of capture) (pins_of capture) (λ settled. settled ≡ samples) (λ settled. settled ≡ samples) before told (s.left source) (s.left feed.source.now)
               Front (λ given is. subst Front (sym is) (front_whole old_bytes new_bytes (out samples) all))
               Whole (λ given is. subst Whole (sym is) all) feed.end
@@ -149,7 +156,8 @@ module _ {M Q S K : Type 0} (m : MachineGhosts M Q) (s : SourceGhosts S) (k : Si
               let front = stopped.front in
               let prompts : Prompts accepted accepted.binary (length parents) front.first front.out = subst (λ (n : ℕ). Prompts accepted accepted.binary n front.first front.out) tree.takes front.prompts in
               let fronts : (rest : List ℕ) → (not (is_open_of feed.capture.now) ≡ true → rest ≡ []) → Front (samples ++ rest) = λ rest none.
-              front_of_tree m.outputs (near_of m.near setups) setups parents tree.forest count nothing keeps accepted end (not (is_open_of feed.capture.now)) samples rest came.runs.marks (came.runs.told [] stand) none accepted.binary wanted front.first front.begins front.out prompts old_bytes new_bytes front.front in
+              subst (λ (l : List (List Out)). AppendsFront old_bytes new_bytes (output_of accepted accepted.binary l)) (behind_nothing m.outputs setups parents tree.forest count nothing (samples ++ rest))
+              (front_of_tree m.outputs (near_of m.near setups) setups parents tree.forest count keeps accepted end (not (is_open_of feed.capture.now)) [] samples rest came.runs.marks (tells stand) none accepted.binary wanted front.first front.begins front.out prompts old_bytes new_bytes front.front) in
               feed_stopped s.left s.faults feed (together came.runs.lists) gave capture refl source refl feed.source.now refl Whole Front fronts (end_of_stop why) stopped.is_front before told at stands;
           read = read_of_stop why (s.faults source) (s.faults feed.source.now) (feed_failed s.left s.faults feed (together came.runs.lists) gave capture refl source refl feed.source.now refl);
           write = stopped.cause;

@@ -13,6 +13,7 @@ use Rattle.capture_any.specs.Listings.{Lists, ReadCause, WriteCause}
 use Rattle.capture_any.specs.Reading.{Stands, form_of, pins_of}
 use Rattle.capture_any.specs.declared.capture.Capture.{Capture}
 use Rattle.capture_any.specs.declared.end.ListingEnd.{ListingEnd}
+use Rattle.capture_any.specs.declared.end.ListingEnd.TheVariants.{Write}
 use Rattle.decoder_core.specs.declared.machine.Machine.{Ghosts as MachineGhosts}
 use Rattle.stack_spec.specs.declared.stack.Stack.{Stack}
 use Rattle.decode_job.specs.Decoding.{Decodes, output}
@@ -32,12 +33,12 @@ module _ {M Q S K : Type 0} (m : MachineGhosts M Q) (s : SourceGhosts S) (k : Si
       → Lists (form_of capture) (pins_of capture) (λ l. Appends one other (out l)) (λ l. AppendsFront one other (out l)) before told (s.left source_old) (s.left source_new) end
 
   pub through : (end result : ListingEnd) → Listed (got_by k.written first) (got_by k.written mid) end → ReadCause (s.faults source_old) (s.faults source_new) end
-      → WriteCause (k.faults (behind first)) (k.faults (behind mid)) end → Flushes k mid last end result → Decodes m s k stack machines parents capture source_old source_new old new result
+      → WriteCause (k.faults (behind first)) (k.faults (behind mid)) end → Flushes k Write mid last end result → Decodes m s k stack machines parents capture source_old source_new old new result
   through end result lists read write flushes =
       by end result lists read write (ends (flushes.same ∙ on.0)) flushes.does
     where
       by : (end result : ListingEnd) → Listed (got_by k.written first) (got_by k.written mid) end → ReadCause (s.faults source_old) (s.faults source_new) end
-          → WriteCause (k.faults (behind first)) (k.faults (behind mid)) end → behind last ≡ new → Left mid last end result ⊎ Broke k mid last end result ⊎ Went k mid last end result → Decodes m s k stack machines parents capture source_old source_new old new result
+          → WriteCause (k.faults (behind first)) (k.faults (behind mid)) end → behind last ≡ new → Left Write mid last end result ⊎ Broke k Write mid last end result ⊎ Went k Write mid last end result → Decodes m s k stack machines parents capture source_old source_new old new result
       by end result lists read write to (inl left) =
           let same : behind mid ≡ new = ap behind (sym left.same) ∙ to in
           record {

@@ -7,3 +7,6 @@ mod Handing
 mod Closing
 mod Flushing
 mod Coming
+mod Limits
+mod Parted
+mod Parting

@@ -1,10 +1,11 @@
 -- What was written of the marks of a tree of decoders, by its listing.
-use Rattle.std.proofs.Common.{◌≡◌, ◌⊎◌, inl, inr, ℕ, zero, suc, ◌+◌, ◌==◌, ◌≤◌, ◌<◌, Bool, true, false, cond, if◌then◌else◌, List, [], ◌∷◌, ◌++◌, length, map, slice_get, Option, Some, None, refl, sym, ◌∙◌, ap, subst, append_assoc, arith}
+use Rattle.std.proofs.Common.{◌≡◌, ◌⊎◌, inl, inr, ℕ, zero, suc, ◌+◌, ◌==◌, ◌≤◌, ◌<◌, Bool, true, false, cond, if◌then◌else◌, List, [], ◌∷◌, ◌++◌, drop, length, map, slice_get, Option, Some, None, refl, sym, ◌∙◌, ap, subst, append_assoc, arith}
 use Rattle.std.specs.Prelude.{IfSome}
 use Rattle.std.specs.Io.KnownBytes.{Appends}
 use Rattle.std.proofs.lemmas.Bool.{cases_lt}
 use Rattle.std.proofs.lemmas.Grind.{flat_map-append}
 use Rattle.std.proofs.lemmas.List.{append-nil, length-map}
+use Rattle.std.proofs.Math.Seq.{drop-append_seam}
 use Rattle.la_base.specs.declared.wires.Mark.{Mark}
 use Rattle.la_base.specs.declared.wires.Mark.TheVariants.{Note as NoteMark, Piece as PieceMark, Floor as FloorMark, End as EndMark}
 use Rattle.la_base.specs.declared.wires.Note.{Note}
@@ -38,8 +39,7 @@ use Rattle.note_lister.specs.Prompt.{Prompts}
 use Rattle.note_lister.specs.Taking.{WritesAll}
 use Rattle.note_lister.proofs.TakingLemmas.{begins_itself, bytes_in-append}
 use Rattle.tree_runs.specs.Listings.{notes_of}
-use Rattle.stack_laws.specs.Settling.{TellsRun}
-use Rattle.decode_job.specs.Listing.{bytes_by, bytes_of, output_by}
+use Rattle.decode_job.specs.Listing.{bytes_by, bytes_of, given_behind, output_of, rest_of}
 use Rattle.decode_job.proofs.Growing.{grows}
 use Rattle.decode_job.proofs.Showing.{shown_listing}
 
@@ -148,19 +148,19 @@ shown_append (PieceMark piece ∷ xs) ys = ap (λ (l : List Mark). PieceMark pie
 shown_append (FloorMark start ∷ xs) ys = shown_append xs ys
 shown_append (EndMark ∷ xs) ys = shown_append xs ys
 
--- from what was told of it, with no input before, and more input behind
-full_of : (result : RunEnd) (at_end : Bool) (whole : List Item → List Out) (near : List Item → ℕ) (was now more : List Item) (feeds : List (List Item)) (taken : List Mark) → ToldOf result at_end whole near was now feeds taken → whole was ≡ [] → KeepsFront whole → (at_end ≡ true → more ≡ []) → Full taken (whole (now ++ more))
-full_of result at_end whole near was now more feeds taken told nothing keeps none = by told.closed refl
+-- from what was told of it behind an input, and more input behind
+full_of : (result : RunEnd) (at_end : Bool) (whole : List Item → List Out) (near : List Item → ℕ) (was now more : List Item) (feeds : List (List Item)) (taken : List Mark) → ToldOf result at_end whole near was now feeds taken → KeepsFront whole → (at_end ≡ true → more ≡ []) → Full taken (drop (length (whole was)) (whole (now ++ more)))
+full_of result at_end whole near was now more feeds taken told keeps none = by told.closed refl
   where
     open_made : told.closed ≡ false → taken ≡ told.body
     open_made is = told.made ∙ (ap (λ (b : Bool). told.body ++ (if b then EndMark ∷ [] else [])) is ∙ append-nil told.body)
 
-    by : (b : Bool) → told.closed ≡ b → Full taken (whole (now ++ more))
+    by : (b : Bool) → told.closed ≡ b → Full taken (drop (length (whole was)) (whole (now ++ more)))
     by true is =
         let reached : shown told.body ≡ marks_of told.new = subst (λ (b : Bool). Reaches b (shown told.body) (marks_of told.new)) is told.shows in
         let made : taken ≡ told.body ++ EndMark ∷ [] = told.made ∙ ap (λ (b : Bool). told.body ++ (if b then EndMark ∷ [] else [])) is in
         let ends : more ≡ [] = none (told.whole_at_end is) in
-        let outs : whole (now ++ more) ≡ told.new = ap (λ (l : List Item). whole (now ++ l)) ends ∙ (ap whole (append-nil now) ∙ (told.adds ∙ ap (λ (l : List Out). l ++ told.new) nothing)) in
+        let outs : drop (length (whole was)) (whole (now ++ more)) ≡ told.new = ap (drop (length (whole was))) (ap (λ (l : List Item). whole (now ++ l)) ends ∙ (ap whole (append-nil now) ∙ told.adds)) ∙ drop-append_seam (whole was) told.new in
         let hold : FloorsHold told.body (marks_of (told.new ++ [])) = told.floors [] [] (ap whole (append-nil now) ∙ (told.adds ∙ ap (λ (l : List Out). whole was ++ l) (sym (append-nil told.new)))) in
         record {
           marks = taken;
@@ -173,9 +173,10 @@ full_of result at_end whole near was now more feeds taken told nothing keeps non
         let k = keeps now more in
         let tail : List Mark = front.0 ++ marks_of k.0 in
         let plain : IsPlain tail = plain_append front.0 (marks_of k.0) (plain_rest (shown told.body) front.0 (subst IsPlain (sym front.1) (plain_outs told.new))) (plain_outs k.0) in
-        let outs : whole (now ++ more) ≡ told.new ++ k.0 = k.1 ∙ ap (λ (l : List Out). l ++ k.0) (told.adds ∙ ap (λ (l : List Out). l ++ told.new) nothing) in
+        let adds : whole (now ++ more) ≡ whole was ++ (told.new ++ k.0) = k.1 ∙ (ap (λ (l : List Out). l ++ k.0) told.adds ∙ append_assoc (whole was) told.new k.0) in
+        let outs : drop (length (whole was)) (whole (now ++ more)) ≡ told.new ++ k.0 = ap (drop (length (whole was))) adds ∙ drop-append_seam (whole was) (told.new ++ k.0) in
         let all : marks_of (told.new ++ k.0) ≡ shown told.body ++ tail = marks-append told.new k.0 ∙ (ap (λ (l : List Mark). l ++ marks_of k.0) (sym front.1) ∙ append_assoc (shown told.body) front.0 (marks_of k.0)) in
-        let hold : FloorsHold told.body (marks_of (told.new ++ k.0)) = told.floors more k.0 (k.1 ∙ (ap (λ (l : List Out). l ++ k.0) told.adds ∙ append_assoc (whole was) told.new k.0)) in
+        let hold : FloorsHold told.body (marks_of (told.new ++ k.0)) = told.floors more k.0 adds in
         record {
           marks = told.body ++ tail;
           begins = (tail, ap (λ (l : List Mark). l ++ tail) (open_made is));
@@ -207,39 +208,77 @@ get_map f [] j x at = absurd cc
 get_map f (y ∷ xs) zero x at = let same : y ≡ x = cc in ap (λ z. Some (f z)) same
 get_map f (y ∷ xs) (suc j) x at = get_map f xs j x at
 
+-- what instances give behind others, by their places
+rest_at : (was now : List (List Out)) (j : ℕ) (before outs : List Out) → slice_get was j ≡ Some before → slice_get now j ≡ Some outs → slice_get (rest_of was now) j ≡ Some (drop (length before) outs)
+rest_at [] now j before outs was_at at = absurd cc
+rest_at (x ∷ was) [] j before outs was_at at = absurd cc
+rest_at (x ∷ was) (y ∷ now) zero before outs was_at at = let a : x ≡ before = cc in let b : y ≡ outs = cc in λ i. Some (drop (length (a i)) (b i))
+rest_at (x ∷ was) (y ∷ now) (suc j) before outs was_at at = rest_at was now j before outs was_at at
+
+rest_len : (was now : List (List Out)) → length was ≡ length now → length (rest_of was now) ≡ length now
+rest_len [] [] same = refl
+rest_len [] (y ∷ now) same = absurd (omega (arith, same))
+rest_len (x ∷ was) [] same = absurd (omega (arith, same))
+rest_len (x ∷ was) (y ∷ now) same = ap (λ (k : ℕ). suc k) (rest_len was now (omega (arith, same)))
+
+module _ {S : Type 0} (outputs : S → List Item → List Out) (setups : List S) (parents : List (Option ℕ)) (forest : IsForest parents) (count : length setups ≡ length parents) where
+  behind_at : (earlier all : List ℕ) (j : ℕ) → j < length parents
+      → slice_get (rest_of (given outputs earlier (nodes_of setups parents)) (given outputs all (nodes_of setups parents))) j
+      ≡ Some (drop (length (whole_of outputs setups j (input_at outputs (nodes_of setups parents) earlier j))) (whole_of outputs setups j (input_at outputs (nodes_of setups parents) all j)))
+  behind_at earlier all j within =
+      rest_at (given outputs earlier (nodes_of setups parents)) (given outputs all (nodes_of setups parents)) j (whole_of outputs setups j (input_at outputs (nodes_of setups parents) earlier j)) (whole_of outputs setups j (input_at outputs (nodes_of setups parents) all j))
+      (given_at outputs setups parents forest count earlier j within) (given_at outputs setups parents forest count all j within)
+
+  behind_len : (earlier all : List ℕ) → length (rest_of (given outputs earlier (nodes_of setups parents)) (given outputs all (nodes_of setups parents))) ≡ length parents
+  behind_len earlier all =
+      let mine = given_len outputs setups parents forest count earlier in
+      let theirs = given_len outputs setups parents forest count all in
+      rest_len (given outputs earlier (nodes_of setups parents)) (given outputs all (nodes_of setups parents)) (mine ∙ sym theirs) ∙ theirs
+
+  -- behind no samples it is all that they give
+  pub behind_nothing : ((j : ℕ) → j < length parents → GivesNothing (whole_of outputs setups j)) → (samples : List ℕ) → given_behind outputs [] samples (nodes_of setups parents) ≡ given outputs samples (nodes_of setups parents)
+  behind_nothing nothing samples =
+      same_places (given_behind outputs [] samples (nodes_of setups parents)) (given outputs samples (nodes_of setups parents)) (behind_len [] samples ∙ sym (given_len outputs setups parents forest count samples)) (λ j low.
+      let within : j < length parents = omega (arith, low, behind_len [] samples) in
+      let was : whole_of outputs setups j (input_at outputs (nodes_of setups parents) [] j) ≡ [] = ap (whole_of outputs setups j) (reads_nothing outputs setups parents forest count nothing j within) ∙ nothing j within in
+      behind_at [] samples j within
+      ∙ (ap (λ (l : List Out). Some (drop (length l) (whole_of outputs setups j (input_at outputs (nodes_of setups parents) samples j)))) was
+      ∙ sym (given_at outputs setups parents forest count samples j within)))
+
 module _ {S : Type 0} (outputs : S → List Item → List Out) (near : ℕ → List Item → ℕ) (setups : List S) (parents : List (Option ℕ)) (forest : IsForest parents) (count : length setups ≡ length parents)
-    (nothing : (j : ℕ) → j < length parents → GivesNothing (whole_of outputs setups j)) (keeps : (j : ℕ) → j < length parents → KeepsFront (whole_of outputs setups j)) (accepted : Accepted)
-    (result : RunEnd) (at_end : Bool) (samples rest : List ℕ) (taken : ℕ → List Mark)
-    (told : (j : ℕ) → j < length parents → TellsRun result at_end (whole_of outputs setups j) (near j) (input_at outputs (nodes_of setups parents) [] j) (input_at outputs (nodes_of setups parents) samples j) (taken j))
+    (keeps : (j : ℕ) → j < length parents → KeepsFront (whole_of outputs setups j)) (accepted : Accepted)
+    (result : RunEnd) (at_end : Bool) (earlier samples rest : List ℕ) (taken : ℕ → List Mark)
+    (told : (j : ℕ) → j < length parents
+    → (feeds : List (List Item)) × ToldOf result at_end (whole_of outputs setups j) (near j) (input_at outputs (nodes_of setups parents) earlier j) (input_at outputs (nodes_of setups parents) (earlier ++ samples) j) feeds (taken j))
     (none : at_end ≡ true → rest ≡ []) where
   abbrev n : ℕ
   n = length parents
 
+  abbrev reached : List ℕ
+  reached = earlier ++ samples
+
   abbrev all_samples : List ℕ
-  all_samples = samples ++ rest
+  all_samples = reached ++ rest
+
+  abbrev was_at : ℕ → List Out
+  was_at j = whole_of outputs setups j (input_at outputs (nodes_of setups parents) earlier j)
 
   abbrev outs_at : ℕ → List Out
-  outs_at j = whole_of outputs setups j (input_at outputs (nodes_of setups parents) all_samples j)
+  outs_at j = drop (length (was_at j)) (whole_of outputs setups j (input_at outputs (nodes_of setups parents) all_samples j))
 
   full : (j : ℕ) → j < n → Full (taken j) (outs_at j)
   full j within = by at_end refl
     where
-      whole : List Item → List Out
-      whole = whole_of outputs setups j
-
-      was_nothing : whole_of outputs setups j (input_at outputs (nodes_of setups parents) [] j) ≡ []
-      was_nothing = ap (whole_of outputs setups j) (reads_nothing outputs setups parents forest count nothing j within) ∙ nothing j within
-
       by : (b : Bool) → at_end ≡ b → Full (taken j) (outs_at j)
       by true is =
-          let same : input_at outputs (nodes_of setups parents) samples j ++ [] ≡ input_at outputs (nodes_of setups parents) all_samples j =
-          append-nil (input_at outputs (nodes_of setups parents) samples j) ∙ ap (λ (l : List ℕ). input_at outputs (nodes_of setups parents) l j) (sym (append-nil samples) ∙ ap (λ (l : List ℕ). samples ++ l) (sym (none is))) in
-          subst (λ (l : List Item). Full (taken j) (whole_of outputs setups j l)) same
-          (full_of result at_end (whole_of outputs setups j) (near j) (input_at outputs (nodes_of setups parents) [] j) (input_at outputs (nodes_of setups parents) samples j) [] (told j within).0 (taken j) (told j within).2 was_nothing (keeps j within) (λ _. refl))
+          let same : input_at outputs (nodes_of setups parents) reached j ++ [] ≡ input_at outputs (nodes_of setups parents) all_samples j =
+          append-nil (input_at outputs (nodes_of setups parents) reached j) ∙ ap (λ (l : List ℕ). input_at outputs (nodes_of setups parents) l j) (sym (append-nil reached) ∙ ap (λ (l : List ℕ). reached ++ l) (sym (none is))) in
+          subst (λ (l : List Item). Full (taken j) (drop (length (was_at j)) (whole_of outputs setups j l))) same
+          (full_of result at_end (whole_of outputs setups j) (near j) (input_at outputs (nodes_of setups parents) earlier j) (input_at outputs (nodes_of setups parents) reached j) [] (told j within).0 (taken j) (told j within).1 (keeps j within) (λ _. refl))
       by false is =
-          let g = grows outputs setups parents forest count keeps samples rest j within in
-          subst (λ (l : List Item). Full (taken j) (whole_of outputs setups j l)) (sym g.1)
-          (full_of result at_end (whole_of outputs setups j) (near j) (input_at outputs (nodes_of setups parents) [] j) (input_at outputs (nodes_of setups parents) samples j) g.0 (told j within).0 (taken j) (told j within).2 was_nothing (keeps j within) (λ closed. absurd (opened is closed)))
+          let g = grows outputs setups parents forest count keeps reached rest j within in
+          subst (λ (l : List Item). Full (taken j) (drop (length (was_at j)) (whole_of outputs setups j l))) (sym g.1)
+          (full_of result at_end (whole_of outputs setups j) (near j) (input_at outputs (nodes_of setups parents) earlier j) (input_at outputs (nodes_of setups parents) reached j) g.0 (told j within).0 (taken j) (told j within).1 (keeps j within) (λ closed. absurd (opened is closed)))
         where
           opened : at_end ≡ false → at_end ≡ true → ⊥
           opened a b = cc
@@ -272,47 +311,57 @@ module _ {S : Type 0} (outputs : S → List Item → List Out) (near : ℕ → L
   bytes_are class = picked (λ j marks. bytes_in class marks ≡ bytes_of class (outs_at j)) (λ j within. sym (bytes_shown class (full j within).marks) ∙ (ap (bytes_in class) (full j within).shows ∙ bytes_outs class (outs_at j)))
 
   abbrev tree : List (List Out)
-  tree = given outputs all_samples (nodes_of setups parents)
+  tree = rest_of (given outputs earlier (nodes_of setups parents)) (given outputs all_samples (nodes_of setups parents))
+
+  tree_len : length tree ≡ n
+  tree_len = behind_len outputs setups parents forest count earlier all_samples
+
+  tree_at : (j : ℕ) → j < n → slice_get tree j ≡ Some (outs_at j)
+  tree_at j within = behind_at outputs setups parents forest count earlier all_samples j within
+
+  -- as what they give behind the earlier samples
+  as_behind : (binary : Option (ℕ × ℕ)) → output_of accepted binary tree ≡ output_of accepted binary (given_behind outputs earlier (samples ++ rest) (nodes_of setups parents))
+  as_behind binary = ap (λ (l : List ℕ). output_of accepted binary (rest_of (given outputs earlier (nodes_of setups parents)) (given outputs l (nodes_of setups parents)))) (append_assoc earlier samples rest)
 
   all_notes : notes_from all_marks 0 n ≡ map notes_of tree
-  all_notes = same_places (notes_from all_marks 0 n) (map notes_of tree) (notes_len all_marks 0 n ∙ sym (length-map tree notes_of ∙ given_len outputs setups parents forest count all_samples)) (λ j low.
+  all_notes = same_places (notes_from all_marks 0 n) (map notes_of tree) (notes_len all_marks 0 n ∙ sym (length-map tree notes_of ∙ tree_len)) (λ j low.
       let within : j < n = omega (arith, low, notes_len all_marks 0 n) in
       notes_at all_marks 0 n j within
       ∙ ((let e : 0 + j ≡ j = omega arith in ap (λ (k : ℕ). Some (notes_in (all_marks k))) e)
       ∙ (ap (λ (l : List Note). Some l) (notes_are j within)
-      ∙ sym (get_map notes_of tree j (outs_at j) (given_at outputs setups parents forest count all_samples j within)))))
+      ∙ sym (get_map notes_of tree j (outs_at j) (tree_at j within)))))
 
   -- the lines of all of them are the listing
-  all_lines : shown_lines accepted (sorted_notes n all_marks) ≡ output_by outputs accepted None (nodes_of setups parents) all_samples
+  all_lines : shown_lines accepted (sorted_notes n all_marks) ≡ output_of accepted None tree
   all_lines = ap (λ (l : List (List Note)). shown_lines accepted (listed l)) all_notes ∙ shown_listing accepted (map notes_of tree)
 
   -- a front of what is written at once of the first marks is a front of what the tree is to write
   pub front_of_tree : (binary : Option (ℕ × ℕ)) → IfSome binary (λ wanted. wanted.0 < n) → (first : ℕ → List Mark) → ((j : ℕ) → Begins (first j) (taken j)) → (out : List ℕ) → Prompts accepted binary n first out
-      → (old new : Option (List ℕ)) → AppendsFront old new out → AppendsFront old new (output_by outputs accepted binary (nodes_of setups parents) all_samples)
+      → (old new : Option (List ℕ)) → AppendsFront old new out → AppendsFront old new (output_of accepted binary (given_behind outputs earlier (samples ++ rest) (nodes_of setups parents)))
   front_of_tree None within first begins out prompts old new front =
       let f = prompts.merges.front all_marks (continues first begins) in
-      let whole : out ++ shown_lines accepted f.0 ≡ output_by outputs accepted None (nodes_of setups parents) all_samples =
-      ap (λ (l : List ℕ). l ++ shown_lines accepted f.0) prompts.lines ∙ (sym (flat_map-append (shown_line accepted) prompts.given f.0) ∙ (ap (shown_lines accepted) f.1 ∙ all_lines)) in
+      let whole : out ++ shown_lines accepted f.0 ≡ output_of accepted None (given_behind outputs earlier (samples ++ rest) (nodes_of setups parents)) =
+      ap (λ (l : List ℕ). l ++ shown_lines accepted f.0) prompts.lines ∙ (sym (flat_map-append (shown_line accepted) prompts.given f.0) ∙ (ap (shown_lines accepted) f.1 ∙ (all_lines ∙ as_behind None))) in
       subst (AppendsFront old new) whole (front_longer old new out (shown_lines accepted f.0) front)
   front_of_tree (Some wanted) within first begins out prompts old new front =
       let b = (continues first begins).begins wanted.0 within in
-      let whole : out ++ bytes_in wanted.1 b.0 ≡ output_by outputs accepted (Some wanted) (nodes_of setups parents) all_samples =
+      let whole : out ++ bytes_in wanted.1 b.0 ≡ output_of accepted (Some wanted) (given_behind outputs earlier (samples ++ rest) (nodes_of setups parents)) =
       ap (λ (l : List ℕ). l ++ bytes_in wanted.1 b.0) prompts
       ∙ (sym (bytes_in-append wanted.1 (first wanted.0) b.0)
       ∙ (ap (bytes_in wanted.1) b.1
       ∙ (bytes_are wanted.1 wanted.0 within
-      ∙ sym (ap (bytes_by wanted.1) (given_at outputs setups parents forest count all_samples wanted.0 within))))) in
+      ∙ (sym (ap (bytes_by wanted.1) (tree_at wanted.0 within)) ∙ as_behind (Some wanted))))) in
       subst (AppendsFront old new) whole (front_longer old new out (bytes_in wanted.1 b.0) front)
 
   -- at the end all is written
   module _ (ended : result ≡ Ended) where
     closed_taken : (j : ℕ) → j < n → bound_of (taken j) ≡ None
     closed_taken j within =
-        let t = (told j within).2 in
+        let t = (told j within).1 in
         ap bound_of (t.made ∙ ap (λ (b : Bool). t.body ++ (if b then EndMark ∷ [] else [])) (t.closes ended)) ∙ bound_append (Some 0) t.body (EndMark ∷ [])
 
     shut : (j : ℕ) → j < n → at_end ≡ true
-    shut j within = (told j within).2.whole_at_end ((told j within).2.closes ended)
+    shut j within = (told j within).1.whole_at_end ((told j within).1.closes ended)
 
     -- nothing comes behind the marks that were taken
     taken_true : (j : ℕ) → j < n → AreTrue (taken j)
@@ -342,30 +391,29 @@ module _ {S : Type 0} (outputs : S → List Item → List Out) (near : ℕ → L
     -- the notes of all marks are those of the marks that were taken
     all_taken : (j : ℕ) → j < n → shown (taken j) ≡ marks_of (outs_at j)
     all_taken j within =
-        let t = (told j within).2 in
+        let t = (told j within).1 in
         let is = t.closes ended in
-        let reached : shown t.body ≡ marks_of t.new = subst (λ (b : Bool). Reaches b (shown t.body) (marks_of t.new)) is t.shows in
+        let all_shown : shown t.body ≡ marks_of t.new = subst (λ (b : Bool). Reaches b (shown t.body) (marks_of t.new)) is t.shows in
         let made : taken j ≡ t.body ++ EndMark ∷ [] = t.made ∙ ap (λ (b : Bool). t.body ++ (if b then EndMark ∷ [] else [])) is in
-        let reads = reads_nothing outputs setups parents forest count nothing j within in
-        let was : whole_of outputs setups j (input_at outputs (nodes_of setups parents) [] j) ≡ [] = ap (whole_of outputs setups j) reads ∙ nothing j within in
-        let outs : outs_at j ≡ t.new = ap (λ (l : List ℕ). whole_of outputs setups j (input_at outputs (nodes_of setups parents) l j)) (ap (λ (l : List ℕ). samples ++ l) (none (shut j within)) ∙ append-nil samples) ∙ (t.adds ∙ ap (λ (l : List Out). l ++ t.new) was) in
-        ap shown made ∙ (shown_append t.body (EndMark ∷ []) ∙ (append-nil (shown t.body) ∙ (reached ∙ ap marks_of (sym outs))))
+        let adds : whole_of outputs setups j (input_at outputs (nodes_of setups parents) all_samples j) ≡ was_at j ++ t.new = ap (λ (l : List ℕ). whole_of outputs setups j (input_at outputs (nodes_of setups parents) l j)) (ap (λ (l : List ℕ). reached ++ l) (none (shut j within)) ∙ append-nil reached) ∙ t.adds in
+        let outs : outs_at j ≡ t.new = ap (drop (length (was_at j))) adds ∙ drop-append_seam (was_at j) t.new in
+        ap shown made ∙ (shown_append t.body (EndMark ∷ []) ∙ (append-nil (shown t.body) ∙ (all_shown ∙ ap marks_of (sym outs))))
 
     taken_notes : notes_from taken 0 n ≡ map notes_of tree
-    taken_notes = same_places (notes_from taken 0 n) (map notes_of tree) (notes_len taken 0 n ∙ sym (length-map tree notes_of ∙ given_len outputs setups parents forest count all_samples)) (λ j low.
+    taken_notes = same_places (notes_from taken 0 n) (map notes_of tree) (notes_len taken 0 n ∙ sym (length-map tree notes_of ∙ tree_len)) (λ j low.
         let within : j < n = omega (arith, low, notes_len taken 0 n) in
         notes_at taken 0 n j within
         ∙ ((let e : 0 + j ≡ j = omega arith in ap (λ (k : ℕ). Some (notes_in (taken k))) e)
         ∙ (ap (λ (l : List Note). Some l) (sym (notes_shown (taken j)) ∙ (ap notes_in (all_taken j within) ∙ notes_outs (outs_at j)))
-        ∙ sym (get_map notes_of tree j (outs_at j) (given_at outputs setups parents forest count all_samples j within)))))
+        ∙ sym (get_map notes_of tree j (outs_at j) (tree_at j within)))))
 
     pub all_of_tree : (binary : Option (ℕ × ℕ)) → IfSome binary (λ wanted. wanted.0 < n) → (merge : Merge) → count_of merge ≡ n → (old new : Option (List ℕ)) → WritesAll accepted binary merge old new taken
-        → Appends old new (output_by outputs accepted binary (nodes_of setups parents) all_samples)
+        → Appends old new (output_of accepted binary (given_behind outputs earlier (samples ++ rest) (nodes_of setups parents)))
     all_of_tree None within merge is old new w =
         let goes : Continues (count_of merge) taken taken = record { begins = λ j low. begins_itself (taken j); are_true = λ j low. taken_true j (omega (arith, low, is)) } in
         let all = given_at_end (count_of merge) taken w.given (held_in merge) w.stands.merges w.prompt (λ j low. closed_taken j (omega (arith, low, is))) goes in
-        subst (Appends old new) (ap (shown_lines accepted) (all ∙ ap (λ (k : ℕ). sorted_notes k taken) is) ∙ (ap (λ (l : List (List Note)). shown_lines accepted (listed l)) taken_notes ∙ shown_listing accepted (map notes_of tree))) w.lines
+        subst (Appends old new) (ap (shown_lines accepted) (all ∙ ap (λ (k : ℕ). sorted_notes k taken) is) ∙ (ap (λ (l : List (List Note)). shown_lines accepted (listed l)) taken_notes ∙ (shown_listing accepted (map notes_of tree) ∙ as_behind None))) w.lines
     all_of_tree (Some wanted) within merge is old new w =
         subst (Appends old new)
         (sym (bytes_shown wanted.1 (taken wanted.0)) ∙ (ap (bytes_in wanted.1) (all_taken wanted.0 within) ∙ (bytes_outs wanted.1 (outs_at wanted.0)
-        ∙ sym (ap (bytes_by wanted.1) (given_at outputs setups parents forest count all_samples wanted.0 within))))) w
+        ∙ (sym (ap (bytes_by wanted.1) (tree_at wanted.0 within)) ∙ as_behind (Some wanted))))) w

@@ -5,3 +5,6 @@ pub mod Ending
 pub mod Decoding
 pub mod Running
 pub mod Flushing
+pub mod Parting
+pub mod UpTo
+pub mod PartRunning

@@ -15,7 +15,7 @@ use std::snapshot::Snapshot;
 pub struct CaptureFeed<'a, 'b, S: Source> {
     pub capture: &'a mut Capture,
     pub source: &'b mut S,
-    runs: Runs,
+    pub(crate) runs: Runs,
     /// How the capture ended, behind all that it gave.
     pub end: ListingEnd,
     // What it was made over. Contracts alone read these.

@@ -4,6 +4,7 @@ ghost use Rattle.tree_runs.specs.Machines.{defined};
 ghost use Rattle.tree_runs.specs.Taking.{IsTree};
 ghost use Rattle.stack_laws.specs.Laws.{IsLawful};
 ghost use Rattle.note_lister.specs.Taking.{first_of, first_sink, instances_of, stack_of};
+ghost use Rattle.capture_any.specs.declared.end.ListingEnd.TheVariants.{Write as WriteEnd};
 ghost use Rattle.decode_job.specs.Asking.{WantsOf};
 ghost use Rattle.decode_job.specs.Decoding.{Decodes};
 ghost use Rattle.decode_job.specs.Ending.{end_behind, end_of_stop};
@@ -27,7 +28,7 @@ pub(crate) struct Ran<'a, 'b, 'c, S: Source, K: Sink> {
 }
 
 // How a run ends for which there is this cause.
-fn end_of_stop(cause: ListStop) -> ListingEnd
+pub(crate) fn end_of_stop(cause: ListStop) -> ListingEnd
     ensures { result ≡ end_of_stop cause }
 {
     match cause {
@@ -90,7 +91,7 @@ pub(crate) fn close<'a, 'b, 'c, S: Source, K: Sink, M: Machine>(
 /// Hands on what a buffer holds behind a decoding, unless a write has failed, and answers how it
 /// ended then.
 pub(crate) fn hand_on<K: Sink>(buffered: &mut Buffered<K>, end: ListingEnd) -> ListingEnd
-    ensures { Flushes K.Sink buffered.old buffered.new end result }
+    ensures { Flushes K.Sink WriteEnd buffered.old buffered.new end result }
 {
     match end {
         ListingEnd::Write => ListingEnd::Write,

@@ -1,12 +1,18 @@
-//! The job decode: what a tree of decoders gives on a capture, written while it is read.
+//! The job decode: what a tree of decoders gives on a capture, written while it is read; of a part,
+//! with a checkpoint behind it.
 #![tactic(auto)]
 
 mod capture_feed;
 mod ending;
 mod job;
+mod part_end;
+mod part_job;
 mod running;
+mod up_to;
 
 pub use capture_any::ListingEnd as DecodeEnd;
 pub use capture_feed::CaptureFeed;
 pub use job::{decode, decode_in_threads};
+pub use part_end::PartEnd;
+pub use part_job::part;
 pub use running::InThreads;

@@ -1,0 +1,224 @@
+// The decoding of a part of a capture.
+ghost use Rattle.std.specs.Prelude.{◌≡◌, ◌≤◌, ◌-◌, ◌^◌, length, map, true};
+ghost use Rattle.capture_any.specs.Reading.{is_open_of};
+ghost use Rattle.annot_merge.specs.Held.{count_of as merged_of};
+ghost use Rattle.note_lister.specs.Taking.{cause_of, sink_of, sink_ref};
+ghost use Rattle.stack_spec.specs.Stacks.{instances_in};
+ghost use Rattle.tree_runs.specs.Passing.{IsForest};
+ghost use Rattle.tree_runs.specs.Taking.{IsTree};
+ghost use Rattle.decode_job.specs.Asking.{IsNew, WantsOf};
+ghost use Rattle.decode_job.specs.Flushing.{Flushes};
+ghost use Rattle.decode_job.specs.PartRunning.{Checks, ListsPart, end_of_part};
+ghost use Rattle.decode_job.specs.Parting.{DecodesPart, room_behind};
+ghost use Rattle.decode_job.specs.UpTo.{count_of, inner_of, is_past};
+ghost use Rattle.decode_job.specs.declared.part_end.PartEnd.TheVariants.{Ended as EndedAs};
+ghost use Rattle.capture_any.specs.declared.end.ListingEnd.TheVariants.{Write as WriteEnd};
+
+use crate::capture_feed::CaptureFeed;
+use crate::ending::{end_of_stop, goes_back};
+use crate::part_end::PartEnd;
+use crate::up_to::UpTo;
+use annot_merge::Merge;
+use capture_any::{Capture, ListingEnd};
+use check_point::write_check;
+use decoder_core::{Keep, Machine};
+use la_base::NoMemory;
+use la_io::{Buffered, Failed, Sink, Source};
+use note_lister::{ListStop, Lister};
+use stack_direct::run_direct;
+use stack_laws::laws::machines_are_a_tree;
+use stack_spec::Stack;
+use std::alloc::Global;
+
+// How many samples may come before a checkpoint.
+const MOST_SAMPLES: u64 = 1 << 59;
+
+// What was listed of a part: how it ended, and how many samples were given.
+#[derive(Drop)]
+struct Listed {
+    end: PartEnd,
+    given: u64,
+}
+
+// Source and sink behind a run, and what it came to.
+struct Ran<'a, 'b, 'c, S: Source, K: Sink> {
+    capture: &'a mut Capture,
+    source: &'b mut S,
+    sink: &'c mut K,
+    listed: Listed,
+}
+
+// How a part ends, by the cause for which its run was stopped, if it was, by whether there were
+// more samples than may come, and by how its capture ended.
+fn end_of_part(cause: Option<ListStop>, past: bool, end: ListingEnd) -> PartEnd
+    ensures { result ≡ end_of_part cause past end }
+{
+    match cause {
+        Some(cause) => PartEnd::Ended(end_of_stop(cause)),
+        None if past => PartEnd::Past,
+        None => PartEnd::Ended(end),
+    }
+}
+
+// Takes feed and lister apart, behind a run.
+fn close_part<'a, 'b, 'c, S: Source, K: Sink>(
+    feed: UpTo<'a, 'b, S>,
+    lister: Lister<'_, 'c, K>,
+) -> Ran<'a, 'b, 'c, S, K>
+    ensures source { result.source.now ≡ (inner_of feed.entry).source.now }
+    ensures same_source { result.source.ghost_name ≡ (inner_of feed.entry).source.ghost_name }
+    ensures sink { result.sink.now ≡ sink_of lister.entry }
+    ensures same_sink { result.sink.ghost_name ≡ (sink_ref lister.entry).ghost_name }
+    ensures end { result.listed.end
+        ≡ end_of_part (cause_of lister.entry) (is_past feed.entry) (inner_of feed.entry).end }
+    ensures given { result.listed.given ≡ count_of feed.entry }
+{
+    let UpTo {
+        feed,
+        given,
+        past,
+        ..
+    } = feed;
+    let CaptureFeed {
+        capture,
+        source,
+        end,
+        ..
+    } = feed;
+    let Lister { sink, cause, .. } = lister;
+    Ran {
+        capture,
+        source,
+        sink,
+        listed: Listed {
+            end: end_of_part(cause, past, end),
+            given,
+        },
+    }
+}
+
+// Runs the machines over the capture, behind so many earlier samples, and writes what they add as
+// it comes.
+fn list_part<S: Source, K: Sink, M: Machine>(
+    stack: &Stack,
+    merge: Merge,
+    capture: &mut Capture,
+    machines: &mut [M],
+    parents: &[Option<u32>],
+    earlier: u64,
+    source: &mut S,
+    sink: &mut K,
+) -> Listed
+    requires is_open { is_open_of capture.old ≡ true }
+    requires tree { IsTree parents.now (length machines.old) (merged_of merge) }
+    requires new { IsNew merge }
+    requires wanted { WantsOf stack.now (length parents.now) }
+    requires few { earlier ≤ 2 ^ 59 }
+    ensures lists { ListsPart M.Machine S.Source K.Sink stack.now machines.old machines.new
+        parents.now earlier capture.old source.old source.new sink.old sink.new result.end
+        result.given }
+    ensures fits { result.given ≤ room_behind earlier }
+    ensures setups { map M.setup machines.new ≡ map M.setup machines.old }
+    ensures goes_on { K.goes_on sink.old sink.new }
+{
+    let captured = CaptureFeed::new(capture, source);
+    let mut feed = UpTo::new(captured, MOST_SAMPLES - earlier);
+    let mut lister = Lister::over(stack, merge, sink);
+    machines_are_a_tree(machines, parents);
+    run_direct(machines, parents, &mut feed, &mut lister);
+    let Ran {
+        capture: read,
+        source: read_from,
+        sink: written_to,
+        listed,
+    } = close_part(feed, lister);
+    goes_back(read);
+    goes_back(read_from);
+    goes_back(written_to);
+    listed
+}
+
+// Writes the checkpoint where the capture ended well, and answers how the part ended then.
+fn check_behind<K: Sink, M: Keep>(
+    sink: &mut K,
+    samples: u64,
+    machines: &[M],
+    kinds: &[u8],
+    end: PartEnd,
+) -> PartEnd
+    requires few { samples ≤ 2 ^ 59 }
+    requires count { length kinds.now ≡ length machines.now }
+    requires most { length kinds.now ≤ 8 }
+    ensures checks { Checks K.Sink M.saves samples kinds.now machines.now sink.old sink.new end
+        result }
+    ensures goes_on { K.goes_on sink.old sink.new }
+{
+    match end {
+        PartEnd::Ended(ListingEnd::Done) => match write_check(sink, samples, machines, kinds) {
+            Ok(()) => end,
+            Err(Failed) => PartEnd::Ended(ListingEnd::Write),
+        },
+        end => end,
+    }
+}
+
+// Hands on what a buffer holds, unless a write has failed, and answers how the part ended then.
+fn hand_part_on<K: Sink>(buffered: &mut Buffered<K>, end: PartEnd) -> PartEnd
+    ensures { Flushes K.Sink (EndedAs WriteEnd) buffered.old buffered.new end result }
+{
+    match end {
+        PartEnd::Ended(ListingEnd::Write) => end,
+        end => match buffered.flush() {
+            Ok(()) => end,
+            Err(Failed) => PartEnd::Ended(ListingEnd::Write),
+        },
+    }
+}
+
+/// Reads the capture to its end or up to 2^59 samples with the earlier ones, which the machines
+/// have consumed, and writes the notes that the machines add, as `decode` does; their positions
+/// count from the first earlier sample. Where the capture ended well, the line of a checkpoint of
+/// the machines is written behind them, to go on from all these samples.
+///
+/// Of machines that stand for no samples nothing is said of what is written.
+pub fn part<S: Source, K: Sink, M: Keep>(
+    alloc: Global,
+    stack: &Stack,
+    capture: &mut Capture,
+    machines: &mut [M],
+    kinds: &[u8],
+    parents: &[Option<u32>],
+    earlier: u64,
+    source: &mut S,
+    sink: &mut K,
+) -> PartEnd
+    requires is_open { is_open_of capture.old ≡ true }
+    requires forest { IsForest parents.now }
+    requires each { length machines.old ≡ length parents.now }
+    requires instances { length (instances_in stack.now) ≡ length parents.now }
+    requires wanted { WantsOf stack.now (length parents.now) }
+    requires kinds { length kinds.now ≡ length machines.old }
+    requires most { length kinds.now ≤ 8 }
+    requires few { earlier ≤ 2 ^ 59 }
+    ensures { DecodesPart M.Machine M.saves S.Source K.Sink stack.now machines.old kinds.now
+        parents.now earlier capture.old source.old source.new sink.old sink.new result }
+{
+    let merge = match Merge::new(alloc, stack.count()) {
+        Ok(merge) => merge,
+        Err(NoMemory) => return PartEnd::Ended(ListingEnd::NoMemory),
+    };
+    let mut buffered = Buffered::new(sink);
+    let listed = list_part(
+        stack,
+        merge,
+        capture,
+        machines,
+        parents,
+        earlier,
+        source,
+        &mut buffered,
+    );
+    let samples = earlier + listed.given;
+    let end = check_behind(&mut buffered, samples, machines, kinds, listed.end);
+    hand_part_on(&mut buffered, end)
+}
