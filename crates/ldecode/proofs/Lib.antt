@@ -3,6 +3,7 @@ pub mod Working
 pub mod Asked
 pub mod Stacked
 pub mod Running
+pub mod Begun
 pub mod Exact
 pub mod Headlines
 mod MadeLaws
@@ -11,3 +12,4 @@ mod MadeGiving
 mod Counting
 mod Tallying
 mod Opened
+mod PartTold

@@ -12,7 +12,6 @@ use Rattle.decoder_set.specs.declared.setup.Setup.{Setup}
 use Rattle.text_parts.specs.Chains.{chain_of}
 use Rattle.text_parts.specs.declared.chain.ChainWord.{ChainWord}
 use Rattle.words.specs.Settings.{Values, meaning_of}
-use Rattle.words.specs.declared.kinds.Job.TheVariants.{Decode}
 use Rattle.words.specs.declared.settings.Settings.{Settings}
 use Rattle.tree_runs.specs.Passing.{IsForest as IsTree}
 use Rattle.tree_runs.specs.Runs.{nodes_of as tree_nodes}
@@ -25,7 +24,7 @@ use Rattle.stack_spec.specs.Stacks.{stack_meaning}
 use Rattle.stack_spec.specs.declared.bound.Bound.{Bound}
 use Rattle.stack_spec.specs.declared.faults.BindFault.{BindFault}
 use Rattle.stack_spec.specs.declared.stack.Stack.{Stack}
-use Rattle.ldecode.specs.Asking.{AsksStack, SearchRefused, StackRefused, Stacks, nodes_of}
+use Rattle.ldecode.specs.Asking.{AsksStack, HasStack, SearchRefused, StackRefused, Stacks, nodes_of, setups_in}
 
 -- a value of an option, as the code hands it on
 seen_value : (seen : Option (Bor ChainWord)) (kept : Option ChainWord) → option_copied seen ≡ kept → option_map (λ (chain : Bor ChainWord). chain_of chain.now) seen ≡ option_map chain_of kept
@@ -33,7 +32,7 @@ seen_value None kept is = ap (option_map chain_of) is
 seen_value (Some chain) kept is = ap (option_map chain_of) is
 
 -- a decoding has its stack
-pub the_stack : (settings : Settings) (chains : List ChainWord) (seen wanted : Option (Bor ChainWord)) (stack : Stack) → settings.job ≡ Decode → chains ≡ settings.chains.items → option_copied seen ≡ settings.show → option_copied wanted ≡ settings.binary
+pub the_stack : (settings : Settings) (chains : List ChainWord) (seen wanted : Option (Bor ChainWord)) (stack : Stack) → HasStack settings.job → chains ≡ settings.chains.items → option_copied seen ≡ settings.show → option_copied wanted ≡ settings.binary
     → stack_of (map chain_of chains) (option_map (λ (chain : Bor ChainWord). chain_of chain.now) seen) (option_map (λ (chain : Bor ChainWord). chain_of chain.now) wanted) ≡ Ok (stack_meaning stack) → Stacks (meaning_of settings) (stack_meaning stack)
 the_stack settings chains seen wanted stack job chains_are show_is binary_is gives = record {
   job = job;
@@ -54,6 +53,11 @@ module _ (values : Values) (names : List (List ℕ)) (rate : Rate) (accepted : A
     pins_are = pins_are;
     nodes_are = refl;
   }
+
+  -- with these setups
+  pub asked_setups : (pins : List ℕ) (bounds : List BoundInstance) (bound : bound_of MOST_PINS names rate accepted.instances ≡ Ok bounds) (pins_are : pins ≡ Rattle.stack_spec.specs.Binding.pins_of bounds) → setups_in (stack_asks pins bounds bound pins_are).stack ≡ map (λ (b : BoundInstance). b.setup) bounds
+  unfolding stack_asks
+  asked_setups pins bounds bound pins_are = refl
 
   pub stack_refused : (fault : BindFault) → bound_of MOST_PINS names rate accepted.instances ≡ Err fault → SearchRefused values names fault ⊎ StackRefused values names rate fault
   stack_refused fault refused = inr (record { accepted = accepted; stacks = stacks; refused = refused })

@@ -8,7 +8,7 @@ use Rattle.la_io.specs.Causes.{AppendsFront}
 use Rattle.la_io.specs.Grown.{appends_nothing}
 use Rattle.la_io.specs.declared.fault.CaptureError.{CaptureError}
 use Rattle.la_io.specs.declared.fault.CaptureError.TheVariants as error
-use Rattle.capture_any.specs.Captures.{HasNoHead, Later, capture_of}
+use Rattle.capture_any.specs.Captures.{HasNoHead, IsForm, Later, capture_of}
 use Rattle.std.proofs.lemmas.List.{append-nil}
 use Rattle.capture_any.specs.Listings.{Lists, ReadCause, Says, WriteCause}
 use Rattle.capture_any.specs.Reading.{Opens, form_of as capture_form, names_of, pins_of, rate_of}
@@ -24,7 +24,9 @@ use Rattle.wait_cond.specs.declared.alt.Alt.{Alt}
 use Rattle.words.specs.Rates.{RateNumbers, numbers_of}
 use Rattle.words.specs.Settings.{Values}
 use Rattle.stack_spec.specs.Accepting.{Accepted}
-use Rattle.ldecode.specs.Asking.{AsksFor, AsksStack, HasHead, IsFormOf, IsJudged, NamesNoHead, SearchRefused, StackRefused}
+use Rattle.check_point.specs.declared.faults.CheckFault.{CheckFault}
+use Rattle.words.specs.declared.kinds.Job.TheVariants.{Decode, Part}
+use Rattle.ldecode.specs.Asking.{AsksFor, AsksStack, HasHead, IsFormOf, IsJudged, NamesNoHead, PartRefused, SearchRefused, StackRefused, setups_in}
 use Rattle.ldecode.specs.Decoding.{decode_listing}
 use Rattle.std.specs.Io.KnownBytes.{Appends}
 use Rattle.std.proofs.Math.Path.{transport}
@@ -32,7 +34,9 @@ use Rattle.decoder_core.specs.Trees.{Node}
 use Rattle.decoder_set.specs.declared.setup.Setup.{Setup}
 use Rattle.ldecode.specs.Headline.{SinkCause, SourceCause, WhereUnread, Worked, Works, WorksOn}
 use Rattle.ldecode.specs.Notices.{status_at_head, status_of}
-use Rattle.ldecode.specs.declared.status.Status.TheVariants.{Bind, NoMemory}
+use Rattle.ldecode.specs.Parting.{CanBegin, Saves}
+use Rattle.ldecode.specs.Parts.{PartEnds, PartLists}
+use Rattle.ldecode.specs.declared.status.Status.TheVariants.{Bind, Check, NoMemory}
 use Rattle.stack_spec.specs.declared.faults.BindFault.{BindFault}
 
 -- rates with the same numbers are one
@@ -78,12 +82,12 @@ head_later form before bytes AtEnd now names rate later head =
 head_later form before bytes Cut now names rate later head = head_stays.good form [] before bytes now names rate.num rate.den head
 
 -- work that came to its end, as what the status of that end says
-worked : (values : Values) (bytes : List ℕ) (told : Told) (old new : Option (List ℕ)) (end : ListingEnd) → (end ≡ ends.Read → told ≡ Cut) → Worked values bytes told old new end → Works values bytes told old new (status_of end)
-worked values bytes told old new ends.Done cut w = w
-worked values bytes told old new ends.Read cut w = (cut refl, inl w)
-worked values bytes told old new ends.Write cut w = w
-worked values bytes told old new (ends.Fault fault) cut w = inl w
-worked values bytes told old new ends.NoMemory cut w = inl w
+worked : (saves : Saves) (values : Values) (bytes : List ℕ) (told : Told) (old new : Option (List ℕ)) (end : ListingEnd) → (end ≡ ends.Read → told ≡ Cut) → Worked saves values bytes told old new end → Works saves values bytes told old new (status_of end)
+worked saves values bytes told old new ends.Done cut w = w
+worked saves values bytes told old new ends.Read cut w = (cut refl, inl w)
+worked saves values bytes told old new ends.Write cut w = w
+worked saves values bytes told old new (ends.Fault fault) cut w = inl w
+worked saves values bytes told old new ends.NoMemory cut w = inl w
 
 read_is_cut : (form : Form) (pins : List ℕ) (Whole Front : List ℕ → Type 0) (bytes : List ℕ) (told : Told) (end : ListingEnd) → end ≡ ends.Read → Says form pins Whole Front bytes told end → told ≡ Cut
 read_is_cut form pins Whole Front bytes told ends.Done is says = cc
@@ -92,9 +96,16 @@ read_is_cut form pins Whole Front bytes told ends.Write is says = cc
 read_is_cut form pins Whole Front bytes told (ends.Fault fault) is says = cc
 read_is_cut form pins Whole Front bytes told ends.NoMemory is says = cc
 
-module _ (values : Values) (form : Form) (named : IsFormOf values form) (judged : IsJudged values) (left_old left_mid old : Option (List ℕ)) where
+part_is_cut : (form : Form) (pins : List ℕ) (count : ℕ) (bytes : List ℕ) (told : Told) (end : ListingEnd) → PartEnds form pins count bytes told end → end ≡ ends.Read → told ≡ Cut
+part_is_cut form pins count bytes told ends.Done says is = cc
+part_is_cut form pins count bytes told ends.Read says is = says
+part_is_cut form pins count bytes told ends.Write says is = cc
+part_is_cut form pins count bytes told (ends.Fault fault) says is = cc
+part_is_cut form pins count bytes told ends.NoMemory says is = cc
+
+module _ (saves : Saves) (values : Values) (form : Form) (named : IsFormOf values form) (judged : IsJudged values) (left_old left_mid old : Option (List ℕ)) where
   -- the capture can't be opened
-  pub opening_fails : (why : CaptureError) → Opens form left_old left_mid (Err why) → WorksOn values left_old left_mid old old (status_at_head why)
+  pub opening_fails : (why : CaptureError) → Opens form left_old left_mid (Err why) → WorksOn saves values left_old left_mid old old (status_at_head why)
   opening_fails (error.Fault fault) opens = record {
     bytes = opens.bytes;
     told = opens.opened.0;
@@ -122,7 +133,7 @@ module _ (values : Values) (form : Form) (named : IsFormOf values form) (judged 
     head_of = opens.opened.3
 
     -- a channel isn't there
-    pub binding_fails : (fault : BindFault) → SearchRefused values (names_of capture) fault ⊎ StackRefused values (names_of capture) (rate_of capture) fault → WorksOn values left_old left_mid old old (Bind fault)
+    pub binding_fails : (fault : BindFault) → SearchRefused values (names_of capture) fault ⊎ StackRefused values (names_of capture) (rate_of capture) fault → WorksOn saves values left_old left_mid old old (Bind fault)
     binding_fails fault refused = record {
       bytes = opens.bytes;
       told = opens.opened.0;
@@ -131,8 +142,18 @@ module _ (values : Values) (form : Form) (named : IsFormOf values form) (judged 
       works = (record { form = form; names = names_of capture; rate = rate_of capture; form_is = named; head = head_of; refused = refused }, appends_nothing old);
     }
 
+    -- the checkpoint of a part is refused
+    pub checking_fails : (fault : CheckFault) → PartRefused saves values (names_of capture) (rate_of capture) fault → WorksOn saves values left_old left_mid old old (Check fault)
+    checking_fails fault refused = record {
+      bytes = opens.bytes;
+      told = opens.opened.0;
+      taken = opens.consumed;
+      at_end = opens.opened.1;
+      works = (record { form = form; names = names_of capture; rate = rate_of capture; form_is = named; head = head_of; refused = refused }, appends_nothing old);
+    }
+
     -- there was no memory to bind
-    pub no_room_to_bind : WorksOn values left_old left_mid old old NoMemory
+    pub no_room_to_bind : WorksOn saves values left_old left_mid old old NoMemory
     no_room_to_bind = record {
       bytes = opens.bytes;
       told = Cut;
@@ -150,7 +171,7 @@ module _ (values : Values) (form : Form) (named : IsFormOf values form) (judged 
 
       -- a search came to its end
       pub search_ends : (alts : List Alt) (end : ListingEnd) → AsksFor values (names_of capture) pins alts
-          → Lists (capture_form now) (pins_of now) (λ samples. WholeListing samples alts old new) (λ samples. ListingFront samples alts old new) opens.bytes opens.opened.0 left_mid left_new end → WorksOn values left_old left_new old new (status_of end)
+          → Lists (capture_form now) (pins_of now) (λ samples. WholeListing samples alts old new) (λ samples. ListingFront samples alts old new) opens.bytes opens.opened.0 left_mid left_new end → WorksOn saves values left_old left_new old new (status_of end)
       search_ends alts end asks lists =
           let l = as_opened (λ samples. WholeListing samples alts old new) (λ samples. ListingFront samples alts old new) end lists in
           record {
@@ -158,26 +179,40 @@ module _ (values : Values) (form : Form) (named : IsFormOf values form) (judged 
             told = l.told;
             taken = Consumes-trans left_old left_mid left_new opens.bytes l.bytes opens.consumed l.taken;
             at_end = l.at_end;
-            works = worked values (opens.bytes ++ l.bytes) l.told old new end (λ is. read_is_cut form pins (λ samples. WholeListing samples alts old new) (λ samples. ListingFront samples alts old new) (opens.bytes ++ l.bytes) l.told end is l.says) (inl (record { form = form; names = names_of capture; rate = rate_of capture; form_is = named; head = head_on l.bytes l.told l.later; pins = pins; alts = alts; asks = asks; says = l.says }));
+            works = worked saves values (opens.bytes ++ l.bytes) l.told old new end (λ is. read_is_cut form pins (λ samples. WholeListing samples alts old new) (λ samples. ListingFront samples alts old new) (opens.bytes ++ l.bytes) l.told end is l.says) (inl (record { form = form; names = names_of capture; rate = rate_of capture; form_is = named; head = head_on l.bytes l.told l.later; pins = pins; alts = alts; asks = asks; says = l.says }));
           }
 
       -- a decoding came to its end
-      pub decoding_ends : (accepted : Accepted) (nodes : List (Node Setup)) (end : ListingEnd) → AsksStack values (names_of capture) (rate_of capture) pins accepted nodes
+      pub decoding_ends : values.job ≡ Decode → (accepted : Accepted) (nodes : List (Node Setup)) (end : ListingEnd) → AsksStack values (names_of capture) (rate_of capture) pins accepted nodes
           → Lists (capture_form now) (pins_of now) (λ samples. Appends old new (decode_listing accepted nodes samples)) (λ samples. AppendsFront old new (decode_listing accepted nodes samples)) opens.bytes opens.opened.0 left_mid left_new end
-          → WorksOn values left_old left_new old new (status_of end)
-      decoding_ends accepted nodes end asks lists =
+          → WorksOn saves values left_old left_new old new (status_of end)
+      decoding_ends job accepted nodes end asks lists =
           let l = as_opened (λ samples. Appends old new (decode_listing accepted nodes samples)) (λ samples. AppendsFront old new (decode_listing accepted nodes samples)) end lists in
           record {
             bytes = opens.bytes ++ l.bytes;
             told = l.told;
             taken = Consumes-trans left_old left_mid left_new opens.bytes l.bytes opens.consumed l.taken;
             at_end = l.at_end;
-            works = worked values (opens.bytes ++ l.bytes) l.told old new end (λ is. read_is_cut form pins (λ samples. Appends old new (decode_listing accepted nodes samples)) (λ samples. AppendsFront old new (decode_listing accepted nodes samples)) (opens.bytes ++ l.bytes) l.told end is l.says) (inr (record { form = form; names = names_of capture; rate = rate_of capture; form_is = named; head = head_on l.bytes l.told l.later; pins = pins; accepted = accepted; nodes = nodes; asks = asks; says = l.says }));
+            works = worked saves values (opens.bytes ++ l.bytes) l.told old new end (λ is. read_is_cut form pins (λ samples. Appends old new (decode_listing accepted nodes samples)) (λ samples. AppendsFront old new (decode_listing accepted nodes samples)) (opens.bytes ++ l.bytes) l.told end is l.says) (inr (inl (record { form = form; names = names_of capture; rate = rate_of capture; form_is = named; head = head_on l.bytes l.told l.later; pins = pins; accepted = accepted; nodes = nodes; job = job; asks = asks; says = l.says })));
+          }
+
+      -- the decoding of a part came to its end
+      pub part_ends : IsForm form → values.job ≡ Part → (accepted : Accepted) (nodes : List (Node Setup)) (asks : AsksStack values (names_of capture) (rate_of capture) pins accepted nodes) (count : ℕ) → CanBegin saves (setups_in asks.stack) values.from count → (end : ListingEnd)
+          → PartLists saves accepted nodes values.from count (capture_form now) (pins_of now) opens.bytes opens.opened.0 left_mid left_new old new end → WorksOn saves values left_old left_new old new (status_of end)
+      part_ends fits job accepted nodes asks count begins end lists =
+          let l = transport (λ i. PartLists saves accepted nodes values.from count (form_stays i) (pins_are i) opens.bytes opens.opened.0 left_mid left_new old new end) lists in
+          record {
+            bytes = opens.bytes ++ l.bytes;
+            told = l.told;
+            taken = Consumes-trans left_old left_mid left_new opens.bytes l.bytes opens.consumed l.taken;
+            at_end = l.at_end;
+            works = worked saves values (opens.bytes ++ l.bytes) l.told old new end (part_is_cut form pins count (opens.bytes ++ l.bytes) l.told end l.ends)
+                (inr (inr (record { form = form; names = names_of capture; rate = rate_of capture; form_is = named; opens = fits; head = head_on l.bytes l.told l.later; pins = pins; accepted = accepted; nodes = nodes; job = job; asks = asks; count = count; begins = begins; ends = l.ends; says = l.says })));
           }
 
 -- there was no memory before anything was read
-pub no_room : (values : Values) (left old : Option (List ℕ)) → WorksOn values left left old old NoMemory
-no_room values left old = record {
+pub no_room : (saves : Saves) (values : Values) (left old : Option (List ℕ)) → WorksOn saves values left left old old NoMemory
+no_room saves values left old = record {
   bytes = [];
   told = Cut;
   taken = Consumes-nil left;

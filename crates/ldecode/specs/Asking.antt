@@ -1,9 +1,13 @@
 -- What good words ask for: the form of the capture, and for each job what is bound to its channels.
-use Rattle.std.specs.Prelude.{ℕ, ◌≡◌, ◌+◌, ◌⊎◌, List, [], ◌∷◌, map, Result, Ok, Err}
+use Rattle.std.specs.Prelude.{ℕ, ◌≡◌, ◌+◌, ◌≤◌, ◌<◌, ◌⊎◌, List, [], ◌∷◌, length, map}
+use Rattle.std.specs.Prelude.{Result, Ok, Err}
+use Rattle.std.proofs.Common.{inl, inr}
 use Rattle.la_base.specs.declared.samples.Rate.{Rate}
 use Rattle.la_base.specs.declared.samples.TheConstants.{MOST_PINS}
 use Rattle.la_io.specs.Capture.{Told, Head, Good, Bad, Ending, Faulty}
 use Rattle.la_io.specs.declared.fault.CaptureFault.{CaptureFault}
+use Rattle.la_io.specs.declared.fault.CaptureFault.TheVariants.{Past}
+use Rattle.check_point.specs.declared.faults.CheckFault.{CheckFault}
 use Rattle.text_parts.specs.Reading.{then_read}
 use Rattle.capture_any.specs.Captures.{HasNoHead, capture_of}
 use Rattle.capture_any.specs.declared.form.Form.{Form}
@@ -16,7 +20,8 @@ use Rattle.wait_cond.specs.declared.faults.ItemFault.{ItemFault}
 use Rattle.words.specs.Rates.{numbers_of}
 use Rattle.words.specs.Settings.{Values}
 use Rattle.words.specs.declared.kinds.Format.TheVariants as format
-use Rattle.words.specs.declared.kinds.Job.TheVariants.{Decode, Find}
+use Rattle.words.specs.declared.kinds.Job.{Job}
+use Rattle.words.specs.declared.kinds.Job.TheVariants.{Decode, Find, Make, Part}
 use Rattle.stack_spec.specs.Accepting.{Accepted, stack_of}
 use Rattle.stack_spec.specs.Binding.{BoundInstance, bound_of}
 use Rattle.stack_spec.specs.Binding as binding
@@ -25,6 +30,7 @@ use Rattle.stack_spec.specs.declared.faults.BindFault.{BindFault}
 use Rattle.stack_spec.specs.declared.faults.StackFault.{StackFault}
 use Rattle.decoder_core.specs.Trees.{Node}
 use Rattle.decoder_set.specs.declared.setup.Setup.{Setup}
+use Rattle.ldecode.specs.Parting.{CanBegin, CantBegin, Saves, most_samples}
 
 -- the values name this form of capture
 abbrev pub IsFormOf : Values → Form → Type 0
@@ -75,14 +81,21 @@ pub record Searches (values : Values) (alternatives : List (List Meaning)) : Typ
   pub terms : map (λ chain. terms_of chain.text) values.chains
       ≡ map (λ terms. Ok terms) alternatives
 
+-- this job decodes under a stack: a whole capture, or a part of one
+abbrev pub HasStack : Job → Type 0
+HasStack Decode = Unit {0}
+HasStack Find = ⊥
+HasStack Make = ⊥
+HasStack Part = Unit {0}
+
 -- the values are those of a decoding, and this is its stack
 pub record Stacks (values : Values) (accepted : Accepted) : Type 0 where
-  pub job : values.job ≡ Decode
+  pub job : HasStack values.job
   pub stack : stack_of values.chains values.show values.binary ≡ Ok accepted
 
 -- the values are those of a decoding, and its stack has this first fault
 pub record HasStackFault (values : Values) (fault : StackFault) : Type 0 where
-  pub job : values.job ≡ Decode
+  pub job : HasStack values.job
   pub stack : stack_of values.chains values.show values.binary ≡ Err fault
 
 -- where the channels have these names, an alternative of a search has this first fault
@@ -134,20 +147,88 @@ pub record CannotBind (values : Values) (bytes : List ℕ) (told : Told)
   pub head : HasHead form bytes told names rate
   pub refused : SearchRefused values names fault ⊎ StackRefused values names rate fault
 
--- the head of these bytes is good, and all is bound
-pub record CanBind (values : Values) (bytes : List ℕ) (told : Told) : Type 0 where
+-- a whole capture is decoded under a stack that can be bound
+pub record WholeBound (values : Values) (names : List (List ℕ)) (rate : Rate) : Type 0 where
+  pub job : values.job ≡ Decode
+  pub stack : StackBound values names rate
+
+-- the setups of a stack that can be bound
+abbrev pub setups_in : {values : Values} {names : List (List ℕ)} {rate : Rate}
+    → StackBound values names rate → List Setup
+setups_in stack = map (λ bound. bound.setup) stack.bounds
+
+-- a part is decoded under a stack that can be bound, and goes on behind so many samples
+pub record PartBound (saves : Saves) (values : Values) (names : List (List ℕ)) (rate : Rate)
+    (earlier : ℕ) : Type 0 where
+  pub job : values.job ≡ Part
+  pub stack : StackBound values names rate
+  pub begins : CanBegin saves (setups_in stack) values.from earlier
+
+-- a part is decoded under a stack that can be bound, and this refusal says why it can't begin
+pub record PartRefused (saves : Saves) (values : Values) (names : List (List ℕ)) (rate : Rate)
+    (fault : CheckFault) : Type 0 where
+  pub job : values.job ≡ Part
+  pub stack : StackBound values names rate
+  pub refused : CantBegin saves (setups_in stack) values.from fault
+
+-- what the values ask for can be bound, and for a part no checkpoint is refused
+abbrev pub AllBound : Saves → Values → List (List ℕ) → Rate → Type 0
+AllBound saves values names rate = SearchBound values names ⊎ WholeBound values names rate
+    ⊎ ((earlier : ℕ) × PartBound saves values names rate earlier)
+
+-- the head of these bytes is good, all is bound, and a checkpoint is refused
+pub record CheckRefused (saves : Saves) (values : Values) (bytes : List ℕ) (told : Told)
+    (fault : CheckFault) : Type 0 where
   pub form : Form
   pub names : List (List ℕ)
   pub rate : Rate
   pub form_is : IsFormOf values form
   pub head : HasHead form bytes told names rate
-  pub bound : SearchBound values names ⊎ StackBound values names rate
+  pub refused : PartRefused saves values names rate fault
+
+-- the head of these bytes is good, and all is bound
+pub record CanBind (saves : Saves) (values : Values) (bytes : List ℕ) (told : Told)
+    : Type 0 where
+  pub form : Form
+  pub names : List (List ℕ)
+  pub rate : Rate
+  pub form_is : IsFormOf values form
+  pub head : HasHead form bytes told names rate
+  pub bound : AllBound saves values names rate
+
+-- how many samples there are of a part and before it, together
+abbrev pub part_samples : {values : Values} {names : List (List ℕ)} {rate : Rate}
+    → StackBound values names rate → ℕ → Form → List ℕ → Told → ℕ
+part_samples stack earlier form bytes told =
+    earlier + length (capture_of form (binding.pins_of stack.bounds) bytes told).settled
+
+-- the samples of a part don't go past the most that parts may have; of other jobs nothing is asked
+abbrev pub StaysWithin : {saves : Saves} {values : Values} {names : List (List ℕ)} {rate : Rate}
+    → AllBound saves values names rate → Form → List ℕ → Told → Type 0
+StaysWithin (inl search) form bytes told = Unit {0}
+StaysWithin (inr (inl whole)) form bytes told = Unit {0}
+StaysWithin (inr (inr (earlier, part))) form bytes told =
+    part_samples part.stack earlier form bytes told ≤ most_samples
 
 -- the bytes have a good head to which all is bound, and this ending, on which the choice of
--- channels has no bearing
-pub record EndsAs (values : Values) (bytes : List ℕ) (told : Told) (ending : Ending) : Type 0 where
-  pub can : CanBind values bytes told
+-- channels has no bearing; and the samples of a part stay within their bound
+pub record EndsAs (saves : Saves) (values : Values) (bytes : List ℕ) (told : Told)
+    (ending : Ending) : Type 0 where
+  pub can : CanBind saves values bytes told
   pub ends : (capture_of can.form [] bytes told).ending ≡ ending
+  pub within : StaysWithin can.bound can.form bytes told
+
+-- the bytes have a good head to which all is bound, and the samples of a part go past their bound
+pub record GoesPast (saves : Saves) (values : Values) (bytes : List ℕ) (told : Told)
+    : Type 0 where
+  pub form : Form
+  pub names : List (List ℕ)
+  pub rate : Rate
+  pub form_is : IsFormOf values form
+  pub head : HasHead form bytes told names rate
+  pub earlier : ℕ
+  pub part : PartBound saves values names rate earlier
+  pub past : most_samples < part_samples part.stack earlier form bytes told
 
 -- the head of these bytes is this one
 pub record HeadIs (values : Values) (bytes : List ℕ) (told : Told) (head : Head) : Type 0 where
@@ -157,10 +238,11 @@ pub record HeadIs (values : Values) (bytes : List ℕ) (told : Told) (head : Hea
   pub head_is : (capture_of form [] bytes told).head ≡ head
 
 -- the bytes have this fault: their head has it; or it is good, all is bound to it, and they end
--- with it
-abbrev pub HasFault : Values → List ℕ → Told → CaptureFault → Type 0
-HasFault values bytes told fault =
-    HeadIs values bytes told (Bad fault) ⊎ EndsAs values bytes told (Faulty fault)
+-- with it; or so, and the samples of a part go past their bound
+abbrev pub HasFault : Saves → Values → List ℕ → Told → CaptureFault → Type 0
+HasFault saves values bytes told fault =
+    HeadIs values bytes told (Bad fault) ⊎ EndsAs saves values bytes told (Faulty fault)
+    ⊎ ((fault ≡ Past) × GoesPast saves values bytes told)
 
 -- the values ask for these alternatives at these pins
 pub record AsksFor (values : Values) (names : List (List ℕ)) (pins : List ℕ)

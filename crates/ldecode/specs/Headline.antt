@@ -6,7 +6,7 @@ use Rattle.la_base.specs.declared.samples.Rate.{Rate}
 use Rattle.la_io.specs.Capture.{Told, AtEnd, Cut, Bad, Unread, Clean}
 use Rattle.la_io.specs.Causes.{AppendsFront, Rose}
 use Rattle.la_io.specs.declared.fault.CaptureFault.{CaptureFault}
-use Rattle.capture_any.specs.Captures.{ToldAt}
+use Rattle.capture_any.specs.Captures.{IsForm, ToldAt}
 use Rattle.capture_any.specs.Listings.{Fails, Says}
 use Rattle.capture_any.specs.declared.end.ListingEnd.{ListingEnd}
 use Rattle.capture_any.specs.declared.end.ListingEnd.TheVariants as end
@@ -15,21 +15,24 @@ use Rattle.find_job.specs.Finding.{WholeListing, ListingFront}
 use Rattle.wait_cond.specs.declared.alt.Alt.{Alt}
 use Rattle.words.specs.Lexer.{Text}
 use Rattle.words.specs.Settings.{Values, settings_of}
-use Rattle.words.specs.declared.kinds.Job.TheVariants.{Make}
+use Rattle.words.specs.declared.kinds.Job.TheVariants.{Decode, Make, Part}
 use Rattle.words.specs.declared.kinds.WordFault.{WordFault}
+use Rattle.check_point.specs.declared.faults.CheckFault.{CheckFault}
 use Rattle.stack_spec.specs.Accepting.{Accepted}
 use Rattle.stack_spec.specs.declared.faults.BindFault.{BindFault}
 use Rattle.stack_spec.specs.declared.faults.StackFault.{StackFault}
 use Rattle.decoder_core.specs.Trees.{Node}
 use Rattle.decoder_set.specs.declared.setup.Setup.{Setup}
-use Rattle.ldecode.specs.Asking.{AsksFor, AsksStack, CannotBind, EndsAs, HasFault, HasHead}
-use Rattle.ldecode.specs.Asking.{HasStackFault, HeadIs, IsFormOf, NamesNoHead}
+use Rattle.ldecode.specs.Asking.{AsksFor, AsksStack, CannotBind, CheckRefused, EndsAs, HasFault}
+use Rattle.ldecode.specs.Asking.{HasHead, HasStackFault, HeadIs, IsFormOf, NamesNoHead, setups_in}
 use Rattle.ldecode.specs.Decoding.{decode_listing}
 use Rattle.ldecode.specs.Making.{MadeBy}
 use Rattle.ldecode.specs.Notices.{notice_of}
+use Rattle.ldecode.specs.Parting.{CanBegin, Saves}
+use Rattle.ldecode.specs.Parts.{CameBefore, IsCheckAt, PartEnds, PartWrites, part_listing}
 use Rattle.ldecode.specs.declared.status.Status.{Status}
 use Rattle.ldecode.specs.declared.status.Status.TheVariants.{Done, Words, Stack, Bind, ReadFault}
-use Rattle.ldecode.specs.declared.status.Status.TheVariants.{Capture, WriteFault, NoMemory}
+use Rattle.ldecode.specs.declared.status.Status.TheVariants.{Check, Capture, WriteFault, NoMemory}
 
 -- a stream before and after a run: its bytes, where it tells them (those that a source has left,
 -- those that a sink has got), and its count of failures
@@ -62,7 +65,7 @@ pub record Searched (values : Values) (bytes : List ℕ) (told : Told) (old new 
   pub says : Says form pins (λ samples. WholeListing samples alts old new)
       (λ samples. ListingFront samples alts old new) bytes told end
 
--- the decoding that the values ask for came to this end
+-- the decoding of a whole capture that the values ask for came to this end
 pub record Decoded (values : Values) (bytes : List ℕ) (told : Told) (old new : Option (List ℕ))
     (end : ListingEnd) : Type 0 where
   pub form : Form
@@ -73,42 +76,71 @@ pub record Decoded (values : Values) (bytes : List ℕ) (told : Told) (old new :
   pub pins : List ℕ
   pub accepted : Accepted
   pub nodes : List (Node Setup)
+  pub job : values.job ≡ Decode
   pub asks : AsksStack values names rate pins accepted nodes
   pub says : Says form pins (λ samples. Appends old new (decode_listing accepted nodes samples))
       (λ samples. AppendsFront old new (decode_listing accepted nodes samples)) bytes told end
 
+-- the decoding of a part that the values ask for came to this end. What was written is said where
+-- it is the first part, or goes on behind a checkpoint that was made of its decoders behind some
+-- samples; nothing else depends on these
+pub record Parted (saves : Saves) (values : Values) (bytes : List ℕ) (told : Told)
+    (old new : Option (List ℕ)) (end : ListingEnd) : Type 0 where
+  pub form : Form
+  pub names : List (List ℕ)
+  pub rate : Rate
+  pub form_is : IsFormOf values form
+  pub opens : IsForm form
+  pub head : HasHead form bytes told names rate
+  pub pins : List ℕ
+  pub accepted : Accepted
+  pub nodes : List (Node Setup)
+  pub job : values.job ≡ Part
+  pub asks : AsksStack values names rate pins accepted nodes
+  pub count : ℕ
+  pub begins : CanBegin saves (setups_in asks.stack) values.from count
+  pub ends : PartEnds form pins count bytes told end
+  pub says : (earlier : List ℕ) → CameBefore saves nodes values.from earlier
+      → PartWrites (part_listing accepted nodes) (IsCheckAt saves nodes) earlier old new form pins
+      bytes told end
+
 -- the work that the values ask for came to this end
-abbrev pub Worked : Values → List ℕ → Told → Option (List ℕ) → Option (List ℕ) → ListingEnd → Type 0
-Worked values bytes told old new end =
+abbrev pub Worked : Saves → Values → List ℕ → Told → Option (List ℕ) → Option (List ℕ) → ListingEnd
+    → Type 0
+Worked saves values bytes told old new end =
     Searched values bytes told old new end ⊎ Decoded values bytes told old new end
+    ⊎ Parted saves values bytes told old new end
 
 -- what a status says of good words, the bytes that were taken and what was written
-abbrev pub Works : Values → List ℕ → Told → Option (List ℕ) → Option (List ℕ) → Status → Type 0
-Works values bytes told old new Done = Worked values bytes told old new end.Done
-Works values bytes told old new (Words fault) = ⊥
-Works values bytes told old new (Stack fault) =
+abbrev pub Works : Saves → Values → List ℕ → Told → Option (List ℕ) → Option (List ℕ) → Status
+    → Type 0
+Works saves values bytes told old new Done = Worked saves values bytes told old new end.Done
+Works saves values bytes told old new (Words fault) = ⊥
+Works saves values bytes told old new (Stack fault) =
     HasStackFault values fault × (bytes ≡ []) × Appends old new []
-Works values bytes told old new (Bind fault) =
+Works saves values bytes told old new (Bind fault) =
     CannotBind values bytes told fault × Appends old new []
-Works values bytes told old new ReadFault =
+Works saves values bytes told old new (Check fault) =
+    CheckRefused saves values bytes told fault × Appends old new []
+Works saves values bytes told old new ReadFault =
     (told ≡ Cut)
-    × (Worked values bytes told old new end.Read
+    × (Worked saves values bytes told old new end.Read
     ⊎ (HeadIs values bytes told Unread × Appends old new []))
-Works values bytes told old new (Capture fault) =
-    Worked values bytes told old new (end.Fault fault)
+Works saves values bytes told old new (Capture fault) =
+    Worked saves values bytes told old new (end.Fault fault)
     ⊎ (HeadIs values bytes told (Bad fault) × Appends old new [])
-Works values bytes told old new WriteFault = Worked values bytes told old new end.Write
-Works values bytes told old new NoMemory =
-    Worked values bytes told old new end.NoMemory ⊎ Appends old new []
+Works saves values bytes told old new WriteFault = Worked saves values bytes told old new end.Write
+Works saves values bytes told old new NoMemory =
+    Worked saves values bytes told old new end.NoMemory ⊎ Appends old new []
 
 -- the same of a run that took these bytes of its source, whose end it was told or not
-pub record WorksOn (values : Values) (left_old left_new old new : Option (List ℕ))
+pub record WorksOn (saves : Saves) (values : Values) (left_old left_new old new : Option (List ℕ))
     (status : Status) : Type 0 where
   pub bytes : List ℕ
   pub told : Told
   pub taken : Consumes left_old left_new bytes
   pub at_end : ToldAt told left_new
-  pub works : Works values bytes told old new status
+  pub works : Works saves values bytes told old new status
 
 -- the words are good, and this holds of their values
 abbrev pub Good : List Text → (Values → Type 0) → Type 0
@@ -126,37 +158,42 @@ pub record Makes (values : Values) (bytes : List ℕ) (old new : Option (List �
   pub wrote : MadeBy values.seed values.count old new status
 
 -- what a status says of good words, by their job
-abbrev pub Does : Values → List ℕ → Told → Option (List ℕ) → Option (List ℕ) → Status → Type 0
-Does values bytes told old new status =
-    Works values bytes told old new status ⊎ Makes values bytes old new status
+abbrev pub Does : Saves → Values → List ℕ → Told → Option (List ℕ) → Option (List ℕ) → Status
+    → Type 0
+Does saves values bytes told old new status =
+    Works saves values bytes told old new status ⊎ Makes values bytes old new status
 
 -- what a status says of the words, the bytes that were taken and what was written
-abbrev pub Tells : List Text → List ℕ → Told → Option (List ℕ) → Option (List ℕ) → Status → Type 0
-Tells words bytes told old new Done = Good words (λ values. Does values bytes told old new Done)
-Tells words bytes told old new (Words fault) =
+abbrev pub Tells : Saves → List Text → List ℕ → Told → Option (List ℕ) → Option (List ℕ) → Status
+    → Type 0
+Tells saves words bytes told old new Done =
+    Good words (λ values. Does saves values bytes told old new Done)
+Tells saves words bytes told old new (Words fault) =
     (settings_of words ≡ Err fault) × (bytes ≡ []) × Appends old new []
-Tells words bytes told old new (Stack fault) =
-    Good words (λ values. Does values bytes told old new (Stack fault))
-Tells words bytes told old new (Bind fault) =
-    Good words (λ values. Does values bytes told old new (Bind fault))
-Tells words bytes told old new ReadFault =
-    Good words (λ values. Does values bytes told old new ReadFault)
-Tells words bytes told old new (Capture fault) =
-    Good words (λ values. Does values bytes told old new (Capture fault))
-Tells words bytes told old new WriteFault =
-    Good words (λ values. Does values bytes told old new WriteFault)
-Tells words bytes told old new NoMemory =
-    Good words (λ values. Does values bytes told old new NoMemory) ⊎ Appends old new []
+Tells saves words bytes told old new (Stack fault) =
+    Good words (λ values. Does saves values bytes told old new (Stack fault))
+Tells saves words bytes told old new (Bind fault) =
+    Good words (λ values. Does saves values bytes told old new (Bind fault))
+Tells saves words bytes told old new (Check fault) =
+    Good words (λ values. Does saves values bytes told old new (Check fault))
+Tells saves words bytes told old new ReadFault =
+    Good words (λ values. Does saves values bytes told old new ReadFault)
+Tells saves words bytes told old new (Capture fault) =
+    Good words (λ values. Does saves values bytes told old new (Capture fault))
+Tells saves words bytes told old new WriteFault =
+    Good words (λ values. Does saves values bytes told old new WriteFault)
+Tells saves words bytes told old new NoMemory =
+    Good words (λ values. Does saves values bytes told old new NoMemory) ⊎ Appends old new []
 
 -- a run took these bytes of its source, whose end it was told or not, and its status says what it
 -- says of them
-pub record Runs (words : List Text) (left_old left_new old new : Option (List ℕ))
-    (status : Status) : Type 0 where
+pub record Runs (saves : Saves) (words : List Text)
+    (left_old left_new old new : Option (List ℕ)) (status : Status) : Type 0 where
   pub bytes : List ℕ
   pub told : Told
   pub taken : Consumes left_old left_new bytes
   pub at_end : ToldAt told left_new
-  pub tells : Tells words bytes told old new status
+  pub tells : Tells saves words bytes told old new status
 
 -- ReadFault comes only where the source failed; where it failed it is this, WriteFault or NoMemory
 abbrev pub SourceCause : ℕ → ℕ → Status → Type 0
@@ -164,6 +201,7 @@ SourceCause before now Done = now ≡ before
 SourceCause before now (Words fault) = now ≡ before
 SourceCause before now (Stack fault) = now ≡ before
 SourceCause before now (Bind fault) = now ≡ before
+SourceCause before now (Check fault) = now ≡ before
 SourceCause before now ReadFault = Fails before now
 SourceCause before now (Capture fault) = now ≡ before
 SourceCause before now WriteFault = before ≤ now
@@ -175,6 +213,7 @@ SinkCause before now Done = now ≡ before
 SinkCause before now (Words fault) = now ≡ before
 SinkCause before now (Stack fault) = now ≡ before
 SinkCause before now (Bind fault) = now ≡ before
+SinkCause before now (Check fault) = now ≡ before
 SinkCause before now ReadFault = now ≡ before
 SinkCause before now (Capture fault) = now ≡ before
 SinkCause before now WriteFault = Fails before now
@@ -185,12 +224,13 @@ abbrev pub OrNoMemory : Status → Status → Type 0
 OrNoMemory expected status = (status ≡ expected) ⊎ (status ≡ NoMemory)
 
 -- what holds where nothing was read: behind a fault of words or stack, and behind one of binding
--- where the head takes no bytes
+-- or of a checkpoint where the head takes no bytes
 abbrev pub WhereUnread : Type 0 → Status → Type 0 → Type 0
 WhereUnread NoHead Done P = Unit {0}
 WhereUnread NoHead (Words fault) P = P
 WhereUnread NoHead (Stack fault) P = P
 WhereUnread NoHead (Bind fault) P = NoHead → P
+WhereUnread NoHead (Check fault) P = NoHead → P
 WhereUnread NoHead ReadFault P = Unit {0}
 WhereUnread NoHead (Capture fault) P = Unit {0}
 WhereUnread NoHead WriteFault P = Unit {0}
@@ -202,31 +242,37 @@ pub record Notified (notices : Stream) (status : Status) : Type 0 where
   pub whole : ¬ DidFail notices → Appends notices.old notices.new (notice_of status)
 
 -- The promise of a run: for these words, what it did to its source, its sink and its notices, and
--- the status that it answers. `same` says that the source is just as it was.
-pub record Headline (words : List Text) (source sink notices : Stream) (same : Type 0)
-    (status : Status) : Type 0 where
+-- the status that it answers. `same` says that the source is just as it was, and `saves` which
+-- bytes a decoder saves.
+pub record Headline (saves : Saves) (words : List Text) (source sink notices : Stream)
+    (same : Type 0) (status : Status) : Type 0 where
   -- these bytes were taken of the source, whose end it told or not
   pub bytes : List ℕ
   pub told : Told
   pub taken : Consumes source.old source.new bytes
   pub at_end : ToldAt told source.new
   -- what the status says of them, and of what was written
-  pub tells : Tells words bytes told sink.old sink.new status
-  -- each refusal comes exactly where words, stack, channels or bytes have just this fault, but for
-  -- want of memory
+  pub tells : Tells saves words bytes told sink.old sink.new status
+  -- each refusal comes exactly where words, stack, channels, checkpoint or bytes have just this
+  -- fault, but for want of memory
   pub words_fault : (fault : WordFault) → settings_of words ≡ Err fault
       → OrNoMemory (Words fault) status
   pub stack_fault : (fault : StackFault) → Good words (λ values. HasStackFault values fault)
       → OrNoMemory (Stack fault) status
   pub bind_fault : (fault : BindFault) → Good words (λ values. CannotBind values bytes told fault)
       → OrNoMemory (Bind fault) status
+  pub check_fault : (fault : CheckFault)
+      → Good words (λ values. CheckRefused saves values bytes told fault)
+      → OrNoMemory (Check fault) status
   pub capture_fault : (fault : CaptureFault)
-      → Good words (λ values. HasFault values bytes told fault) → ¬ DidFail source → ¬ DidFail sink
+      → Good words (λ values. HasFault saves values bytes told fault)
+      → ¬ DidFail source → ¬ DidFail sink
       → OrNoMemory (Capture fault) status
   -- where nothing is refused, what the source had left ends as it may, and nothing fails, the run
   -- is done, but for want of memory
   pub complete : (left : List ℕ) → source.old ≡ Some left
-      → Good words (λ values. EndsAs values left AtEnd Clean) → ¬ DidFail source → ¬ DidFail sink
+      → Good words (λ values. EndsAs saves values left AtEnd Clean)
+      → ¬ DidFail source → ¬ DidFail sink
       → OrNoMemory Done status
   -- where a capture is made, nothing can fail but writing and memory, and nothing is read
   pub made : Good words IsMade → ¬ DidFail sink → OrNoMemory Done status

@@ -1,4 +1,6 @@
 pub mod Decoding
+pub mod Parting
+pub mod Parts
 pub mod Asking
 pub mod Chosen
 pub mod Notices

@@ -18,7 +18,7 @@ use Rattle.listing_out.specs.declared.summaries.Tally.{Tally}
 use Rattle.tree_runs.specs.Listings.{notes_of}
 use Rattle.ldecode.specs.declared.status.Status.{Status}
 use Rattle.ldecode.specs.declared.status.Status.TheVariants.{Done, Words, Stack, Bind, ReadFault}
-use Rattle.ldecode.specs.declared.status.Status.TheVariants.{Capture, WriteFault, NoMemory}
+use Rattle.ldecode.specs.declared.status.Status.TheVariants.{Check, Capture, WriteFault, NoMemory}
 
 -- the stack that reads a made capture, as its words
 abbrev pub made_chains : List WordText
@@ -80,6 +80,7 @@ MadeBy seed count old new Done = Appends old new (made_listing seed count)
 MadeBy seed count old new (Words fault) = ⊥
 MadeBy seed count old new (Stack fault) = ⊥
 MadeBy seed count old new (Bind fault) = ⊥
+MadeBy seed count old new (Check fault) = ⊥
 MadeBy seed count old new ReadFault = ⊥
 MadeBy seed count old new (Capture fault) = ⊥
 MadeBy seed count old new WriteFault = AppendsFront old new (made_listing seed count)

@@ -11,11 +11,15 @@ use Rattle.words.specs.declared.kinds.WordWhy.{WordWhy}
 use Rattle.words.specs.declared.kinds.WordWhy.TheVariants as word
 use Rattle.stack_spec.specs.declared.faults.StackWhy.{StackWhy}
 use Rattle.stack_spec.specs.declared.faults.StackWhy.TheVariants as stack
+use Rattle.check_point.specs.declared.faults.CheckWhy.{CheckWhy}
+use Rattle.check_point.specs.declared.faults.CheckWhy.TheVariants as check
 use Rattle.capture_any.specs.declared.end.ListingEnd.{ListingEnd}
 use Rattle.capture_any.specs.declared.end.ListingEnd.TheVariants as end
+use Rattle.decode_job.specs.declared.part_end.PartEnd.{PartEnd}
+use Rattle.decode_job.specs.declared.part_end.PartEnd.TheVariants as part
 use Rattle.ldecode.specs.declared.status.Status.{Status}
 use Rattle.ldecode.specs.declared.status.Status.TheVariants.{Done, Words, Stack, Bind, ReadFault}
-use Rattle.ldecode.specs.declared.status.Status.TheVariants.{Capture, WriteFault, NoMemory}
+use Rattle.ldecode.specs.declared.status.Status.TheVariants.{Check, Capture, WriteFault, NoMemory}
 
 -- the status of a run whose work ended so
 abbrev pub status_of : ListingEnd → Status
@@ -24,6 +28,12 @@ status_of end.Read = ReadFault
 status_of end.Write = WriteFault
 status_of (end.Fault fault) = Capture fault
 status_of end.NoMemory = NoMemory
+
+-- how the listing of a part ends that ended so: samples past the most that parts may have are a
+-- fault of its capture
+abbrev pub end_of_part : PartEnd → ListingEnd
+end_of_part (part.Ended end) = end
+end_of_part part.Past = end.Fault capture.Past
 
 -- the status of a run whose capture can't be opened
 abbrev pub status_at_head : CaptureError → Status
@@ -37,6 +47,7 @@ code_of Done = 0
 code_of (Words fault) = 1
 code_of (Stack fault) = 1
 code_of (Bind fault) = 1
+code_of (Check fault) = 1
 code_of ReadFault = 2
 code_of (Capture fault) = 3
 code_of WriteFault = 4
@@ -54,6 +65,7 @@ word_why word.Long = codes "Long"
 word_why word.Extra = codes "Extra"
 word_why word.Few = codes "Few"
 word_why word.Many = codes "Many"
+word_why word.Clash = codes "Clash"
 word_why word.Cond = codes "Cond"
 
 -- why a stack is refused
@@ -73,6 +85,12 @@ bind_why binding.Unknown = codes "Unknown"
 bind_why binding.TooMany = codes "TooMany"
 bind_why binding.Rate = codes "Rate"
 
+-- why a checkpoint is refused
+abbrev pub check_why : CheckWhy → List ℕ
+check_why check.Many = codes "Many"
+check_why check.Form = codes "Form"
+check_why check.Fit = codes "Fit"
+
 -- what is wrong with a capture
 abbrev pub capture_why : CaptureFault → List ℕ
 capture_why (capture.ShortUnit at) = codes "ShortUnit"
@@ -87,6 +105,7 @@ capture_why (capture.Field line column) = codes "Field"
 capture_why (capture.Columns line want have) = codes "Columns"
 capture_why (capture.Time line) = codes "Time"
 capture_why capture.Bytes = codes "Bytes"
+capture_why capture.Past = codes "Past"
 
 -- the place of a capture's fault, or its line; 0 where it has neither
 abbrev pub capture_at : CaptureFault → ℕ
@@ -102,6 +121,7 @@ capture_at (capture.Field line column) = line
 capture_at (capture.Columns line want have) = line
 capture_at (capture.Time line) = line
 capture_at capture.Bytes = 0
+capture_at capture.Past = 0
 
 -- the line that tells of a status; a run that is done tells nothing
 abbrev pub notice_of : Status → List ℕ
@@ -115,6 +135,9 @@ notice_of (Stack fault) =
 notice_of (Bind fault) =
     codes "ldecode: entry " ++ decimal fault.entry ++ codes " item " ++ decimal fault.item
     ++ codes ": " ++ bind_why fault.why ++ codes "\n"
+notice_of (Check fault) =
+    codes "ldecode: checkpoint at " ++ decimal fault.instance ++ codes ": "
+    ++ check_why fault.why ++ codes "\n"
 notice_of ReadFault = codes "ldecode: read fault\n"
 notice_of (Capture fault) =
     codes "ldecode: capture at " ++ decimal (capture_at fault) ++ codes ": " ++ capture_why fault

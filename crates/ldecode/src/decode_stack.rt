@@ -9,6 +9,8 @@ ghost use Rattle.ldecode.specs.Headline.{WorksOn, SourceCause, SinkCause, WhereU
 use crate::open_stack::{Opened, open_stack};
 use crate::status::Status;
 use decode_job::{InThreads, decode, decode_in_threads};
+use decoder_core::Keep;
+use decoder_set::AnyDecoder;
 use la_io::{Sink, Source};
 use stage_crew::Pacer;
 use std::alloc::Global;
@@ -27,8 +29,8 @@ pub fn decode_stack<S: Source, K: Sink>(
     requires readable { IsReadable Decode settings.now.chains.items }
     requires shown { IfSome settings.now.show IsShort }
     requires binary { IfSome settings.now.binary IsShort }
-    ensures works { WorksOn (meaning_of settings.now) (S.left source.old) (S.left source.new)
-        (K.written sink.old) (K.written sink.new) result }
+    ensures works { WorksOn ⟦<AnyDecoder as Keep>⟧.saves (meaning_of settings.now)
+        (S.left source.old) (S.left source.new) (K.written sink.old) (K.written sink.new) result }
     ensures unread { WhereUnread (NamesNoHead (meaning_of settings.now)) result
         (source.new ≡ source.old) }
     ensures read { SourceCause (S.faults source.old) (S.faults source.new) result }
@@ -69,8 +71,8 @@ pub fn decode_stack_in_threads<R: Threads + Wait + Sync, P: Pacer + Sync, S: Sou
     requires readable { IsReadable Decode settings.now.chains.items }
     requires shown { IfSome settings.now.show IsShort }
     requires binary { IfSome settings.now.binary IsShort }
-    ensures works { WorksOn (meaning_of settings.now) (S.left source.old) (S.left source.new)
-        (K.written sink.old) (K.written sink.new) result }
+    ensures works { WorksOn ⟦<AnyDecoder as Keep>⟧.saves (meaning_of settings.now)
+        (S.left source.old) (S.left source.new) (K.written sink.old) (K.written sink.new) result }
     ensures unread { WhereUnread (NamesNoHead (meaning_of settings.now)) result
         (source.new ≡ source.old) }
     ensures read { SourceCause (S.faults source.old) (S.faults source.new) result }

@@ -9,6 +9,7 @@ mod made_feed;
 mod make;
 mod notices;
 mod open_stack;
+mod part;
 mod search;
 mod status;
 mod tally_taker;

@@ -2,9 +2,10 @@
 ghost use Rattle.std.specs.Prelude.{◌≡◌, ◌≤◌, ◌++◌, [], codes, length};
 ghost use Rattle.std.specs.Fmt.{decimal};
 ghost use Rattle.ldecode.specs.Notices.{word_why, stack_why, bind_why, capture_why, capture_at};
-ghost use Rattle.ldecode.specs.Notices.{notice_of};
+ghost use Rattle.ldecode.specs.Notices.{check_why, notice_of};
 
 use crate::status::Status;
+use check_point::CheckWhy;
 use la_io::CaptureFault;
 use line_text::LineBuf;
 use listing_out::push_text;
@@ -28,6 +29,7 @@ fn word_why(why: WordWhy) -> &'static str
         WordWhy::Extra => "Extra",
         WordWhy::Few => "Few",
         WordWhy::Many => "Many",
+        WordWhy::Clash => "Clash",
         WordWhy::Cond => "Cond",
     }
 }
@@ -61,6 +63,18 @@ fn bind_why(why: BindWhy) -> &'static str
     }
 }
 
+// Why a checkpoint is refused.
+fn check_why(why: CheckWhy) -> &'static str
+    ensures text { result.now ≡ check_why why }
+    ensures short { length result.now ≤ 20 }
+{
+    match why {
+        CheckWhy::Many => "Many",
+        CheckWhy::Form => "Form",
+        CheckWhy::Fit => "Fit",
+    }
+}
+
 // What is wrong with a capture.
 fn capture_why(fault: CaptureFault) -> &'static str
     ensures text { result.now ≡ capture_why fault }
@@ -79,6 +93,7 @@ fn capture_why(fault: CaptureFault) -> &'static str
         CaptureFault::Columns { .. } => "Columns",
         CaptureFault::Time { .. } => "Time",
         CaptureFault::Bytes => "Bytes",
+        CaptureFault::Past => "Past",
     }
 }
 
@@ -96,7 +111,10 @@ fn capture_at(fault: CaptureFault) -> u64
         CaptureFault::Field { line, .. }
         | CaptureFault::Columns { line, .. }
         | CaptureFault::Time { line } => line,
-        CaptureFault::NoTimescale | CaptureFault::NoDefinitions | CaptureFault::Bytes => 0,
+        CaptureFault::NoTimescale
+        | CaptureFault::NoDefinitions
+        | CaptureFault::Bytes
+        | CaptureFault::Past => 0,
     }
 }
 
@@ -149,6 +167,13 @@ pub fn notice(status: &Status) -> LineBuf
             line.push_number(u64::from(fault.item));
             push_text(&mut line, ": ");
             push_text(&mut line, bind_why(fault.why));
+            push_text(&mut line, "\n");
+        }
+        Status::Check(fault) => {
+            push_text(&mut line, "ldecode: checkpoint at ");
+            line.push_number(u64::from(fault.instance));
+            push_text(&mut line, ": ");
+            push_text(&mut line, check_why(fault.why));
             push_text(&mut line, "\n");
         }
         Status::ReadFault => push_text(&mut line, "ldecode: read fault\n"),

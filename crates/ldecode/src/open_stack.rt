@@ -1,15 +1,15 @@
 // What stands before a decoding.
-ghost use Rattle.std.specs.Prelude.{◌≡◌, ℕ, IfErr, IfOk, IfSome, List, Option};
-ghost use Rattle.words.specs.Readable.{IsReadable, IsShort};
+ghost use Rattle.std.specs.Prelude.{◌≡◌, ℕ, All, IfErr, IfOk, IfSome, List, Option};
+ghost use Rattle.words.specs.Readable.{IsShort};
 ghost use Rattle.words.specs.Settings.{meaning_of};
-ghost use Rattle.words.specs.declared.kinds.Job.TheVariants.{Decode};
-ghost use Rattle.ldecode.specs.Asking.{NamesNoHead};
+ghost use Rattle.ldecode.specs.Asking.{HasStack, NamesNoHead};
 ghost use Rattle.ldecode.specs.Headline.{SinkCause, SourceCause, WhereUnread, WorksOn};
 ghost use Rattle.ldecode.specs.Opening.{IsOpened};
 
 use crate::form::form_of;
 use crate::status::{Status, status_at_head};
 use capture_any::Capture;
+use decoder_core::Keep;
 use decoder_set::AnyDecoder;
 use la_io::Source;
 use stack_spec::{BindError, Stack, StackError, bind, read_stack};
@@ -30,16 +30,19 @@ pub(crate) fn open_stack<S: Source>(
     settings: &Settings,
     source: &mut S,
 ) -> Result<Opened, Status>
-    requires job { settings.now.job ≡ Decode }
-    requires readable { IsReadable Decode settings.now.chains.items }
+    requires job { HasStack settings.now.job }
+    requires chains { All IsShort settings.now.chains.items }
     requires shown { IfSome settings.now.show IsShort }
     requires binary { IfSome settings.now.binary IsShort }
     ensures opened { IfOk result
-        (IsOpened (meaning_of settings.now) (S.left source.old) (S.left source.new)) }
+        (IsOpened ⟦<AnyDecoder as Keep>⟧.saves (meaning_of settings.now) (S.left source.old)
+        (S.left source.new)) }
     ensures kept { IfOk result (λ _. S.faults source.new ≡ S.faults source.old) }
+    ensures headless { IfOk result (λ _. NamesNoHead (meaning_of settings.now)
+        → source.new ≡ source.old) }
     ensures works { IfErr result (λ status. (written : Option (List ℕ))
-        → WorksOn (meaning_of settings.now) (S.left source.old) (S.left source.new)
-        written written status) }
+        → WorksOn ⟦<AnyDecoder as Keep>⟧.saves (meaning_of settings.now) (S.left source.old)
+        (S.left source.new) written written status) }
     ensures unread { IfErr result (λ status. WhereUnread (NamesNoHead (meaning_of settings.now))
         status (source.new ≡ source.old)) }
     ensures read { IfErr result (SourceCause (S.faults source.old) (S.faults source.new)) }

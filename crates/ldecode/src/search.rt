@@ -10,6 +10,8 @@ use crate::alternatives::bind_words;
 use crate::form::form_of;
 use crate::status::{Status, status_at_head};
 use capture_any::Capture;
+use decoder_core::Keep;
+use decoder_set::AnyDecoder;
 use find_job::find_buffered;
 use la_io::{Sink, Source};
 use stack_spec::BindError;
@@ -25,8 +27,8 @@ pub fn search<S: Source, K: Sink>(
 ) -> Status
     requires job { settings.now.job ≡ Find }
     requires readable { IsReadable Find settings.now.chains.items }
-    ensures works { WorksOn (meaning_of settings.now) (S.left source.old) (S.left source.new)
-        (K.written sink.old) (K.written sink.new) result }
+    ensures works { WorksOn ⟦<AnyDecoder as Keep>⟧.saves (meaning_of settings.now)
+        (S.left source.old) (S.left source.new) (K.written sink.old) (K.written sink.new) result }
     ensures unread { WhereUnread (NamesNoHead (meaning_of settings.now)) result
         (source.new ≡ source.old) }
     ensures read { SourceCause (S.faults source.old) (S.faults source.new) result }

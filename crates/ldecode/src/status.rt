@@ -3,6 +3,8 @@ ghost use Rattle.std.specs.Prelude.{◌≡◌};
 ghost use Rattle.ldecode.specs.Notices.{code_of, status_at_head};
 
 use capture_any::ListingEnd;
+use check_point::CheckFault;
+use decode_job::PartEnd;
 use la_io::{CaptureError, CaptureFault};
 use stack_spec::{BindFault, StackFault};
 use words::WordFault;
@@ -18,6 +20,9 @@ pub enum Status {
     Stack(StackFault),
     /// A channel isn't there, or is one too many, or the rate is too low. Nothing was written.
     Bind(BindFault),
+    /// The stack of a part has more instances than a checkpoint can have, or its checkpoint is
+    /// refused. Nothing was written.
+    Check(CheckFault),
     /// The source failed. The listing of the samples that came before is whole.
     ReadFault,
     /// The capture has a fault. The listing of the samples before it is whole.
@@ -34,7 +39,7 @@ pub fn exit_code(status: &Status) -> u8
 {
     match status {
         Status::Done => 0,
-        Status::Words(_) | Status::Stack(_) | Status::Bind(_) => 1,
+        Status::Words(_) | Status::Stack(_) | Status::Bind(_) | Status::Check(_) => 1,
         Status::ReadFault => 2,
         Status::Capture(_) => 3,
         Status::WriteFault => 4,
@@ -65,6 +70,19 @@ impl From<ListingEnd> for Status {
             ListingEnd::Write => Status::WriteFault,
             ListingEnd::Fault(fault) => Status::Capture(fault),
             ListingEnd::NoMemory => Status::NoMemory,
+        }
+    }
+}
+
+impl From<PartEnd> for Status {
+    ghost use Rattle.ldecode.specs.Notices.{end_of_part, status_of};
+
+    ghost from_gives = { λ end status. status ≡ status_of (end_of_part end) };
+
+    fn from(end: PartEnd) -> Status {
+        match end {
+            PartEnd::Ended(end) => Status::from(end),
+            PartEnd::Past => Status::Capture(CaptureFault::Past),
         }
     }
 }

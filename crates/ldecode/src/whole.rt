@@ -8,8 +8,11 @@ ghost use Rattle.ldecode.specs.Headline.{SourceCause, WhereUnread, stream};
 use crate::decode_stack::{decode_stack, decode_stack_in_threads};
 use crate::make::make;
 use crate::notices::notice;
+use crate::part::part_stack;
 use crate::search::search;
 use crate::status::Status;
+use decoder_core::Keep;
+use decoder_set::AnyDecoder;
 use la_io::{Failed, Sink, Source, write_whole};
 use stage_crew::Pacer;
 use std::alloc::Global;
@@ -24,8 +27,8 @@ fn run_words<S: Source, K: Sink>(
     source: &mut S,
     sink: &mut K,
 ) -> Status
-    ensures runs { Runs (map string_bytes words.now) (S.left source.old) (S.left source.new)
-        (K.written sink.old) (K.written sink.new) result }
+    ensures runs { Runs ⟦<AnyDecoder as Keep>⟧.saves (map string_bytes words.now)
+        (S.left source.old) (S.left source.new) (K.written sink.old) (K.written sink.new) result }
     ensures unread { WhereUnread (Good (map string_bytes words.now) NamesNoHead) result
         (source.new ≡ source.old) }
     ensures made { Good (map string_bytes words.now) IsMade → source.new ≡ source.old }
@@ -40,6 +43,7 @@ fn run_words<S: Source, K: Sink>(
     match settings.job {
         Job::Find => search(alloc, &settings, source, sink),
         Job::Decode => decode_stack(alloc, &settings, source, sink),
+        Job::Part => part_stack(alloc, &settings, source, sink),
         Job::Make => make(alloc, settings.seed, settings.count, sink),
     }
 }
@@ -53,8 +57,8 @@ fn run_words_in_threads<R: Threads + Wait + Sync, S: Source, K: Sink, P: Pacer +
     sink: &mut K,
     pacer: &P,
 ) -> Status
-    ensures runs { Runs (map string_bytes words.now) (S.left source.old) (S.left source.new)
-        (K.written sink.old) (K.written sink.new) result }
+    ensures runs { Runs ⟦<AnyDecoder as Keep>⟧.saves (map string_bytes words.now)
+        (S.left source.old) (S.left source.new) (K.written sink.old) (K.written sink.new) result }
     ensures unread { WhereUnread (Good (map string_bytes words.now) NamesNoHead) result
         (source.new ≡ source.old) }
     ensures made { Good (map string_bytes words.now) IsMade → source.new ≡ source.old }
@@ -72,6 +76,7 @@ fn run_words_in_threads<R: Threads + Wait + Sync, S: Source, K: Sink, P: Pacer +
             decode_stack_in_threads(rt, alloc, &settings, source, sink, pacer)
         }
         Job::Decode => decode_stack(alloc, &settings, source, sink),
+        Job::Part => part_stack(alloc, &settings, source, sink),
         Job::Make => make(alloc, settings.seed, settings.count, sink),
     }
 }
@@ -90,11 +95,12 @@ fn tell<E: Sink>(status: &Status, notices: &mut E)
 /// thread, and then the line that tells of the status to the notices.
 ///
 /// What is written is the listing of the words' stack, or the binary data that they want of it, or
-/// the listing of their condition, on the settled samples of the bytes that were taken; or how much
-/// a made capture gives, for which nothing is read. The status is what words and capture give.
-/// `ReadFault` comes only where the source failed, `WriteFault` exactly where the sink failed: a
-/// front of the listing is then written. `NoMemory`, for want of memory, may come in place of any
-/// status but `WriteFault`; a front of the listing, or nothing, is written then.
+/// the listing of their condition, on the settled samples of the bytes that were taken; or of a
+/// part what these samples add to those before it, and a checkpoint; or how much a made capture
+/// gives, for which nothing is read. The status is what words and capture give. `ReadFault` comes
+/// only where the source failed, `WriteFault` exactly where the sink failed: a front of the listing
+/// is then written. `NoMemory`, for want of memory, may come in place of any status but
+/// `WriteFault`; a front of the listing, or nothing, is written then.
 pub fn run_here<S: Source, K: Sink, E: Sink>(
     alloc: Global,
     words: &[String],
@@ -102,7 +108,8 @@ pub fn run_here<S: Source, K: Sink, E: Sink>(
     sink: &mut K,
     notices: &mut E,
 ) -> Status
-    ensures { Headline (map string_bytes words.now) (stream S.left S.faults source.old source.new)
+    ensures { Headline ⟦<AnyDecoder as Keep>⟧.saves (map string_bytes words.now)
+        (stream S.left S.faults source.old source.new)
         (stream K.written K.faults sink.old sink.new)
         (stream E.written E.faults notices.old notices.new) (source.new ≡ source.old) result }
 {
@@ -123,7 +130,8 @@ pub fn run<R: Threads + Wait + Sync, S: Source, K: Sink, E: Sink, P: Pacer + Syn
     notices: &mut E,
     pacer: &P,
 ) -> Status
-    ensures { Headline (map string_bytes words.now) (stream S.left S.faults source.old source.new)
+    ensures { Headline ⟦<AnyDecoder as Keep>⟧.saves (map string_bytes words.now)
+        (stream S.left S.faults source.old source.new)
         (stream K.written K.faults sink.old sink.new)
         (stream E.written E.faults notices.old notices.new) (source.new ≡ source.old) result }
 {

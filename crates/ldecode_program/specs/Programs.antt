@@ -4,6 +4,7 @@ use Rattle.std.specs.Io.KnownBytes.{Appends}
 use Rattle.la_io.specs.Causes.{AppendsFront}
 use Rattle.ldecode.specs.Headline.{DidFail, Headline, Stream}
 use Rattle.ldecode.specs.Notices.{code_of}
+use Rattle.ldecode.specs.Parting.{Saves}
 use Rattle.ldecode.specs.declared.status.Status.{Status}
 use Rattle.ldecode.specs.declared.status.Status.TheVariants as status
 use Rattle.ldecode_program.specs.declared.request.Request.{Request}
@@ -24,19 +25,19 @@ MadeWritten Is sink code =
     × (code ≡ code_of status.NoMemory))
 
 -- a run of the words keeps its promise, and its status makes the exit status
-pub record RunEnds (words : List (List ℕ)) (source sink notices : Stream) (same : Type 0)
-    (code : ℕ) : Type 0 where
+pub record RunEnds (saves : Saves) (words : List (List ℕ)) (source sink notices : Stream)
+    (same : Type 0) (code : ℕ) : Type 0 where
   pub status : Status
-  pub headline : Headline words source sink notices same status
+  pub headline : Headline saves words source sink notices same status
   pub code_is : code ≡ code_of status
 
 -- what is asked for is done; `same` and `quiet` say that the source and the notices are just as
 -- they were
-abbrev pub Does : Request → (List ℕ → Type 0) → List ℕ → List (List ℕ) → Stream → Stream → Stream
-    → Type 0 → Type 0 → ℕ → Type 0
-Does Help IsHelp version words source sink notices same quiet code =
+abbrev pub Does : Saves → Request → (List ℕ → Type 0) → List ℕ → List (List ℕ) → Stream → Stream
+    → Stream → Type 0 → Type 0 → ℕ → Type 0
+Does saves Help IsHelp version words source sink notices same quiet code =
     MadeWritten IsHelp sink code × same × quiet
-Does Version IsHelp version words source sink notices same quiet code =
+Does saves Version IsHelp version words source sink notices same quiet code =
     TextWritten version sink code × same × quiet
-Does Run IsHelp version words source sink notices same quiet code =
-    RunEnds words source sink notices same code
+Does saves Run IsHelp version words source sink notices same quiet code =
+    RunEnds saves words source sink notices same code

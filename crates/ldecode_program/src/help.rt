@@ -27,6 +27,10 @@ ldecode --job find [OPTION..] ALTERNATIVE..
     prints a line for each sample at which an alternative holds: SAMPLE: NUMBERS.
     An alternative is `any`, or terms with commas between them: CHANNEL=LEVEL,
     where the level is r, f, e (an edge), s (none), h or l; or skip=SAMPLES.
+ldecode --job part [OPTION..] CHAIN..
+    decodes a part of a capture of raw samples, which goes on where the part before it
+    ended if --from names its checkpoint, and prints behind the annotations the line
+    checkpoint: WORD, whose word is for the part behind it.
 ldecode --job make [OPTION..]
     decodes a capture that is made, of transactions that a seed draws, and prints
     how many samples it has, and what its decoders give, in numbers. This checks
@@ -54,6 +58,9 @@ What a serial line says, as it was said:
     ldecode --binary uart-1:data uart:rx=D0 < capture.raw
 Where D0 rises while D3 is low:
     ldecode --job find D0=r,D3=l < capture.raw
+The first part of a capture, and the part behind it:
+    ldecode --job part i2c:scl=D0:sda=D1 < first.raw
+    ldecode --job part --from WORD i2c:scl=D0:sda=D1 < second.raw
 What the decoders give of a made capture:
     ldecode --job make --seed 1 --count 1000
 ";

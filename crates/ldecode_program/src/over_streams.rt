@@ -12,6 +12,8 @@ ghost use Rattle.ldecode_program.specs.declared.help.TheConstants.{VERSION};
 
 use crate::help::{VERSION, help_text};
 use crate::request::{Request, request_of};
+use decoder_core::Keep;
+use decoder_set::AnyDecoder;
 use la_io::{Failed, Sink, Source, write_whole};
 use ldecode::{Pacer, Status, exit_code, run};
 use std::alloc::{AllocError, Global};
@@ -51,7 +53,7 @@ pub fn program<R: Threads + Wait + Sync, S: Source, K: Sink, E: Sink, P: Pacer +
     notices: &mut E,
     pacer: &P,
 ) -> u8
-    ensures { Does (requested (map string_bytes words.now))
+    ensures { Does ⟦<AnyDecoder as Keep>⟧.saves (requested (map string_bytes words.now))
         (IsHelp USAGE.now DECODERS.now EXAMPLES.now OPTIONS KINDS) VERSION.now
         (map string_bytes words.now)
         (stream S.left S.faults source.old source.new) (stream K.written K.faults sink.old sink.new)

@@ -20,8 +20,8 @@ returns g c =
     let end = c.decode.result in
     let same = sym c.from.ensures in
     record {
-      works = subst (WorksOn values (left c.args.source.now) (left c.decode.new.source) (k.written c.args.sink.now) (k.written c.decode.new.sink)) same
-          (comes_of values (left c.args.source.now) (left c.open_stack.new.source) (left c.decode.new.source) (k.written c.args.sink.now) (k.written c.decode.new.sink) c.in-Ok.opened opened c.deref.result.now c.deref.ensures.value end (decodes.lists opened.bytes opened.told opened.at opened.stands opened.consumed));
+      works = subst (WorksOn _ values (left c.args.source.now) (left c.decode.new.source) (k.written c.args.sink.now) (k.written c.decode.new.sink)) same
+          (comes_of _ values c.requires.job (left c.args.source.now) (left c.open_stack.new.source) (left c.decode.new.source) (k.written c.args.sink.now) (k.written c.decode.new.sink) c.in-Ok.opened opened c.deref.result.now c.deref.ensures.value end (decodes.lists opened.bytes opened.told opened.at opened.stands opened.consumed));
       unread = subst (λ (s : Status). WhereUnread (NamesNoHead values) s (c.decode.new.source ≡ c.args.source.now)) same (unread_at_end (NamesNoHead values) (c.decode.new.source ≡ c.args.source.now) end);
       read = subst (SourceCause (g.S.Source.faults c.args.source.now) (g.S.Source.faults c.decode.new.source)) same
           (source_cause (g.S.Source.faults c.args.source.now) (g.S.Source.faults c.open_stack.new.source) (g.S.Source.faults c.decode.new.source) end c.in-Ok.ensures.kept decodes.read);

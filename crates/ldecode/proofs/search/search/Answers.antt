@@ -16,8 +16,8 @@ use Rattle.ldecode.proofs.search.search.Goals as goal
 pub returns-in-Err-clause-works : goal.returns-in-Err-clause-works
 returns-in-Err-clause-works g c =
     let values = meaning_of c.args.settings.now in
-    subst (λ (s : Status). WorksOn values (g.S.Source.left c.args.source.now) (g.S.Source.left c.open.new.source) (g.K.Sink.written c.args.sink.now) (g.K.Sink.written c.args.sink.now) s) (sym c.status_at_head.ensures)
-    (opening_fails values c.form_of.result c.form_of.ensures.named (inl c.requires.job) _ _ _ c.in-Err.error c.in-Err.ensures.opens)
+    subst (λ (s : Status). WorksOn _ values (g.S.Source.left c.args.source.now) (g.S.Source.left c.open.new.source) (g.K.Sink.written c.args.sink.now) (g.K.Sink.written c.args.sink.now) s) (sym c.status_at_head.ensures)
+    (opening_fails _ values c.form_of.result c.form_of.ensures.named (inl c.requires.job) _ _ _ c.in-Err.error c.in-Err.ensures.opens)
 
 pub returns-in-Err-Fault-clause-works : goal.returns-in-Err-Fault-clause-works
 returns-in-Err-Fault-clause-works g c =
@@ -26,7 +26,7 @@ returns-in-Err-Fault-clause-works g c =
     let s = the_search c.args.settings.now c.requires.job (c.requires.readable.good refl) in
     let terms = subst (λ (l : List ChainWord). AreTerms l s.0) (sym c.deref.ensures.value) s.1 in
     let refused = subst (λ (n : List (List ℕ)). Chooses n s.0 (Err (Fault c.in-Err-Fault.fault))) c.names.ensures (subst (λ (e : BindError). Chooses c.names.result.now s.0 (Err e)) c.in-Err-Fault.field-0-is (c.in-Err-Fault.ensures.chooses s.0 terms)) in
-    binding_fails values c.form_of.result c.form_of.ensures.named (inl c.requires.job) _ _ _ capture c.in-Ok.ensures.opens c.in-Err-Fault.fault (search_refused values (names_of capture) (rate_of capture) s.0 s.2 c.in-Err-Fault.fault refused)
+    binding_fails _ values c.form_of.result c.form_of.ensures.named (inl c.requires.job) _ _ _ capture c.in-Ok.ensures.opens c.in-Err-Fault.fault (search_refused values (names_of capture) (rate_of capture) s.0 s.2 c.in-Err-Fault.fault refused)
 
 pub returns-clause-works : goal.returns-clause-works
 returns-clause-works g c =
@@ -40,8 +40,8 @@ returns-clause-works g c =
     let chosen = subst (λ (n : List (List ℕ)). Chooses n s.0 (Ok wanted)) c.names.ensures (c.in-Ok-bind_words.ensures.chooses s.0 terms) in
     let asks = search_asks values (names_of capture) (rate_of capture) s.0 s.2 wanted.pins.items (cond_alts wanted.cond) chosen in
     let lists = c.find_buffered.ensures.finds opens.bytes opens.opened.0 opens.opened.1 (c.select.ensures.stands opens.bytes opens.opened.0 opens.opened.2) in
-    subst (λ (status : Status). WorksOn values (g.S.Source.left c.args.source.now) (g.S.Source.left c.find_buffered.new.source) (g.K.Sink.written c.args.sink.now) (g.K.Sink.written c.find_buffered.new.sink) status) (sym c.from.ensures)
-    (search_ends values c.form_of.result c.form_of.ensures.named (inl c.requires.job) (g.S.Source.left c.args.source.now) (g.S.Source.left c.open.new.source) (g.K.Sink.written c.args.sink.now) capture opens now wanted.pins.items
+    subst (λ (status : Status). WorksOn _ values (g.S.Source.left c.args.source.now) (g.S.Source.left c.find_buffered.new.source) (g.K.Sink.written c.args.sink.now) (g.K.Sink.written c.find_buffered.new.sink) status) (sym c.from.ensures)
+    (search_ends _ values c.form_of.result c.form_of.ensures.named (inl c.requires.job) (g.S.Source.left c.args.source.now) (g.S.Source.left c.open.new.source) (g.K.Sink.written c.args.sink.now) capture opens now wanted.pins.items
     (c.select.ensures.form ∙ c.in-Ok.ensures.form) c.select.ensures.pins (g.S.Source.left c.find_buffered.new.source) (g.K.Sink.written c.find_buffered.new.sink) (cond_alts wanted.cond) c.find_buffered.result asks lists)
 
 pub returns-in-Err-Fault-clause-unread : goal.returns-in-Err-Fault-clause-unread

@@ -1,0 +1,141 @@
+// A run of the job `part`.
+ghost use Rattle.std.specs.Prelude.{◌≡◌, ◌≤◌, length, map, IfSome, IfOk, IfErr};
+ghost use Rattle.std.specs.Prelude.{option_map};
+ghost use Rattle.std.specs.String.{string_bytes};
+ghost use Rattle.decoder_set.specs.Opening.{setup_of};
+ghost use Rattle.stack_spec.specs.Stacks.{instances_in};
+ghost use Rattle.words.specs.Readable.{IsReadable, IsShort};
+ghost use Rattle.words.specs.Settings.{meaning_of};
+ghost use Rattle.words.specs.declared.kinds.Job.TheVariants.{Part};
+ghost use Rattle.ldecode.specs.Asking.{NamesNoHead};
+ghost use Rattle.ldecode.specs.Headline.{WorksOn, SourceCause, SinkCause, WhereUnread};
+ghost use Rattle.ldecode.specs.Parting.{Begun, CanBegin, CantBegin, place_of};
+
+use crate::open_stack::{Opened, open_stack};
+use crate::status::Status;
+use arrayvec::ArrayVec;
+use check_point::{CheckFault, CheckWhy, read_check};
+use decode_job::part;
+use decoder_core::Keep;
+use decoder_set::{AnyDecoder, Kind};
+use la_io::{Sink, Source};
+use stack_spec::Stack;
+use std::alloc::Global;
+use tree_runs::new_machines_stand;
+use words::Settings;
+
+/// The most decoders that a checkpoint can have.
+const MOST_DECODERS: u32 = 8;
+
+// The place of a kind in the order of all kinds.
+fn place_of(kind: Kind) -> u8
+    ensures { result ≡ place_of kind }
+{
+    match kind {
+        Kind::I2c => 0,
+        Kind::Spi => 1,
+        Kind::Uart => 2,
+        Kind::OwLink => 3,
+        Kind::OwNet => 4,
+        Kind::Eeprom24 => 5,
+        Kind::Ds1307 => 6,
+        Kind::Lm75 => 7,
+        Kind::Ds18b20 => 8,
+        Kind::Flash25 => 9,
+        Kind::Modbus => 10,
+        Kind::Midi => 11,
+    }
+}
+
+// The places of the kinds of a stack's instances.
+fn places(stack: &Stack) -> ArrayVec<u8, 8>
+    requires { length (instances_in stack.now) ≤ 8 }
+    ensures { result.items ≡ map (λ instance. place_of instance.kind) (instances_in stack.now) }
+{
+    let mut places = ArrayVec::new();
+    for instance in 0..stack.count() {
+        places.push(place_of(stack.kind(instance)));
+    }
+    places
+}
+
+// Loads the decoders of a stack from the checkpoint that is given, and answers how many samples
+// came before; none where no checkpoint is given. A fault says why they can't go on.
+fn begin(
+    stack: &Stack,
+    machines: &mut [AnyDecoder],
+    from: Option<&String>,
+) -> Result<u64, CheckFault>
+    requires short { IfSome from (λ text. length (string_bytes text.now) ≤ 4096) }
+    requires kinds { map (λ decoder. (setup_of decoder).kind) machines.old
+        ≡ map (λ instance. instance.kind) (instances_in stack.now) }
+    ensures begun { IfOk result (Begun ⟦<AnyDecoder as Keep>⟧.saves machines.old
+        machines.new (option_map (λ text. string_bytes text.now) from.entry)) }
+    ensures begins { IfOk result
+        (CanBegin ⟦<AnyDecoder as Keep>⟧.saves (map setup_of machines.old)
+        (option_map (λ text. string_bytes text.now) from.entry)) }
+    ensures refused { IfErr result
+        (CantBegin ⟦<AnyDecoder as Keep>⟧.saves (map setup_of machines.old)
+        (option_map (λ text. string_bytes text.now) from.entry)) }
+{
+    if stack.count() > MOST_DECODERS {
+        return Err(CheckFault {
+            instance: MOST_DECODERS,
+            why: CheckWhy::Many,
+        });
+    }
+    match from {
+        None => Ok(0),
+        Some(word) => read_check(word.as_str(), machines, places(stack).as_slice()),
+    }
+}
+
+/// Decodes a part of a capture under the stack that the settings ask for, on this one thread,
+/// behind the checkpoint that they name, and writes the checkpoint behind it.
+pub fn part_stack<S: Source, K: Sink>(
+    alloc: Global,
+    settings: &Settings,
+    source: &mut S,
+    sink: &mut K,
+) -> Status
+    requires job { settings.now.job ≡ Part }
+    requires readable { IsReadable Part settings.now.chains.items }
+    requires shown { IfSome settings.now.show IsShort }
+    requires binary { IfSome settings.now.binary IsShort }
+    requires from { IfSome settings.now.from (λ text. length (string_bytes text) ≤ 4096) }
+    ensures works { WorksOn ⟦<AnyDecoder as Keep>⟧.saves (meaning_of settings.now)
+        (S.left source.old) (S.left source.new) (K.written sink.old) (K.written sink.new) result }
+    ensures unread { WhereUnread (NamesNoHead (meaning_of settings.now)) result
+        (source.new ≡ source.old) }
+    ensures read { SourceCause (S.faults source.old) (S.faults source.new) result }
+    ensures write { SinkCause (K.faults sink.old) (K.faults sink.new) result }
+{
+    let Opened {
+        stack,
+        capture,
+        machines,
+        parents,
+    } = match open_stack(alloc, settings, source) {
+        Ok(opened) => opened,
+        Err(status) => return status,
+    };
+    let mut machines = machines;
+    let machines = machines.as_mut_slice();
+    new_machines_stand(machines, &parents);
+    let earlier = match begin(&stack, machines, settings.from.as_ref()) {
+        Ok(earlier) => earlier,
+        Err(fault) => return Status::Check(fault),
+    };
+    let mut capture = capture;
+    Status::from(part(
+        alloc,
+        &stack,
+        &mut capture,
+        machines,
+        places(&stack).as_slice(),
+        &parents,
+        earlier,
+        source,
+        sink,
+    ))
+}
