@@ -39,6 +39,11 @@ impl Drawing {
         &self.bytes
     }
 
+    /// The bytes of a sample.
+    pub fn unit(&self) -> usize {
+        self.unit
+    }
+
     /// The samples of half a bit, where a clock tells the bits.
     pub fn half(&self) -> u64 {
         self.half

@@ -2,7 +2,9 @@
 //! give. Each row is run in several ways, and those are told that don't hold.
 #![tactic(auto)]
 
+mod cuts;
 mod drawing;
+mod hostile;
 mod i2c;
 mod onewire;
 mod reading;
@@ -15,6 +17,7 @@ mod waves;
 mod ways;
 
 use anyhow::{Result, ensure};
+use hostile::tell_hostile;
 use reading::{Found, rows_of};
 use running::fault_of;
 use std::alloc::Global;
@@ -23,7 +26,7 @@ use std::sync::Wait;
 use std::thread::Threads;
 
 // The files of rows.
-const FILES: [&str; 10] = [
+const FILES: [&str; 13] = [
     "i2c.txt",
     "spi_and_serial.txt",
     "onewire.txt",
@@ -34,7 +37,13 @@ const FILES: [&str; 10] = [
     "csv.txt",
     "refused.txt",
     "limits.txt",
+    "parts.txt",
+    "cuts.txt",
+    HOSTILE,
 ];
+
+// Rows of which words are made that no run wrote.
+const HOSTILE: &str = "hostile.txt";
 
 // Rows that don't hold, on purpose: what is told of each is compared, so that a wrong row is seen.
 const WRONG: &str = "wrong.txt";
@@ -70,6 +79,18 @@ fn tell_rows<R: Threads + Wait + Sync + Print>(
     Ok(Tally { all, held })
 }
 
+// Tells what words come to that are made of the rows of a text, and answers how many come to nothing
+// that may be.
+fn tell_words<R: Threads + Wait + Sync + Print>(rt: &R, alloc: Global, text: &str) -> Result<u32> {
+    let mut wrong: u32 = 0;
+    for found in &rows_of(alloc, text)? {
+        if let Found::Row(row) = found {
+            wrong = wrong.saturating_add(tell_hostile(rt, alloc, row)?);
+        }
+    }
+    Ok(wrong)
+}
+
 fn main(rt: HostRuntime) -> Result<()> {
     let mut failed: u32 = 0;
     for file in FILES {
@@ -77,9 +98,14 @@ fn main(rt: HostRuntime) -> Result<()> {
         let Tally { all, held } = tell_rows(&rt, rt.alloc(), file, text.as_str())?;
         failed = failed.saturating_add(all.saturating_sub(held));
     }
+    let text = fs::read_to_string(&rt, HOSTILE)?;
+    let wrong = tell_words(&rt, rt.alloc(), text.as_str())?;
     let text = fs::read_to_string(&rt, WRONG)?;
     let Tally { held, .. } = tell_rows(&rt, rt.alloc(), WRONG, text.as_str())?;
     println!(rt; "{failed} rows don't hold that should, and {held} that shouldn't do")?;
-    ensure!(failed == 0 && held == 0, "not as it should be");
+    ensure!(
+        failed == 0 && held == 0 && wrong == 0,
+        "not as it should be"
+    );
     Ok(())
 }

@@ -25,10 +25,15 @@ pub struct Row {
     /// Whether no option may be added to the words.
     pub alone: bool,
     pub capture: Vec<u8>,
+    /// The bytes of a sample of its capture.
+    pub unit: usize,
     pub behind: Behind,
     pub status: u8,
     pub notices: Vec<u8>,
-    pub listing: Vec<u8>,
+    /// None where nothing is said of it but that each run has the same.
+    pub listing: Option<Vec<u8>>,
+    /// Whether the capture is decoded in parts too, cut in every place.
+    pub cuts: bool,
 }
 
 /// A row of which some statements are read.
@@ -44,6 +49,20 @@ pub struct Draft {
     status: Option<u8>,
     notices: Vec<u8>,
     listing: Vec<u8>,
+    cuts: bool,
+    // the listing isn't written, but is what decoding gives
+    whole: bool,
+}
+
+// The listing of a row, where it is written.
+fn written(whole: bool, listing: Vec<u8>) -> Option<Vec<u8>> {
+    if whole { None } else { Some(listing) }
+}
+
+// A statement without a text.
+fn ensure_bare(text: &str) -> Result<()> {
+    ensure!(text.is_empty(), "{text:?} says nothing here");
+    Ok(())
 }
 
 impl Draft {
@@ -60,6 +79,8 @@ impl Draft {
             status: None,
             notices: Vec::new(alloc),
             listing: Vec::new(alloc),
+            cuts: false,
+            whole: false,
         })
     }
 
@@ -102,7 +123,7 @@ impl Draft {
 
     // The capture ends in a way that isn't the usual one, which nothing more is said of.
     fn end_by(&mut self, behind: Behind, text: &str) -> Result<()> {
-        ensure!(text.is_empty(), "{text:?} says nothing here");
+        ensure_bare(text)?;
         ensure!(self.behind == Behind::End, "a second end");
         self.behind = behind;
         Ok(())
@@ -115,6 +136,19 @@ impl Draft {
         draw(&mut self.drawing, self.alloc, name, text)
     }
 
+    // Whether its run may be cut: a decode of raw samples into lines, up to the end of the capture.
+    fn may_be_cut(&self) -> bool {
+        let mut may = self.behind == Behind::End && self.status == Some(0);
+        if let Some(words) = &self.words {
+            for word in words {
+                for other in ["--job", "--from", "--format", "--binary"] {
+                    may &= !word.as_str().starts_with(other);
+                }
+            }
+        }
+        may && self.notices.is_empty()
+    }
+
     /// One more statement.
     pub fn add(&mut self, name: &str, text: &str) -> Result<()> {
         match name {
@@ -122,6 +156,14 @@ impl Draft {
             "|" => self.add_capture(text)?,
             "fails" => self.end_by(Behind::Failure, text)?,
             "unread" => self.end_by(Behind::Unread, text)?,
+            "cuts" => {
+                ensure_bare(text)?;
+                self.cuts = true;
+            }
+            "whole" => {
+                ensure_bare(text)?;
+                self.whole = true;
+            }
             "status" => {
                 ensure!(self.status.is_none(), "a second status");
                 let status = number_of(text)?;
@@ -142,16 +184,25 @@ impl Draft {
         if self.behind == Behind::Failure && capture.len() > 1000 {
             bail!("a capture that fails has at most 1000 bytes");
         }
+        ensure!(!self.cuts || self.may_be_cut(), "no run that can be cut");
+        ensure!(
+            !self.whole || self.listing.is_empty(),
+            "a listing beside whole"
+        );
+        ensure!(!self.whole || self.cuts, "whole without cuts");
+        let unit = self.drawing.unit();
         Ok(Row {
             line: self.line,
             name: self.name,
             words: self.words.context("the row has no words")?,
             alone: self.alone,
             capture,
+            unit,
             behind: self.behind,
             status: self.status.context("the row has no status")?,
             notices: self.notices,
-            listing: self.listing,
+            listing: written(self.whole, self.listing),
+            cuts: self.cuts,
         })
     }
 }

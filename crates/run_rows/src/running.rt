@@ -1,6 +1,7 @@
 // A row's run, beside what it has to give.
+use crate::cuts::check_cuts;
 use crate::row::{Behind, Row};
-use crate::ways::{WAYS, WHOLE, Way};
+use crate::ways::{ALONE, WAYS, WHOLE, Way};
 use anyhow::{Result, bail};
 use la_io::{MemSink, MemSource};
 use ldecode_program::program;
@@ -8,16 +9,16 @@ use std::alloc::Global;
 use std::sync::Wait;
 use std::thread::Threads;
 
-// What a run gives.
-#[derive(Drop)]
-struct Given {
-    status: u8,
-    notices: Vec<u8>,
-    listing: Vec<u8>,
+/// What a run gives.
+#[derive(Debug, PartialEq, Eq, Drop)]
+pub struct Given {
+    pub status: u8,
+    pub notices: Vec<u8>,
+    pub listing: Vec<u8>,
 }
 
-// The words of a row, with the option of a way behind them, where they may have it and haven't.
-fn words_of(alloc: Global, row: &Row, way: &Way) -> Result<Vec<String>> {
+/// The words of a row, with the option of a way behind them, where they may have it and haven't.
+pub fn words_of(alloc: Global, row: &Row, way: &Way) -> Result<Vec<String>> {
     let (name, value) = way.option;
     let mut words = Vec::new(alloc);
     let mut adds = !row.alone;
@@ -32,14 +33,14 @@ fn words_of(alloc: Global, row: &Row, way: &Way) -> Result<Vec<String>> {
     Ok(words)
 }
 
-// The capture of a row in pieces.
-fn source_of(alloc: Global, row: &Row, most: usize) -> Result<MemSource> {
+/// A capture in pieces of so many bytes, and what stands behind it.
+pub fn source_of(alloc: Global, capture: &[u8], most: usize, behind: Behind) -> Result<MemSource> {
     let mut pieces = Vec::new(alloc);
-    for piece in row.capture.chunks(most.max(1)) {
+    for piece in capture.chunks(most.max(1)) {
         pieces.push(piece.to_vec(alloc)?)?;
     }
     let mut fails = Vec::new(alloc);
-    match row.behind {
+    match behind {
         Behind::End => {}
         Behind::Failure => fails.push(pieces.len() as u64)?,
         Behind::Unread => fails.push(0)?,
@@ -47,22 +48,28 @@ fn source_of(alloc: Global, row: &Row, most: usize) -> Result<MemSource> {
     Ok(MemSource::new(pieces, fails))
 }
 
-fn sink_of(alloc: Global, most: usize) -> Result<MemSink> {
-    match MemSink::new(alloc, most.max(1), Vec::new(alloc), WHOLE) {
+fn sink_of(alloc: Global, way: &Way) -> Result<MemSink> {
+    match MemSink::new(alloc, way.most.max(1), Vec::new(alloc), way.room) {
         Ok(sink) => Ok(sink),
         Err(_) => bail!("no memory for a sink"),
     }
 }
 
-fn run_by<R: Threads + Wait + Sync>(rt: &R, alloc: Global, row: &Row, way: &Way) -> Result<Given> {
-    let words = words_of(alloc, row, way)?;
-    let mut source = source_of(alloc, row, way.piece(row.capture.len()))?;
-    let mut sink = sink_of(alloc, way.most)?;
-    let mut notices = sink_of(alloc, way.most)?;
+/// Runs words over a source.
+pub fn run_words<R: Threads + Wait + Sync>(
+    rt: &R,
+    alloc: Global,
+    words: &[String],
+    source: MemSource,
+    way: &Way,
+) -> Result<Given> {
+    let mut source = source;
+    let mut sink = sink_of(alloc, way)?;
+    let mut notices = sink_of(alloc, way)?;
     let status = program(
         rt,
         alloc,
-        &words,
+        words,
         &mut source,
         &mut sink,
         &mut notices,
@@ -75,10 +82,31 @@ fn run_by<R: Threads + Wait + Sync>(rt: &R, alloc: Global, row: &Row, way: &Way)
     })
 }
 
-// A status, notices and a listing in one line.
-fn told(alloc: Global, status: u8, notices: &[u8], listing: &[u8]) -> Result<String> {
-    let notices = String::from_utf8_lossy(alloc, notices)?;
-    let listing = String::from_utf8_lossy(alloc, listing)?;
+fn run_by<R: Threads + Wait + Sync>(rt: &R, alloc: Global, row: &Row, way: &Way) -> Result<Given> {
+    let words = words_of(alloc, row, way)?;
+    let most = way.piece(row.capture.len());
+    let source = source_of(alloc, &row.capture, most, row.behind)?;
+    run_words(rt, alloc, &words, source, way)
+}
+
+// What a row wants. Of the listing of a row that says nothing of it, what it is in one way.
+fn wanted_of<R: Threads + Wait + Sync>(rt: &R, alloc: Global, row: &Row) -> Result<Given> {
+    let listing = match &row.listing {
+        Some(listing) => listing.clone()?,
+        None => run_by(rt, alloc, row, &ALONE)?.listing,
+    };
+    Ok(Given {
+        status: row.status,
+        notices: row.notices.clone()?,
+        listing,
+    })
+}
+
+/// What a run gives, in one line.
+pub fn told(alloc: Global, given: &Given) -> Result<String> {
+    let status = given.status;
+    let notices = String::from_utf8_lossy(alloc, &given.notices)?;
+    let listing = String::from_utf8_lossy(alloc, &given.listing)?;
     Ok(format!(in alloc; "status {status}, notices {notices:?}, listing {listing:?}")?)
 }
 
@@ -89,22 +117,26 @@ pub fn fault_of<R: Threads + Wait + Sync>(
     alloc: Global,
     row: &Row,
 ) -> Result<Option<String>> {
+    let wanted = wanted_of(rt, alloc, row)?;
+    let (line, name) = (row.line, row.name.as_str());
     for way in &WAYS {
         if row.capture.is_empty() && way.most != WHOLE {
             continue;
         }
         let came = run_by(rt, alloc, row, way)?;
-        let same = came.status == row.status
-            && came.notices.as_slice() == row.notices.as_slice()
-            && came.listing.as_slice() == row.listing.as_slice();
-        if !same {
-            let wanted = told(alloc, row.status, &row.notices, &row.listing)?;
-            let came = told(alloc, came.status, &came.notices, &came.listing)?;
+        if came != wanted {
+            let (way, wanted) = (way.name, told(alloc, &wanted)?);
+            let came = told(alloc, &came)?;
             return Ok(Some(format!(in alloc;
-                "{}: {} {}: wanted {wanted}; came {came}",
-                row.line, row.name, way.name
+                "{line}: {name} {way}: wanted {wanted}; came {came}"
             )?));
         }
     }
-    Ok(None)
+    if !row.cuts {
+        return Ok(None);
+    }
+    match check_cuts(rt, alloc, row, &wanted.listing) {
+        Ok(()) => Ok(None),
+        Err(error) => Ok(Some(format!(in alloc; "{line}: {name} in parts: {error:#}")?)),
+    }
 }

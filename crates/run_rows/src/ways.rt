@@ -10,6 +10,8 @@ pub struct Way {
     /// therefore give more.
     pub most: usize,
     pub pieces: usize,
+    /// The most bytes that are written.
+    pub room: usize,
     /// How much a decoder does in a turn of its thread.
     pub turns: Turns,
 }
@@ -48,6 +50,7 @@ pub const WAYS: [Way; 6] = [
         option: ("--threads", "yes"),
         most: WHOLE,
         pieces: PIECES,
+        room: WHOLE,
         turns: Turns::Many,
     },
     Way {
@@ -55,6 +58,7 @@ pub const WAYS: [Way; 6] = [
         option: ("--threads", "yes"),
         most: 1,
         pieces: PIECES,
+        room: WHOLE,
         turns: Turns::Many,
     },
     Way {
@@ -62,6 +66,7 @@ pub const WAYS: [Way; 6] = [
         option: ("--ring", "1"),
         most: 7,
         pieces: PIECES,
+        room: WHOLE,
         turns: Turns::Few,
     },
     Way {
@@ -69,6 +74,7 @@ pub const WAYS: [Way; 6] = [
         option: ("--threads", "no"),
         most: WHOLE,
         pieces: WHOLE,
+        room: WHOLE,
         turns: Turns::Many,
     },
     Way {
@@ -76,6 +82,7 @@ pub const WAYS: [Way; 6] = [
         option: ("--threads", "no"),
         most: 1,
         pieces: WHOLE,
+        room: WHOLE,
         turns: Turns::Many,
     },
     Way {
@@ -83,9 +90,20 @@ pub const WAYS: [Way; 6] = [
         option: ("--threads", "no"),
         most: 7,
         pieces: WHOLE,
+        room: WHOLE,
         turns: Turns::Many,
     },
 ];
+
+/// How parts of a capture are run, of which there are many, and a row whose listing isn't written.
+pub const ALONE: Way = Way {
+    name: "without threads",
+    option: ("--threads", "no"),
+    most: WHOLE,
+    pieces: WHOLE,
+    room: 1 << 16,
+    turns: Turns::Many,
+};
 
 /// More than any capture or listing has.
 pub const WHOLE: usize = 1 << 20;
