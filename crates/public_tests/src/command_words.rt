@@ -131,6 +131,14 @@ pub const FAULTS: &str = "\
 # a job that takes no other words
 [--job make i2c] 2 0 Extra
 [i2c --job make uart] 0 0 Extra
+# a part reads raw samples and writes no binary data, which is judged behind all else
+[--job part --format vcd any] 5 0 Clash
+[a --format=csv --job=part] 3 0 Clash
+[--job part --binary a b] 5 0 Clash
+[--job part --format vcd] 4 0 Few
+[--job part --format vcd --from] 4 0 NoValue
+[--from a --from=b] 2 0 Repeat
+[--from=] 0 0 Empty
 # how many words there are is told before their bytes, and a value is judged as a word is
 [.] 0 0 Few
 255[a] 24 0 Many
@@ -182,6 +190,8 @@ pub const VALUES: &str = "\
 [--count 1 --job=make] make 8 1000000/1 yes 256 seed 1 count 1
 [--job make --seed 7 --count=1000000] make 8 1000000/1 yes 256 seed 7 count 1000000
 [--seed 5 i2c] decode 8 1000000/1 yes 256
+[--job part i2c] part 8 1000000/1 yes 256
+[--job=part --from 00 --channels 4 --format raw i2c] part 4 1000000/1 yes 256
 [--ring=4 --threads no D0=h --rate=2/3 --channels 16 --format=raw --show all --job=find] find 16 2/3 no 4";
 
 // The decoders that are shown, the binary data that is wanted, and the other words, each with its number. Decode takes 24 chains,
@@ -203,6 +213,8 @@ pub const TEXTS: &str = "\
 [a --binary=all] bytes 1:all of 0:a
 [--show=b --binary c a] 0:b of bytes 2:c of 3:a
 [--binary=-x D0=h --job=find] bytes 0:-x of 1:D0=h
+[--job part --from 00 i2c] from 00 of 4:i2c
+[i2c --from=-x] from -x of 0:i2c
 [D0=q a a a a a a a a a a a a a a a a a a a a a a a] 0:D0=q 1:a 2:a 3:a 4:a 5:a 6:a 7:a 8:a 9:a 10:a 11:a 12:a 13:a 14:a 15:a 16:a 17:a 18:a 19:a 20:a 21:a 22:a 23:a
 [a=h a=l a=r a=f a=e a=s a=h a=h --job=find] 0:a=h 1:a=l 2:a=r 3:a=f 4:a=e 5:a=s 6:a=h 7:a=h";
 
@@ -236,6 +248,7 @@ pub fn holds(alloc: Global, row: &str) -> Result<bool, Fail> {
         Job::Decode => "decode",
         Job::Find => "find",
         Job::Make => "make",
+        Job::Part => "part",
     };
     let mut values = format!(in alloc;
         "{job} {} {}/{} {} {}",
@@ -267,6 +280,9 @@ pub fn holds(alloc: Global, row: &str) -> Result<bool, Fail> {
     if let Some(binary) = &settings.binary {
         write!(texts, "bytes {}:{} of ", binary.word, binary.text)?;
     }
+    if let Some(from) = &settings.from {
+        write!(texts, "from {from} of ")?;
+    }
     for chain in &settings.chains {
         write!(texts, "{}:{} ", chain.word, chain.text)?;
     }
@@ -275,7 +291,7 @@ pub fn holds(alloc: Global, row: &str) -> Result<bool, Fail> {
 
 /// What the table of options tells of each: its name, the values that it takes and the usual one.
 pub const OPTIONS_TOLD: &str = "\
-job (decode, find, make) decode
+job (decode, find, make, part) decode
 format (raw, vcd, csv) raw
 channels (1 to 128) 8
 rate (N or N/D, N 1 to 1000000000000000, D 1 to 1000000000) 1000000
@@ -288,4 +304,5 @@ show (text) all
 binary (text) none
 seed (0 to 2147483647) 1
 count (1 to 1000000) 1000
+from (text) none
 ";
