@@ -2,7 +2,9 @@
 //! the exit status.
 #![tactic(auto)]
 
+mod decoders;
 mod help;
+mod meanings;
 mod over_streams;
 mod request;
 

@@ -7,7 +7,7 @@ ghost use Rattle.ldecode.specs.Headline.{stream};
 ghost use Rattle.ldecode_program.specs.Help.{IsHelp};
 ghost use Rattle.ldecode_program.specs.Programs.{Does, MadeWritten, TextWritten};
 ghost use Rattle.ldecode_program.specs.Requests.{requested};
-ghost use Rattle.ldecode_program.specs.declared.help.TheConstants.{DECODERS, EXAMPLES, USAGE};
+ghost use Rattle.ldecode_program.specs.declared.help.TheConstants.{CLOSING, DECODERS, USAGE};
 ghost use Rattle.ldecode_program.specs.declared.help.TheConstants.{VERSION};
 
 use crate::help::{VERSION, help_text};
@@ -32,7 +32,7 @@ fn tell<K: Sink>(text: &str, sink: &mut K) -> u8
 
 // Writes the help, and answers the exit status.
 fn tell_help<K: Sink>(alloc: Global, sink: &mut K) -> u8
-    ensures { MadeWritten (IsHelp USAGE.now DECODERS.now EXAMPLES.now OPTIONS KINDS)
+    ensures { MadeWritten (IsHelp USAGE.now DECODERS.now CLOSING.now OPTIONS KINDS)
         (stream K.written K.faults sink.old sink.new) result }
 {
     match help_text(alloc) {
@@ -54,7 +54,7 @@ pub fn program<R: Threads + Wait + Sync, S: Source, K: Sink, E: Sink, P: Pacer +
     pacer: &P,
 ) -> u8
     ensures { Does ⟦<AnyDecoder as Keep>⟧.saves (requested (map string_bytes words.now))
-        (IsHelp USAGE.now DECODERS.now EXAMPLES.now OPTIONS KINDS) VERSION.now
+        (IsHelp USAGE.now DECODERS.now CLOSING.now OPTIONS KINDS) VERSION.now
         (map string_bytes words.now)
         (stream S.left S.faults source.old source.new) (stream K.written K.faults sink.old sink.new)
         (stream E.written E.faults notices.old notices.new)

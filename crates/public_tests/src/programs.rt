@@ -21,32 +21,37 @@ i2c:scl=D0:sda=D1 --version > Run
 
 // Lines of the help.
 const HELP: &str = "  --job
-      values: decode, find, make; usual: decode
+      takes decode, find, make, part; usual: decode
   --format
-      values: raw, vcd, csv; usual: raw
+      takes raw, vcd, csv; usual: raw
   --channels
-      values: 1 to 128; usual: 8
+      takes 1 to 128; usual: 8
   --rate
   --down
-      values: 1 to 1000000000; usual: 1
+      takes 1 to 1000000000; usual: 1
   --threads
-      values: yes, no; usual: yes
+      takes yes, no; usual: yes
   --ring
-      values: 1 to 16384; usual: 256
+      takes 1 to 16384; usual: 256
   --show
-  i2c
-      scl: a channel, required
-      sda: a channel, required
+  i2c: an I2C bus; reads samples
+      scl: the clock line; a channel, needed
+      sda: the data line; a channel, needed
       binary data: write, read
+  spi: an SPI bus; reads samples
+      cs: the line that selects the device; a channel
+          msb_low, msb_high, lsb_low, lsb_high; usual: msb_low
+      mosi or miso is needed
   --binary
-      values: text; usual: none
+      takes text; usual: none
   --count
-      values: 1 to 1000000; usual: 1000
-  flash25
+      takes 1 to 1000000; usual: 1000
+  flash25: serial flash of the 25 series; on spi with bits=8
       binary data: read, program
-  modbus
-      gap: 1 to 1000000000; usual: 4000000
-  midi";
+  modbus: messages of Modbus RTU; on uart with bits=8
+      gap: the silence between messages, in ns; 1 to 1000000000; usual: 4000000
+  midi: messages of MIDI 1.0; on uart with bits=8
+  4  standard output failed; a front of what comes is written";
 
 // How a line of the help begins that is an example.
 const EXAMPLE: &str = "    ldecode ";
@@ -138,7 +143,13 @@ fn the_program_tells_its_help_and_its_status(rt: HostRuntime) -> Result<(), Fail
         if let Some(example) = line.strip_prefix(EXAMPLE) {
             any = true;
             let (_, told) = run(&rt, alloc, example, "", &[])?;
-            assert!(rt; told.as_str().starts_with("0 >  > "), "{example}");
+            // a word of a checkpoint stands for one that another run gives
+            let front = if example.split_once("WORD").is_some() {
+                "1 > "
+            } else {
+                "0 >  > "
+            };
+            assert!(rt; told.as_str().starts_with(front), "{example}");
         }
     }
     assert!(rt; any);

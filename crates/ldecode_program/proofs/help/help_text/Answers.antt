@@ -4,7 +4,7 @@ use Rattle.decoder_set.specs.declared.kinds.Kind.TheVariants.{I2c}
 use Rattle.decoder_set.specs.declared.table.TheConstants.{KINDS}
 use Rattle.words.specs.declared.options.Name.TheVariants.{Job}
 use Rattle.words.specs.declared.options.TheConstants.{OPTIONS}
-use Rattle.ldecode_program.specs.declared.help.TheConstants.{DECODERS, EXAMPLES, USAGE}
+use Rattle.ldecode_program.specs.declared.help.TheConstants.{CLOSING, DECODERS, USAGE}
 use Rattle.ldecode_program.specs.Help.{TellsEach, TellsKind, TellsOption}
 use Rattle.ldecode_program.proofs.Telling.{tells_next}
 use Rattle.ldecode_program.proofs.help.help_text.Goals as goal
@@ -37,12 +37,12 @@ returns c =
     let all_kinds : c.loop-kind.kind-index ≡ 12 = omega (arith, c.loop-kind-test.false, c.loop-kind.auto.kind-index-end) in
     let first : string_bytes c.loop-name.text ≡ USAGE.now ++ named.0 = named.1 ∙ ap (λ (l : List ℕ). l ++ named.0) c.in_ok-text.ensures.ok in
     let second : string_bytes c.push_str-2.new.self ≡ string_bytes c.loop-name.text ++ DECODERS.now = c.in_ok-push_str-2.ensures.bytes in
-    let third : string_bytes c.push_str-3.new.self ≡ string_bytes c.loop-kind.text ++ EXAMPLES.now = c.in_ok-push_str-4.ensures.bytes in
+    let third : string_bytes c.push_str-3.new.self ≡ string_bytes c.loop-kind.text ++ CLOSING.now = c.in_ok-push_str-4.ensures.bytes in
     record {
       options_told = named.0;
       options = subst (λ (n : ℕ). TellsEach TellsOption (take n OPTIONS) named.0) all_named named.2;
       kinds_told = kinds.0;
       each_kind = subst (λ (n : ℕ). TellsEach TellsKind (take n KINDS) kinds.0) all_kinds kinds.2;
       is =
-          third ∙ ap (λ (l : List ℕ). l ++ EXAMPLES.now) (kinds.1 ∙ ap (λ (l : List ℕ). l ++ kinds.0) (second ∙ ap (λ (l : List ℕ). l ++ DECODERS.now) first));
+          third ∙ ap (λ (l : List ℕ). l ++ CLOSING.now) (kinds.1 ∙ ap (λ (l : List ℕ). l ++ kinds.0) (second ∙ ap (λ (l : List ℕ). l ++ DECODERS.now) first));
     }

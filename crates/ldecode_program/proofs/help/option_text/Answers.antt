@@ -13,7 +13,8 @@ usual_is (Some given) text is = is
 pub returns : goal.returns
 returns c =
     let row = c.row-row.result in
-    let values = c.as_str.result.now in
+    let sets = c.as_str.result.now in
+    let values = c.as_str-2.result.now in
     if_ok c.option_lines.result _ (λ text. TellsOption c.args.name (string_bytes text)) (λ text is.
     subst (λ (r : Row). (sets values : List ℕ) × (string_bytes text ≡ option_lines r.name sets values (unwrap_or r.usual (codes "none"))))
-    c.row-row.ensures (row.help.now, values, is ∙ ap (λ (u : List ℕ). option_lines row.name.now row.help.now values u) (usual_is row.usual c.usual_text-usual.result.now c.usual_text-usual.ensures))) c.option_lines.ensures
+    c.row-row.ensures (sets, values, is ∙ ap (λ (u : List ℕ). option_lines row.name.now sets values u) (usual_is row.usual c.usual_text-usual.result.now c.usual_text-usual.ensures))) c.option_lines.ensures

@@ -1,0 +1,10 @@
+use Rattle.std.proofs.Common.{◌≡◌, ◌++◌, drop, map}
+use Rattle.std.specs.String.{string_bytes}
+use Rattle.decoder_set.specs.Kinds.{opt_row}
+use Rattle.ldecode_program.specs.Decoders.{options_told}
+use Rattle.ldecode_program.proofs.decoders.options_told.Given as goal
+
+abbrev pub invariant-loop-place : goal.invariant-loop-place
+invariant-loop-place l =
+    string_bytes l.text ++ options_told l.place (map (λ meaning. meaning.now) l.fn.meanings) (map opt_row (drop l.place l.fn.rows))
+    ≡ options_told 0 (map (λ meaning. meaning.now) l.fn.meanings) (map opt_row l.fn.rows)
