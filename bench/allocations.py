@@ -63,6 +63,9 @@ def captures(folder):
     yield ["--job", "find", "--format", "vcd", "scl=r"], dump
     yield ["--job", "find", "D0=r,D1=h", "skip=3"], raw
     yield ["--job", "make", "--count", "3"], raw
+    first = subprocess.run([built(), "--job", "part", BUS], input=made.stdout, capture_output=True, check=True)
+    word = first.stdout.decode().rpartition("checkpoint: ")[2].strip()
+    yield ["--job", "part", "--from", word, BUS], raw
 
 
 def run(words, path, library, number):
