@@ -1,13 +1,10 @@
 -- What a run came to, as what a decoding gives.
 use Rattle.std.proofs.Common.{◌≡◌, ◌≢◌, ◌<◌, ◌≤◌, ◌++◌, not, true, false, Bool, ℕ, List, [], All, map, length, Option, Some, None, Result, Ok, Err, refl, sym, ap, subst, ◌∙◌, arith}
-use Rattle.std.specs.Io.KnownBytes.{Appends}
 use Rattle.std.proofs.lemmas.List.{append-nil, length-map}
 use Rattle.la_base.specs.declared.names.NoMemory.{NoMemory as Wanted}
 use Rattle.la_io.specs.Feeds.{together}
-use Rattle.la_io.specs.Causes.{AppendsFront}
 use Rattle.la_io.specs.declared.outside.Sink.{Ghosts as SinkGhosts}
 use Rattle.la_io.specs.declared.outside.Source.{Ghosts as SourceGhosts}
-use Rattle.la_io.proofs.Fronts.{front_whole}
 use Rattle.capture_any.specs.Listings.{ReadCause}
 use Rattle.capture_any.specs.Reading.{form_of, is_open_of, pins_of}
 use Rattle.capture_any.specs.declared.capture.Capture.{Capture}
@@ -27,8 +24,9 @@ use Rattle.stack_laws.specs.Laws.{IsLawful}
 use Rattle.annot_merge.specs.Held.{count_of}
 use Rattle.stack_spec.specs.Accepting.{Accepted}
 use Rattle.stack_spec.specs.Stacks.{stack_meaning}
+use Rattle.note_order.specs.declared.entry.Entry.{Entry}
 use Rattle.note_lister.specs.Prompt.{Prompts}
-use Rattle.note_lister.specs.Taking.{Goes, Took, WritesAll, first_sink, instances_of, sink_of, stack_of}
+use Rattle.note_lister.specs.Taking.{Goes, Took, WritesAll, first_sink, instances_of, sink_of, stack_of, watch_of}
 use Rattle.note_lister.specs.declared.lister.Lister.{Lister}
 use Rattle.note_lister.specs.declared.stop.ListStop.{ListStop}
 use Rattle.note_lister.proofs.TakingLemmas.{never_stopped}
@@ -36,15 +34,17 @@ use Rattle.decode_job.specs.Asking.{WantsOf}
 use Rattle.decode_job.specs.Decoding.{Decodes}
 use Rattle.decode_job.specs.Ending.{end_behind, end_of_stop}
 use Rattle.decode_job.specs.Feeding.{GaveRuns}
-use Rattle.decode_job.specs.Listing.{output_of, tree_output}
+use Rattle.decode_job.specs.Listing.{notes_to_list, output_of, tree_notes, tree_output}
 use Rattle.decode_job.specs.Running.{Came, RanTo, Rested}
+use Rattle.decode_job.specs.Seen.{WritesFrontSeen, WritesSeen}
 use Rattle.decode_job.specs.declared.capture_feed.CaptureFeed.{CaptureFeed}
 use Rattle.decode_job.proofs.Ends.{StoppedBy, kept_cause, lists_moved, not_stopped, read_of_stop, stopped_by}
 use Rattle.decode_job.proofs.FeedLemmas.{closed_at_end, feed_cause, feed_failed, feed_stopped, feed_whole}
 use Rattle.decode_job.proofs.Handing.{nothing_done}
 use Rattle.decode_job.proofs.Listed.{all_of_tree, behind_nothing, front_of_tree}
+use Rattle.decode_job.proofs.Seen.{front_seen}
 
-module _ {M Q S K : Type 0} (m : MachineGhosts M Q) (s : SourceGhosts S) (k : SinkGhosts K) (machines : List M) (parents : List (Option ℕ)) (feed : CaptureFeed S) (lister : Lister K) where
+module _ {M Q S K W : Type 0} (m : MachineGhosts M Q) (s : SourceGhosts S) (k : SinkGhosts K) (saw : W → List Entry → Type 0) (machines : List M) (parents : List (Option ℕ)) (feed : CaptureFeed S) (lister : Lister K W) where
   abbrev capture : Capture
   capture = feed.first_capture.value.now
 
@@ -55,23 +55,24 @@ module _ {M Q S K : Type 0} (m : MachineGhosts M Q) (s : SourceGhosts S) (k : Si
   sink = first_sink lister
 
   -- for want of memory nothing was done
-  pub rested_decodes : Rested s k feed lister → Decodes m s k (stack_of lister) machines parents capture source feed.source.now sink (sink_of lister) NoMemory
+  pub rested_decodes : Rested s k saw feed lister → Decodes m s k (stack_of lister) machines parents capture source feed.source.now sink (sink_of lister) (saw (watch_of lister)) NoMemory
   rested_decodes rested =
       let out : List ℕ → List ℕ = tree_output m.outputs (stack_meaning (stack_of lister)) (nodes_of (map m.setup machines) parents) in
+      let notes : List ℕ → List Entry = tree_notes m.outputs (stack_meaning (stack_of lister)) (nodes_of (map m.setup machines) parents) in
       record {
         lists = λ before told at stands new.
-            lists_moved s.left (λ (x : K) (l : List ℕ). Appends (k.written sink) (k.written x) (out l)) (λ (x : K) (l : List ℕ). AppendsFront (k.written sink) (k.written x) (out l))
+            lists_moved s.left (λ (x : K) (l : List ℕ). WritesSeen (saw (watch_of lister)) (k.written sink) (k.written x) (out l) (notes l)) (λ (x : K) (l : List ℕ). WritesFrontSeen (saw (watch_of lister)) (k.written sink) (k.written x) (out l) (notes l))
             (form_of capture) (pins_of capture) before told (s.left source) source feed.source.now sink (sink_of lister) NoMemory (sym rested.source) (sym rested.sink)
-            (nothing_done capture before told (s.left source) (k.written sink) out at stands);
+            (nothing_done capture before told (s.left source) (k.written sink) out notes (saw (watch_of lister)) rested.unseen at stands);
         read = subst (λ (n : ℕ). s.faults source ≤ n) (ap s.faults (sym rested.source)) (omega arith);
         write = ap k.faults rested.sink;
       }
 
-  module _ (end : RunEnd) (came : Came m s k machines parents feed lister end) where
+  module _ (end : RunEnd) (came : Came m s k saw machines parents feed lister end) where
     abbrev gave : GaveRuns s.left s.faults feed (together came.runs.lists)
     gave = came.runs.gave [] refl
 
-    abbrev took : Took k.written k.faults k.goes_on lister came.runs.marks
+    abbrev took : Took k.written k.faults k.goes_on saw lister came.runs.marks
     took = came.runs.took (λ _. []) came.runs.marks (λ j. refl) (λ j. refl)
 
     abbrev accepted : Accepted
@@ -86,6 +87,12 @@ module _ {M Q S K : Type 0} (m : MachineGhosts M Q) (s : SourceGhosts S) (k : Si
     abbrev out : List ℕ → List ℕ
     out = tree_output m.outputs accepted (nodes_of setups parents)
 
+    abbrev notes : List ℕ → List Entry
+    notes = tree_notes m.outputs accepted (nodes_of setups parents)
+
+    abbrev saw_now : List Entry → Type 0
+    saw_now = saw (watch_of lister)
+
     abbrev old_bytes : Option (List ℕ)
     old_bytes = k.written sink
 
@@ -93,10 +100,10 @@ module _ {M Q S K : Type 0} (m : MachineGhosts M Q) (s : SourceGhosts S) (k : Si
     new_bytes = k.written (sink_of lister)
 
     abbrev Whole : List ℕ → Type 0
-    Whole l = Appends old_bytes new_bytes (out l)
+    Whole l = WritesSeen saw_now old_bytes new_bytes (out l) (notes l)
 
     abbrev Front : List ℕ → Type 0
-    Front l = AppendsFront old_bytes new_bytes (out l)
+    Front l = WritesFrontSeen saw_now old_bytes new_bytes (out l) (notes l)
 
     module _ (lawful : IsLawful parents (defined m.outputs m.near setups)) (tree : IsTree parents (length machines) (instances_of lister)) (wanted : WantsOf (stack_of lister) (length parents)) where
       count : length setups ≡ length parents
@@ -124,20 +131,20 @@ module _ {M Q S K : Type 0} (m : MachineGhosts M Q) (s : SourceGhosts S) (k : Si
         closed : is_open_of feed.capture.now ≡ false
         closed = closed_at_end (is_open_of feed.capture.now) (came.at_end ended)
 
-        written : (lister.stops ≡ 0) × (k.faults (sink_of lister) ≡ k.faults sink) × WritesAll accepted accepted.binary lister.merge old_bytes new_bytes came.runs.marks
-        written = never_stopped accepted lister.merge lister.cause lister.stops old_bytes new_bytes (k.faults sink) (k.faults (sink_of lister)) came.runs.marks none took.writes
+        written : (lister.stops ≡ 0) × (k.faults (sink_of lister) ≡ k.faults sink) × WritesAll accepted accepted.binary lister.merge saw_now old_bytes new_bytes came.runs.marks
+        written = never_stopped accepted lister.merge lister.cause lister.stops saw_now old_bytes new_bytes (k.faults sink) (k.faults (sink_of lister)) came.runs.marks none took.writes
 
         cause : ReadCause (s.faults source) (s.faults feed.source.now) feed.end × (feed.end ≢ Write)
         cause = feed_cause s.left s.faults feed (together came.runs.lists) gave capture refl source refl feed.source.now refl closed
 
-        pub ended_decodes : Decodes m s k (stack_of lister) machines parents capture source feed.source.now sink (sink_of lister) feed.end
+        pub ended_decodes : Decodes m s k (stack_of lister) machines parents capture source feed.source.now sink (sink_of lister) saw_now feed.end
         ended_decodes = record {
           lists = λ before told at stands new.
               let stand = fresh m.outputs setups parents tree.forest count nothing (Stand m.consumed machines) (stand_at new) in
-              let all : Whole samples = subst Whole (append-nil samples) (subst (λ (l : List (List Out)). Appends old_bytes new_bytes (output_of accepted accepted.binary l)) (behind_nothing m.outputs setups parents tree.forest count nothing (samples ++ []))
-              (all_of_tree m.outputs (near_of m.near setups) setups parents tree.forest count keeps accepted end (not (is_open_of feed.capture.now)) [] samples [] came.runs.marks (tells stand) (λ _. refl) ended accepted.binary wanted lister.merge tree.takes old_bytes new_bytes written.2)) in
+              let all : Whole samples = subst Whole (append-nil samples) (subst (λ (l : List (List Out)). WritesSeen saw_now old_bytes new_bytes (output_of accepted accepted.binary l) (notes_to_list accepted accepted.binary l)) (behind_nothing m.outputs setups parents tree.forest count nothing (samples ++ []))
+              (all_of_tree m.outputs (near_of m.near setups) setups parents tree.forest count keeps accepted end (not (is_open_of feed.capture.now)) [] samples [] came.runs.marks (tells stand) (λ _. refl) ended accepted.binary wanted lister.merge tree.takes saw_now old_bytes new_bytes written.2)) in
               lists_on (form_of capture) (pins_of capture) (λ settled. settled ≡ samples) (λ settled. settled ≡ samples) before told (s.left source) (s.left feed.source.now)
-              Front (λ given is. subst Front (sym is) (front_whole old_bytes new_bytes (out samples) all))
+              Front (λ given is. subst Front (sym is) (front_seen saw_now old_bytes new_bytes (out samples) (notes samples) all))
               Whole (λ given is. subst Whole (sym is) all) feed.end
               (feed_whole s.left s.faults feed (together came.runs.lists) gave capture refl source refl feed.source.now refl closed before told at stands);
           read = cause.0;
@@ -146,18 +153,18 @@ module _ {M Q S K : Type 0} (m : MachineGhosts M Q) (s : SourceGhosts S) (k : Si
 
       -- it was stopped: a front was written
       module _ (why : ListStop) (is : lister.cause ≡ Some why) where
-        stopped : StoppedBy accepted (count_of lister.merge) old_bytes new_bytes (k.faults sink) (k.faults (sink_of lister)) came.runs.marks (end_of_stop why)
-        stopped = stopped_by accepted lister.merge lister.cause why lister.stops old_bytes new_bytes (k.faults sink) (k.faults (sink_of lister)) came.runs.marks is took.writes
+        stopped : StoppedBy accepted (count_of lister.merge) saw_now old_bytes new_bytes (k.faults sink) (k.faults (sink_of lister)) came.runs.marks (end_of_stop why)
+        stopped = stopped_by accepted lister.merge lister.cause why lister.stops saw_now old_bytes new_bytes (k.faults sink) (k.faults (sink_of lister)) came.runs.marks is took.writes
 
-        pub stopped_decodes : Decodes m s k (stack_of lister) machines parents capture source feed.source.now sink (sink_of lister) (end_of_stop why)
+        pub stopped_decodes : Decodes m s k (stack_of lister) machines parents capture source feed.source.now sink (sink_of lister) saw_now (end_of_stop why)
         stopped_decodes = record {
           lists = λ before told at stands new.
               let stand = fresh m.outputs setups parents tree.forest count nothing (Stand m.consumed machines) (stand_at new) in
               let front = stopped.front in
-              let prompts : Prompts accepted accepted.binary (length parents) front.first front.out = subst (λ (n : ℕ). Prompts accepted accepted.binary n front.first front.out) tree.takes front.prompts in
+              let prompts : Prompts accepted accepted.binary (length parents) front.first front.out front.notes = subst (λ (n : ℕ). Prompts accepted accepted.binary n front.first front.out front.notes) tree.takes front.prompts in
               let fronts : (rest : List ℕ) → (not (is_open_of feed.capture.now) ≡ true → rest ≡ []) → Front (samples ++ rest) = λ rest none.
-              subst (λ (l : List (List Out)). AppendsFront old_bytes new_bytes (output_of accepted accepted.binary l)) (behind_nothing m.outputs setups parents tree.forest count nothing (samples ++ rest))
-              (front_of_tree m.outputs (near_of m.near setups) setups parents tree.forest count keeps accepted end (not (is_open_of feed.capture.now)) [] samples rest came.runs.marks (tells stand) none accepted.binary wanted front.first front.begins front.out prompts old_bytes new_bytes front.front) in
+              subst (λ (l : List (List Out)). WritesFrontSeen saw_now old_bytes new_bytes (output_of accepted accepted.binary l) (notes_to_list accepted accepted.binary l)) (behind_nothing m.outputs setups parents tree.forest count nothing (samples ++ rest))
+              (front_of_tree m.outputs (near_of m.near setups) setups parents tree.forest count keeps accepted end (not (is_open_of feed.capture.now)) [] samples rest came.runs.marks (tells stand) none accepted.binary wanted front.first front.begins front.out front.notes prompts saw_now old_bytes new_bytes front.front front.seen) in
               feed_stopped s.left s.faults feed (together came.runs.lists) gave capture refl source refl feed.source.now refl Whole Front fronts (end_of_stop why) stopped.is_front before told at stands;
           read = read_of_stop why (s.faults source) (s.faults feed.source.now) (feed_failed s.left s.faults feed (together came.runs.lists) gave capture refl source refl feed.source.now refl);
           write = stopped.cause;
@@ -165,23 +172,23 @@ module _ {M Q S K : Type 0} (m : MachineGhosts M Q) (s : SourceGhosts S) (k : Si
 
   -- however it ran
   module _ (lawful : IsLawful parents (defined m.outputs m.near (map m.setup machines))) (tree : IsTree parents (length machines) (instances_of lister)) (wanted : WantsOf (stack_of lister) (length parents)) where
-    pub closed_decodes : (ran : Result RunEnd Wanted) → RanTo m s k machines parents feed lister ran
-        → Decodes m s k (stack_of lister) machines parents capture source feed.source.now sink (sink_of lister) (end_behind ran lister.cause feed.end)
+    pub closed_decodes : (ran : Result RunEnd Wanted) → RanTo m s k saw machines parents feed lister ran
+        → Decodes m s k (stack_of lister) machines parents capture source feed.source.now sink (sink_of lister) (saw (watch_of lister)) (end_behind ran lister.cause feed.end)
     closed_decodes (Err why) rested = rested_decodes rested
     closed_decodes (Ok end) came = by lister.cause refl
       where
-        by : (cause : Option ListStop) → lister.cause ≡ cause → Decodes m s k (stack_of lister) machines parents capture source feed.source.now sink (sink_of lister) (end_behind (Ok end) cause feed.end)
+        by : (cause : Option ListStop) → lister.cause ≡ cause → Decodes m s k (stack_of lister) machines parents capture source feed.source.now sink (sink_of lister) (saw (watch_of lister)) (end_behind (Ok end) cause feed.end)
         by None is = ended_decodes end came lawful tree wanted is
         by (Some why) is = stopped_decodes end came lawful tree wanted why is
 
-  pub same_source : (ran : Result RunEnd Wanted) → RanTo m s k machines parents feed lister ran → feed.source.ghost_name ≡ feed.first_source.value.ghost_name
+  pub same_source : (ran : Result RunEnd Wanted) → RanTo m s k saw machines parents feed lister ran → feed.source.ghost_name ≡ feed.first_source.value.ghost_name
   same_source (Ok end) came = (gave end came).same_source
   same_source (Err why) rested = rested.gave.same_source
 
-  pub same_sink : (ran : Result RunEnd Wanted) → RanTo m s k machines parents feed lister ran → lister.sink.ghost_name ≡ lister.first.value.ghost_name
+  pub same_sink : (ran : Result RunEnd Wanted) → RanTo m s k saw machines parents feed lister ran → lister.sink.ghost_name ≡ lister.first.value.ghost_name
   same_sink (Ok end) came = (took end came).same_sink
   same_sink (Err why) rested = rested.took.same_sink
 
-  pub sink_goes_on : (ran : Result RunEnd Wanted) → RanTo m s k machines parents feed lister ran → k.goes_on sink (sink_of lister)
+  pub sink_goes_on : (ran : Result RunEnd Wanted) → RanTo m s k saw machines parents feed lister ran → k.goes_on sink (sink_of lister)
   sink_goes_on (Ok end) came = (took end came).goes_on_is
   sink_goes_on (Err why) rested = rested.took.goes_on_is

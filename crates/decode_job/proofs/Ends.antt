@@ -16,22 +16,23 @@ use Rattle.capture_any.proofs.ListingLemmas.{IsFront}
 use Rattle.stack_spec.specs.Accepting.{Accepted}
 use Rattle.annot_merge.specs.Held.{count_of}
 use Rattle.annot_merge.specs.declared.merge.Merge.{Merge}
+use Rattle.note_order.specs.declared.entry.Entry.{Entry}
 use Rattle.note_lister.specs.Taking.{Writes, WritesFront}
 use Rattle.note_lister.specs.declared.stop.ListStop.{ListStop}
 use Rattle.note_lister.specs.declared.stop.ListStop.TheVariants.{Write, NoMemory}
 use Rattle.decode_job.specs.Ending.{end_of_stop}
 
 -- it was stopped: a front was written, and the end says why
-pub record StoppedBy (accepted : Accepted) (count : ℕ) (old new : Option (List ℕ)) (failed_old failed_new : ℕ) (marks : ℕ → List Mark) (last : ListingEnd) : Type 0 where
+pub record StoppedBy (accepted : Accepted) (count : ℕ) (saw : List Entry → Type 0) (old new : Option (List ℕ)) (failed_old failed_new : ℕ) (marks : ℕ → List Mark) (last : ListingEnd) : Type 0 where
   pub is_front : IsFront last
-  pub front : WritesFront accepted count old new marks
+  pub front : WritesFront accepted count saw old new marks
   pub cause : WriteCause failed_old failed_new last
 
-pub stopped_by : (accepted : Accepted) (merge : Merge) (cause : Option ListStop) (why : ListStop) (stops : ℕ) (old new : Option (List ℕ)) (failed_old failed_new : ℕ) (marks : ℕ → List Mark) → cause ≡ Some why → Writes accepted merge cause stops old new failed_old failed_new marks
-    → StoppedBy accepted (count_of merge) old new failed_old failed_new marks (end_of_stop why)
-stopped_by accepted merge cause why stops old new failed_old failed_new marks is w = by why (subst (λ c. Writes accepted merge c stops old new failed_old failed_new marks) is w)
+pub stopped_by : (accepted : Accepted) (merge : Merge) (cause : Option ListStop) (why : ListStop) (stops : ℕ) (saw : List Entry → Type 0) (old new : Option (List ℕ)) (failed_old failed_new : ℕ) (marks : ℕ → List Mark) → cause ≡ Some why → Writes accepted merge cause stops saw old new failed_old failed_new marks
+    → StoppedBy accepted (count_of merge) saw old new failed_old failed_new marks (end_of_stop why)
+stopped_by accepted merge cause why stops saw old new failed_old failed_new marks is w = by why (subst (λ c. Writes accepted merge c stops saw old new failed_old failed_new marks) is w)
   where
-    by : (why : ListStop) → Writes accepted merge (Some why) stops old new failed_old failed_new marks → StoppedBy accepted (count_of merge) old new failed_old failed_new marks (end_of_stop why)
+    by : (why : ListStop) → Writes accepted merge (Some why) stops saw old new failed_old failed_new marks → StoppedBy accepted (count_of merge) saw old new failed_old failed_new marks (end_of_stop why)
     by Write w = record { is_front = tt; front = w.2; cause = (w.0, w.1) }
     by NoMemory w = record { is_front = tt; front = w.2; cause = w.1 }
 

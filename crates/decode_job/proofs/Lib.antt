@@ -1,6 +1,7 @@
 pub mod FeedLemmas
 mod Growing
 mod Showing
+pub mod Seen
 pub mod Listed
 mod Ends
 mod Handing

@@ -1,9 +1,8 @@
--- What was written of the marks of a tree of decoders, by its listing.
+-- What was written and seen of the marks of a tree of decoders, by its listing.
 use Rattle.std.proofs.Common.{◌≡◌, ◌⊎◌, inl, inr, ℕ, zero, suc, ◌+◌, ◌==◌, ◌≤◌, ◌<◌, Bool, true, false, cond, if◌then◌else◌, List, [], ◌∷◌, ◌++◌, drop, length, map, slice_get, Option, Some, None, refl, sym, ◌∙◌, ap, subst, append_assoc, arith}
 use Rattle.std.specs.Prelude.{IfSome}
 use Rattle.std.specs.Io.KnownBytes.{Appends}
 use Rattle.std.proofs.lemmas.Bool.{cases_lt}
-use Rattle.std.proofs.lemmas.Grind.{flat_map-append}
 use Rattle.std.proofs.lemmas.List.{append-nil, length-map}
 use Rattle.std.proofs.Math.Seq.{drop-append_seam}
 use Rattle.la_base.specs.declared.wires.Mark.{Mark}
@@ -34,14 +33,18 @@ use Rattle.annot_merge.specs.Held.{count_of, held_in}
 use Rattle.annot_merge.specs.declared.merge.Merge.{Merge}
 use Rattle.annot_merge.proofs.MergeLemmas.{bound_append, given_at_end}
 use Rattle.note_lister.specs.Data.{bytes_in}
-use Rattle.note_lister.specs.Lines.{shown_line, shown_lines}
+use Rattle.note_lister.specs.Lines.{note_lines, shown_entries, shown_lines}
+use Rattle.note_order.specs.declared.entry.Entry.{Entry}
 use Rattle.note_lister.specs.Prompt.{Prompts}
 use Rattle.note_lister.specs.Taking.{WritesAll}
+use Rattle.note_lister.specs.Watching.{SawFront}
+use Rattle.note_lister.proofs.Seeing.{entries_append, lines_append, lines_shown}
 use Rattle.note_lister.proofs.TakingLemmas.{begins_itself, bytes_in-append}
 use Rattle.tree_runs.specs.Listings.{notes_of}
-use Rattle.decode_job.specs.Listing.{bytes_by, bytes_of, given_behind, output_of, rest_of}
+use Rattle.decode_job.specs.Listing.{bytes_by, bytes_of, given_behind, notes_to_list, output_of, rest_of}
+use Rattle.decode_job.specs.Seen.{WritesFrontSeen, WritesSeen}
 use Rattle.decode_job.proofs.Growing.{grows}
-use Rattle.decode_job.proofs.Showing.{shown_listing}
+use Rattle.decode_job.proofs.Showing.{shown_notes}
 
 -- notes and pieces alone
 abbrev IsPlain : List Mark → Type 0
@@ -319,9 +322,12 @@ module _ {S : Type 0} (outputs : S → List Item → List Out) (near : ℕ → L
   tree_at : (j : ℕ) → j < n → slice_get tree j ≡ Some (outs_at j)
   tree_at j within = behind_at outputs setups parents forest count earlier all_samples j within
 
-  -- as what they give behind the earlier samples
-  as_behind : (binary : Option (ℕ × ℕ)) → output_of accepted binary tree ≡ output_of accepted binary (given_behind outputs earlier (samples ++ rest) (nodes_of setups parents))
-  as_behind binary = ap (λ (l : List ℕ). output_of accepted binary (rest_of (given outputs earlier (nodes_of setups parents)) (given outputs l (nodes_of setups parents)))) (append_assoc earlier samples rest)
+  -- what they give behind the earlier samples
+  abbrev behind : List (List Out)
+  behind = given_behind outputs earlier (samples ++ rest) (nodes_of setups parents)
+
+  as_behind : tree ≡ behind
+  as_behind = ap (λ (l : List ℕ). rest_of (given outputs earlier (nodes_of setups parents)) (given outputs l (nodes_of setups parents))) (append_assoc earlier samples rest)
 
   all_notes : notes_from all_marks 0 n ≡ map notes_of tree
   all_notes = same_places (notes_from all_marks 0 n) (map notes_of tree) (notes_len all_marks 0 n ∙ sym (length-map tree notes_of ∙ tree_len)) (λ j low.
@@ -331,29 +337,52 @@ module _ {S : Type 0} (outputs : S → List Item → List Out) (near : ℕ → L
       ∙ (ap (λ (l : List Note). Some l) (notes_are j within)
       ∙ sym (get_map notes_of tree j (outs_at j) (tree_at j within)))))
 
-  -- the lines of all of them are the listing
-  all_lines : shown_lines accepted (sorted_notes n all_marks) ≡ output_of accepted None tree
-  all_lines = ap (λ (l : List (List Note)). shown_lines accepted (listed l)) all_notes ∙ shown_listing accepted (map notes_of tree)
+  -- those of all marks that are shown are the notes of the listing, and their lines the listing
+  listed_are : (marks : ℕ → List Mark) → notes_from marks 0 n ≡ map notes_of tree → shown_entries accepted (sorted_notes n marks) ≡ notes_to_list accepted None behind
+  listed_are marks are =
+      ap (λ (l : List (List Note)). shown_entries accepted (listed l)) are
+      ∙ (shown_notes accepted (map notes_of tree)
+      ∙ ap (notes_to_list accepted None) as_behind)
 
-  -- a front of what is written at once of the first marks is a front of what the tree is to write
-  pub front_of_tree : (binary : Option (ℕ × ℕ)) → IfSome binary (λ wanted. wanted.0 < n) → (first : ℕ → List Mark) → ((j : ℕ) → Begins (first j) (taken j)) → (out : List ℕ) → Prompts accepted binary n first out
-      → (old new : Option (List ℕ)) → AppendsFront old new out → AppendsFront old new (output_of accepted binary (given_behind outputs earlier (samples ++ rest) (nodes_of setups parents)))
-  front_of_tree None within first begins out prompts old new front =
+  lines_are : (marks : ℕ → List Mark) → notes_from marks 0 n ≡ map notes_of tree → shown_lines accepted (sorted_notes n marks) ≡ output_of accepted None behind
+  lines_are marks are = lines_shown accepted (sorted_notes n marks) ∙ ap (note_lines accepted.instances) (listed_are marks are)
+
+  -- a front of what is written at once of the first marks is a front of what the tree is to write,
+  -- and the first of its notes are the first of those of the listing
+  pub front_of_tree : (binary : Option (ℕ × ℕ)) → IfSome binary (λ wanted. wanted.0 < n) → (first : ℕ → List Mark) → ((j : ℕ) → Begins (first j) (taken j)) → (out : List ℕ) (notes : List Entry) → Prompts accepted binary n first out notes
+      → (saw : List Entry → Type 0) (old new : Option (List ℕ)) → AppendsFront old new out → SawFront accepted saw old new notes → WritesFrontSeen saw old new (output_of accepted binary behind) (notes_to_list accepted binary behind)
+  front_of_tree None within first begins out notes prompts saw old new front saw_front =
       let f = prompts.merges.front all_marks (continues first begins) in
-      let whole : out ++ shown_lines accepted f.0 ≡ output_of accepted None (given_behind outputs earlier (samples ++ rest) (nodes_of setups parents)) =
-      ap (λ (l : List ℕ). l ++ shown_lines accepted f.0) prompts.lines ∙ (sym (flat_map-append (shown_line accepted) prompts.given f.0) ∙ (ap (shown_lines accepted) f.1 ∙ (all_lines ∙ as_behind None))) in
-      subst (AppendsFront old new) whole (front_longer old new out (shown_lines accepted f.0) front)
-  front_of_tree (Some wanted) within first begins out prompts old new front =
+      let whole : out ++ shown_lines accepted f.0 ≡ output_of accepted None behind =
+      ap (λ (l : List ℕ). l ++ shown_lines accepted f.0) prompts.lines ∙ (sym (lines_append accepted prompts.given f.0) ∙ (ap (shown_lines accepted) f.1 ∙ lines_are all_marks all_notes)) in
+      let all : notes ++ shown_entries accepted f.0 ≡ notes_to_list accepted None behind =
+      ap (λ (l : List Entry). l ++ shown_entries accepted f.0) prompts.shown ∙ (sym (entries_append accepted prompts.given f.0) ∙ (ap (shown_entries accepted) f.1 ∙ listed_are all_marks all_notes)) in
+      record {
+        front = subst (AppendsFront old new) whole (front_longer old new out (shown_lines accepted f.0) front);
+        seen = record {
+          seen = saw_front.seen;
+          begins = begins_further saw_front.seen notes (notes_to_list accepted None behind) saw_front.begins (shown_entries accepted f.0, all);
+          are_seen = saw_front.are_seen;
+        };
+      }
+  front_of_tree (Some wanted) within first begins out notes prompts saw old new front saw_front =
       let b = (continues first begins).begins wanted.0 within in
-      let whole : out ++ bytes_in wanted.1 b.0 ≡ output_of accepted (Some wanted) (given_behind outputs earlier (samples ++ rest) (nodes_of setups parents)) =
-      ap (λ (l : List ℕ). l ++ bytes_in wanted.1 b.0) prompts
+      let whole : out ++ bytes_in wanted.1 b.0 ≡ output_of accepted (Some wanted) behind =
+      ap (λ (l : List ℕ). l ++ bytes_in wanted.1 b.0) prompts.0
       ∙ (sym (bytes_in-append wanted.1 (first wanted.0) b.0)
       ∙ (ap (bytes_in wanted.1) b.1
       ∙ (bytes_are wanted.1 wanted.0 within
-      ∙ (sym (ap (bytes_by wanted.1) (tree_at wanted.0 within)) ∙ as_behind (Some wanted))))) in
-      subst (AppendsFront old new) whole (front_longer old new out (bytes_in wanted.1 b.0) front)
+      ∙ (sym (ap (bytes_by wanted.1) (tree_at wanted.0 within)) ∙ ap (output_of accepted (Some wanted)) as_behind)))) in
+      record {
+        front = subst (AppendsFront old new) whole (front_longer old new out (bytes_in wanted.1 b.0) front);
+        seen = record {
+          seen = saw_front.seen;
+          begins = subst (Begins saw_front.seen) prompts.1 saw_front.begins;
+          are_seen = saw_front.are_seen;
+        };
+      }
 
-  -- at the end all is written
+  -- at the end all is written, and all notes were seen
   module _ (ended : result ≡ Ended) where
     closed_taken : (j : ℕ) → j < n → bound_of (taken j) ≡ None
     closed_taken j within =
@@ -407,13 +436,19 @@ module _ {S : Type 0} (outputs : S → List Item → List Out) (near : ℕ → L
         ∙ (ap (λ (l : List Note). Some l) (sym (notes_shown (taken j)) ∙ (ap notes_in (all_taken j within) ∙ notes_outs (outs_at j)))
         ∙ sym (get_map notes_of tree j (outs_at j) (tree_at j within)))))
 
-    pub all_of_tree : (binary : Option (ℕ × ℕ)) → IfSome binary (λ wanted. wanted.0 < n) → (merge : Merge) → count_of merge ≡ n → (old new : Option (List ℕ)) → WritesAll accepted binary merge old new taken
-        → Appends old new (output_of accepted binary (given_behind outputs earlier (samples ++ rest) (nodes_of setups parents)))
-    all_of_tree None within merge is old new w =
+    pub all_of_tree : (binary : Option (ℕ × ℕ)) → IfSome binary (λ wanted. wanted.0 < n) → (merge : Merge) → count_of merge ≡ n → (saw : List Entry → Type 0) (old new : Option (List ℕ)) → WritesAll accepted binary merge saw old new taken
+        → WritesSeen saw old new (output_of accepted binary behind) (notes_to_list accepted binary behind)
+    all_of_tree None within merge is saw old new w =
         let goes : Continues (count_of merge) taken taken = record { begins = λ j low. begins_itself (taken j); are_true = λ j low. taken_true j (omega (arith, low, is)) } in
         let all = given_at_end (count_of merge) taken w.given (held_in merge) w.stands.merges w.prompt (λ j low. closed_taken j (omega (arith, low, is))) goes in
-        subst (Appends old new) (ap (shown_lines accepted) (all ∙ ap (λ (k : ℕ). sorted_notes k taken) is) ∙ (ap (λ (l : List (List Note)). shown_lines accepted (listed l)) taken_notes ∙ (shown_listing accepted (map notes_of tree) ∙ as_behind None))) w.lines
-    all_of_tree (Some wanted) within merge is old new w =
-        subst (Appends old new)
-        (sym (bytes_shown wanted.1 (taken wanted.0)) ∙ (ap (bytes_in wanted.1) (all_taken wanted.0 within) ∙ (bytes_outs wanted.1 (outs_at wanted.0)
-        ∙ (sym (ap (bytes_by wanted.1) (tree_at wanted.0 within)) ∙ as_behind (Some wanted))))) w
+        let given : w.given ≡ sorted_notes n taken = all ∙ ap (λ (k : ℕ). sorted_notes k taken) is in
+        record {
+          whole = subst (Appends old new) (ap (shown_lines accepted) given ∙ lines_are taken taken_notes) w.lines;
+          seen = subst saw (ap (shown_entries accepted) given ∙ listed_are taken taken_notes) w.seen;
+        }
+    all_of_tree (Some wanted) within merge is saw old new w = record {
+      whole = subst (Appends old new)
+          (sym (bytes_shown wanted.1 (taken wanted.0)) ∙ (ap (bytes_in wanted.1) (all_taken wanted.0 within) ∙ (bytes_outs wanted.1 (outs_at wanted.0)
+          ∙ (sym (ap (bytes_by wanted.1) (tree_at wanted.0 within)) ∙ ap (output_of accepted (Some wanted)) as_behind)))) w.0;
+      seen = w.1;
+    }

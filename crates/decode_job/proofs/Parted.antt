@@ -33,6 +33,7 @@ use Rattle.annot_merge.specs.Held.{count_of as merged_of}
 use Rattle.stack_spec.specs.Accepting.{Accepted}
 use Rattle.stack_spec.specs.Stacks.{stack_meaning}
 use Rattle.stack_spec.specs.declared.stack.Stack.{Stack}
+use Rattle.note_order.specs.declared.entry.Entry.{Entry}
 use Rattle.note_lister.specs.Prompt.{Prompts}
 use Rattle.note_lister.specs.Taking.{Goes, Took, WritesAll as ListerWrites, first_sink, instances_of, sink_of, stack_of}
 use Rattle.note_lister.specs.declared.lister.Lister.{Lister}
@@ -89,10 +90,10 @@ module _ (Checked Whole Front Cut Beyond : List ℕ → Type 0) (form : Form) (p
   ended_says bytes told (Fault fault) other s = (s.0, subst Whole (sym s.1) whole)
   ended_says bytes told NoMemory other s = front_says bytes told s
 
-module _ {M Q S K : Type 0} (m : MachineGhosts M Q) (s : SourceGhosts S) (k : SinkGhosts K) (machines machines_now : List M) (parents : List (Option ℕ)) (count : ℕ) (first feed : UpTo S) (lister_first lister : Lister K) (end : RunEnd)
+module _ {M Q S K W : Type 0} (m : MachineGhosts M Q) (s : SourceGhosts S) (k : SinkGhosts K) (saw : W → List Entry → Type 0) (machines machines_now : List M) (parents : List (Option ℕ)) (count : ℕ) (first feed : UpTo S) (lister_first lister : Lister K W) (end : RunEnd)
     (runs : RunsOn m.outputs m.near (map m.setup machines) parents (Stand m.consumed machines) (Stand m.consumed machines_now) (λ lists. GaveUpTo s.left s.faults first (together lists)) (λ lists. GaveUpTo s.left s.faults feed (together lists))
-    (Took k.written k.faults k.goes_on lister_first) (Took k.written k.faults k.goes_on lister) (has_ended feed) end)
-    (gave : GaveUpTo s.left s.faults feed (together runs.lists)) (took : Took k.written k.faults k.goes_on lister runs.marks)
+    (Took k.written k.faults k.goes_on saw lister_first) (Took k.written k.faults k.goes_on saw lister) (has_ended feed) end)
+    (gave : GaveUpTo s.left s.faults feed (together runs.lists)) (took : Took k.written k.faults k.goes_on saw lister runs.marks)
     (at_end : end ≡ RunEnded → has_ended feed ≡ true) (going : Goes (is_ended end) lister) (most : most_of feed ≡ room_behind count) (few : count_of feed ≤ most_of feed)
     (lawful : IsLawful parents (defined m.outputs m.near (map m.setup machines))) (tree : IsTree parents (length machines) (instances_of lister)) (wanted : WantsOf (stack_of lister) (length parents)) where
   abbrev inner : CaptureFeed S
@@ -165,12 +166,12 @@ module _ {M Q S K : Type 0} (m : MachineGhosts M Q) (s : SourceGhosts S) (k : Si
     ended : end ≡ RunEnded
     ended = not_stopped end lister.cause lister.stops none (λ is. subst (λ (b : Bool). Goes b lister) is going)
 
-    written : (lister.stops ≡ 0) × (k.faults (sink_of lister) ≡ k.faults sink) × ListerWrites accepted accepted.binary lister.merge old new runs.marks
-    written = never_stopped accepted lister.merge lister.cause lister.stops old new (k.faults sink) (k.faults (sink_of lister)) runs.marks none took.writes
+    written : (lister.stops ≡ 0) × (k.faults (sink_of lister) ≡ k.faults sink) × ListerWrites accepted accepted.binary lister.merge (saw lister.watch) old new runs.marks
+    written = never_stopped accepted lister.merge lister.cause lister.stops (saw lister.watch) old new (k.faults sink) (k.faults (sink_of lister)) runs.marks none took.writes
 
     listed : (earlier : List ℕ) → Behind m machines parents count earlier → Appends old new (output_behind m machines parents stack earlier samples)
     listed earlier behind = subst (λ (l : List ℕ). Appends old new (output_behind m machines parents stack earlier l)) (append-nil samples)
-        (all_of_tree m.outputs (near_of m.near setups) setups parents tree.forest count_is keeps accepted end (has_ended feed) earlier samples [] runs.marks (tells earlier behind) (λ _. refl) ended accepted.binary wanted lister.merge tree.takes old new written.2)
+        (all_of_tree m.outputs (near_of m.near setups) setups parents tree.forest count_is keeps accepted end (has_ended feed) earlier samples [] runs.marks (tells earlier behind) (λ _. refl) ended accepted.binary wanted lister.merge tree.takes (saw lister.watch) old new written.2).whole
 
     -- there were no more samples than may come
     module _ (within : is_past feed ≡ false) where
@@ -255,15 +256,15 @@ module _ {M Q S K : Type 0} (m : MachineGhosts M Q) (s : SourceGhosts S) (k : Si
 
   -- it was stopped
   module _ (why : ListStop) (is : lister.cause ≡ Some why) where
-    stopped : StoppedBy accepted (merged_of lister.merge) old new (k.faults sink) (k.faults (sink_of lister)) runs.marks (end_of_stop why)
-    stopped = stopped_by accepted lister.merge lister.cause why lister.stops old new (k.faults sink) (k.faults (sink_of lister)) runs.marks is took.writes
+    stopped : StoppedBy accepted (merged_of lister.merge) (saw lister.watch) old new (k.faults sink) (k.faults (sink_of lister)) runs.marks (end_of_stop why)
+    stopped = stopped_by accepted lister.merge lister.cause why lister.stops (saw lister.watch) old new (k.faults sink) (k.faults (sink_of lister)) runs.marks is took.writes
 
     -- a front of what is to be written of these samples, and more
     front_of : (rest : List ℕ) → (has_ended feed ≡ true → rest ≡ []) → (earlier : List ℕ) → Behind m machines parents count earlier → AppendsFront old new (output_behind m machines parents stack earlier (samples ++ rest))
     front_of rest none earlier behind =
         let front = stopped.front in
-        let prompts : Prompts accepted accepted.binary (length parents) front.first front.out = subst (λ (n : ℕ). Prompts accepted accepted.binary n front.first front.out) tree.takes front.prompts in
-        front_of_tree m.outputs (near_of m.near setups) setups parents tree.forest count_is keeps accepted end (has_ended feed) earlier samples rest runs.marks (tells earlier behind) none accepted.binary wanted front.first front.begins front.out prompts old new front.front
+        let prompts : Prompts accepted accepted.binary (length parents) front.first front.out front.notes = subst (λ (n : ℕ). Prompts accepted accepted.binary n front.first front.out front.notes) tree.takes front.prompts in
+        (front_of_tree m.outputs (near_of m.near setups) setups parents tree.forest count_is keeps accepted end (has_ended feed) earlier samples rest runs.marks (tells earlier behind) none accepted.binary wanted front.first front.begins front.out front.notes prompts (saw lister.watch) old new front.front front.seen).front
 
     fronts : (past : Bool) → is_past feed ≡ past → (rest : List ℕ) → (not (is_open_of inner.capture.now) ≡ true → rest ≡ []) → Front (all ++ rest)
     fronts false within rest none earlier behind =

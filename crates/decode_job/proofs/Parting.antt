@@ -25,6 +25,7 @@ use Rattle.stack_spec.specs.declared.stack.Stack.{Stack}
 use Rattle.decode_job.specs.Flushing.{Broke, Flushes, Left, Went}
 use Rattle.decode_job.specs.PartRunning.{Checks, ListsAll, ListsPart}
 use Rattle.decode_job.specs.Parting.{Behind, ChecksBehind, CutsBehind, CutsCheck, DecodesPart, PartLists, PartReadCause, PartSays, PartWriteCause, WritesAll, WritesCheck, WritesFront, WritesUpTo, output_behind, room_behind}
+use Rattle.decode_job.specs.Seen.{WritesFrontSeen}
 use Rattle.decode_job.specs.declared.part_end.PartEnd.{PartEnd}
 use Rattle.decode_job.specs.declared.part_end.PartEnd.TheVariants.{Ended, Past}
 use Rattle.decode_job.proofs.Ends.{kept_cause}
@@ -265,15 +266,15 @@ module _ {M Q S : Type 0} (m : MachineGhosts M Q) (saves : M → List ℕ → Ty
       subst (λ (now : S). DecodesPart m saves s k stack machines kinds parents count capture source_old now sink sink (Ended NoMemory)) (sym same)
       (record {
         lists = λ before told at stands.
-            let lists = nothing_done capture before told left written (λ l. []) at stands in
+            let lists = nothing_done capture before told left written (λ l. []) (λ l. []) (λ notes. Unit {0}) tt at stands in
             record {
               bytes = lists.bytes;
               told = lists.told;
               taken = lists.taken;
               later = lists.later;
               at_end = lists.at_end;
-              says = settled_on (form_of capture) (pins_of capture) (λ l. AppendsFront written written []) (WritesFront m machines parents stack count written written)
-                  (λ l front earlier behind_these. front_longer written written [] (output_behind m machines parents stack earlier (take (room_behind count) l)) front) (before ++ lists.bytes) lists.told lists.says;
+              says = settled_on (form_of capture) (pins_of capture) (λ l. WritesFrontSeen (λ notes. Unit {0}) written written [] []) (WritesFront m machines parents stack count written written)
+                  (λ l front earlier behind_these. front_longer written written [] (output_behind m machines parents stack earlier (take (room_behind count) l)) front.front) (before ++ lists.bytes) lists.told lists.says;
             };
         read = omega arith;
         write = refl;

@@ -1,4 +1,4 @@
--- The lines of the notes that are shown, in order.
+-- The notes that are shown, in order.
 use Rattle.std.proofs.Common.{◌≡◌, ℕ, ◌+◌, Bool, true, false, cond, List, [], ◌∷◌, ◌++◌, map, refl, sym, ◌∙◌, ap}
 use Rattle.std.specs.List.{filter}
 use Rattle.std.specs.List.Sorted.{ties}
@@ -8,7 +8,7 @@ use Rattle.note_order.specs.Order.{entries_from, entry_of, in_order, is_before, 
 use Rattle.note_order.specs.declared.entry.Entry.{Entry}
 use Rattle.annot_merge.specs.Merging.{InOrder, NoneBefore}
 use Rattle.annot_merge.proofs.Orders.{in_order_alike, one_order, order_is_in_order}
-use Rattle.note_lister.specs.Lines.{note_line, note_lines, shown_lines}
+use Rattle.note_lister.specs.Lines.{has_shown, shown_entries}
 use Rattle.stack_spec.specs.Accepting.{Accepted, is_shown}
 use Rattle.tree_runs.specs.Listings.{shown_from, where_shown}
 
@@ -48,7 +48,7 @@ order_of_left p xs = one_order (filter p (in_order xs)) (filter p xs) (left_in_o
 
 module _ (accepted : Accepted) where
   abbrev seen : Entry → Bool
-  seen e = is_shown accepted.shown e.instance
+  seen = has_shown accepted
 
   -- those of one instance
   one_seen : (i : ℕ) (notes : List Note) → filter seen (map (entry_of i) notes) ≡ map (entry_of i) (where_shown (is_shown accepted.shown i) notes)
@@ -66,17 +66,6 @@ module _ (accepted : Accepted) where
       filter-append seen (map (entry_of first) list) (entries_from (first + 1) notes)
       ∙ (λ k. one_seen first list k ++ all_seen (first + 1) notes k)
 
-  lines_seen : (entries : List Entry) → shown_lines accepted entries ≡ note_lines accepted.instances (filter seen entries)
-  lines_seen [] = refl
-  lines_seen (e ∷ entries) = by (seen e) (lines_seen entries)
-    where
-      by : (b : Bool) → shown_lines accepted entries ≡ note_lines accepted.instances (filter seen entries)
-          → cond b (note_line accepted.instances e) [] ++ shown_lines accepted entries ≡ note_lines accepted.instances (cond b (e ∷ filter seen entries) (filter seen entries))
-      by true rest = ap (λ (l : List ℕ). note_line accepted.instances e ++ l) rest
-      by false rest = rest
-
-  -- the lines of those that are shown, of all notes in order
-  pub shown_listing : (notes : List (List Note)) → shown_lines accepted (listed notes) ≡ note_lines accepted.instances (listed (shown_from (is_shown accepted.shown) 0 notes))
-  shown_listing notes =
-      lines_seen (listed notes)
-      ∙ ap (note_lines accepted.instances) (order_of_left seen (entries_from 0 notes) ∙ ap in_order (all_seen 0 notes))
+  -- those that are shown, of all notes in order
+  pub shown_notes : (notes : List (List Note)) → shown_entries accepted (listed notes) ≡ listed (shown_from (is_shown accepted.shown) 0 notes)
+  shown_notes notes = order_of_left seen (entries_from 0 notes) ∙ ap in_order (all_seen 0 notes)

@@ -4,6 +4,7 @@ pub mod Listing
 pub mod Ending
 pub mod Decoding
 pub mod Running
+pub mod Seen
 pub mod Flushing
 pub mod Parting
 pub mod UpTo

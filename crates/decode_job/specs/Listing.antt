@@ -8,16 +8,20 @@ use Rattle.la_base.specs.declared.wires.Out.TheVariants.{Packet as PacketOut}
 use Rattle.decoder_core.specs.Inputs.{Item}
 use Rattle.decoder_core.specs.Trees.{Node, given}
 use Rattle.note_order.specs.Order.{listed}
+use Rattle.note_order.specs.declared.entry.Entry.{Entry}
 use Rattle.tree_runs.specs.Listings.{notes_of, shown_from}
 use Rattle.note_lister.specs.Lines.{note_lines}
 use Rattle.stack_spec.specs.Accepting.{Accepted, is_shown}
 use Rattle.stack_spec.specs.Instances.{Instance}
 
--- the listing of what instances give: the notes of all that are shown, by start, then by instance,
--- then as they were given
+-- the notes of a listing of what instances give: those of all that are shown, by start, then by
+-- instance, then as they were given
+abbrev pub listed_notes : (ℕ → Bool) → List (List Out) → List Entry
+listed_notes shown outs = listed (shown_from shown 0 (map notes_of outs))
+
+-- the listing
 abbrev pub listing_of : List Instance → (ℕ → Bool) → List (List Out) → List ℕ
-listing_of instances shown outs =
-    note_lines instances (listed (shown_from shown 0 (map notes_of outs)))
+listing_of instances shown outs = note_lines instances (listed_notes shown outs)
 
 -- the listing of a tree of decoders
 abbrev pub tree_listing : {S : Type 0} → (S → List Item → List Out) → List Instance → (ℕ → Bool)
@@ -53,11 +57,22 @@ abbrev pub output_of : Accepted → Option (ℕ × ℕ) → List (List Out) → 
 output_of accepted None outs = listing_of accepted.instances (is_shown accepted.shown) outs
 output_of accepted (Some wanted) outs = data_of wanted outs
 
+-- the notes of which lines are to be written: those of their listing; with binary data wanted none
+abbrev pub notes_to_list : Accepted → Option (ℕ × ℕ) → List (List Out) → List Entry
+notes_to_list accepted None outs = listed_notes (is_shown accepted.shown) outs
+notes_to_list accepted (Some wanted) outs = []
+
 -- what a stack's tree of decoders is to write
 abbrev pub tree_output : {S : Type 0} → (S → List Item → List Out) → Accepted → List (Node S)
     → List ℕ → List ℕ
 tree_output outputs accepted nodes samples =
     output_of accepted accepted.binary (given outputs samples nodes)
+
+-- the notes of that
+abbrev pub tree_notes : {S : Type 0} → (S → List Item → List Out) → Accepted → List (Node S)
+    → List ℕ → List Entry
+tree_notes outputs accepted nodes samples =
+    notes_to_list accepted accepted.binary (given outputs samples nodes)
 
 -- what instances give now behind what they gave before, place by place
 abbrev pub rest_of : List (List Out) → List (List Out) → List (List Out)

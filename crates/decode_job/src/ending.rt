@@ -4,6 +4,7 @@ ghost use Rattle.tree_runs.specs.Machines.{defined};
 ghost use Rattle.tree_runs.specs.Taking.{IsTree};
 ghost use Rattle.stack_laws.specs.Laws.{IsLawful};
 ghost use Rattle.note_lister.specs.Taking.{first_of, first_sink, instances_of, stack_of};
+ghost use Rattle.note_lister.specs.Taking.{watch_of};
 ghost use Rattle.capture_any.specs.declared.end.ListingEnd.TheVariants.{Write as WriteEnd};
 ghost use Rattle.decode_job.specs.Asking.{WantsOf};
 ghost use Rattle.decode_job.specs.Decoding.{Decodes};
@@ -16,14 +17,15 @@ use capture_any::{Capture, ListingEnd};
 use decoder_core::{Machine, RunEnd};
 use la_base::NoMemory;
 use la_io::{Buffered, Failed, Sink, Source};
-use note_lister::{ListStop, Lister};
+use note_lister::{ListStop, Lister, Watch};
 use std::snapshot::Snapshot;
 
-/// Capture, source and sink behind a run, and how the run ended.
-pub(crate) struct Ran<'a, 'b, 'c, S: Source, K: Sink> {
+/// Capture, source, sink and what looked on behind a run, and how the run ended.
+pub(crate) struct Ran<'a, 'b, 'c, S: Source, K: Sink, W: Watch> {
     pub(crate) capture: &'a mut Capture,
     pub(crate) source: &'b mut S,
     pub(crate) sink: &'c mut K,
+    pub(crate) watch: W,
     pub(crate) end: ListingEnd,
 }
 
@@ -54,23 +56,26 @@ pub(crate) fn goes_back<T>(lent: &mut T)
 {}
 
 /// Takes the feed and the lister apart, behind a run of machines that were `before`.
-pub(crate) fn close<'a, 'b, 'c, S: Source, K: Sink, M: Machine>(
+pub(crate) fn close<'a, 'b, 'c, S: Source, K: Sink, W: Watch, M: Machine>(
     before: Snapshot<Vec<M>>,
     parents: &[Option<u32>],
     feed: CaptureFeed<'a, 'b, S>,
-    lister: Lister<'_, 'c, K>,
+    lister: Lister<'_, 'c, K, W>,
     ran: Result<RunEnd, NoMemory>,
-) -> Ran<'a, 'b, 'c, S, K>
+) -> Ran<'a, 'b, 'c, S, K, W>
     requires lawful { IsLawful parents.now
         (defined M.outputs M.near (map M.setup before.value.items)) }
     requires tree { IsTree parents.now (length before.value.items) (instances_of lister) }
     requires wanted { WantsOf (stack_of lister) (length parents.now) }
-    requires ran { RanTo M.Machine S.Source K.Sink before.value.items parents.now feed lister ran }
+    requires ran { RanTo M.Machine S.Source K.Sink W.saw before.value.items parents.now feed lister
+        ran }
     ensures same_source { result.source.ghost_name ≡ feed.entry.first_source.value.ghost_name }
     ensures same_sink { result.sink.ghost_name ≡ (first_of lister.entry).ghost_name }
     ensures decodes { Decodes M.Machine S.Source K.Sink (stack_of lister.entry) before.value.items
         parents.now feed.entry.first_capture.value.now feed.entry.first_source.value.now
-        result.source.now (first_sink lister.entry) result.sink.now result.end }
+        result.source.now (first_sink lister.entry) result.sink.now (W.saw result.watch)
+        result.end }
+    ensures watch { result.watch ≡ watch_of lister.entry }
     ensures goes_on { K.goes_on (first_sink lister.entry) result.sink.now }
 {
     let CaptureFeed {
@@ -79,11 +84,17 @@ pub(crate) fn close<'a, 'b, 'c, S: Source, K: Sink, M: Machine>(
         end,
         ..
     } = feed;
-    let Lister { sink, cause, .. } = lister;
+    let Lister {
+        sink,
+        watch,
+        cause,
+        ..
+    } = lister;
     Ran {
         capture,
         source,
         sink,
+        watch,
         end: end_behind(ran, cause, end),
     }
 }

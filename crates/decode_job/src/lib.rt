@@ -1,5 +1,5 @@
-//! The job decode: what a tree of decoders gives on a capture, written while it is read; of a part,
-//! with a checkpoint behind it.
+//! The job decode: what a tree of decoders gives on a capture, written while it is read, and shown
+//! to what looks on; of a part, with a checkpoint behind it.
 #![tactic(auto)]
 
 mod capture_feed;

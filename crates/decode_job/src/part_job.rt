@@ -1,5 +1,5 @@
 // The decoding of a part of a capture.
-ghost use Rattle.std.specs.Prelude.{◌≡◌, ◌≤◌, ◌-◌, ◌^◌, length, map, true};
+ghost use Rattle.std.specs.Prelude.{◌≡◌, ◌≤◌, ◌-◌, ◌^◌, [], length, map, true};
 ghost use Rattle.capture_any.specs.Reading.{is_open_of};
 ghost use Rattle.annot_merge.specs.Held.{count_of as merged_of};
 ghost use Rattle.note_lister.specs.Taking.{cause_of, sink_of, sink_ref};
@@ -24,7 +24,7 @@ use check_point::write_check;
 use decoder_core::{Keep, Machine};
 use la_base::NoMemory;
 use la_io::{Buffered, Failed, Sink, Source};
-use note_lister::{ListStop, Lister};
+use note_lister::{ListStop, Lister, Unwatched, Watch};
 use stack_direct::run_direct;
 use stack_laws::laws::machines_are_a_tree;
 use stack_spec::Stack;
@@ -61,9 +61,9 @@ fn end_of_part(cause: Option<ListStop>, past: bool, end: ListingEnd) -> PartEnd
 }
 
 // Takes feed and lister apart, behind a run.
-fn close_part<'a, 'b, 'c, S: Source, K: Sink>(
+fn close_part<'a, 'b, 'c, S: Source, K: Sink, W: Watch + Drop>(
     feed: UpTo<'a, 'b, S>,
-    lister: Lister<'_, 'c, K>,
+    lister: Lister<'_, 'c, K, W>,
 ) -> Ran<'a, 'b, 'c, S, K>
     ensures source { result.source.now ≡ (inner_of feed.entry).source.now }
     ensures same_source { result.source.ghost_name ≡ (inner_of feed.entry).source.ghost_name }
@@ -99,7 +99,7 @@ fn close_part<'a, 'b, 'c, S: Source, K: Sink>(
 
 // Runs the machines over the capture, behind so many earlier samples, and writes what they add as
 // it comes.
-fn list_part<S: Source, K: Sink, M: Machine>(
+fn list_part<S: Source, K: Sink, W: Watch + Drop, M: Machine>(
     stack: &Stack,
     merge: Merge,
     capture: &mut Capture,
@@ -108,7 +108,9 @@ fn list_part<S: Source, K: Sink, M: Machine>(
     earlier: u64,
     source: &mut S,
     sink: &mut K,
+    watch: W,
 ) -> Listed
+    requires unseen { W.saw watch [] }
     requires is_open { is_open_of capture.old ≡ true }
     requires tree { IsTree parents.now (length machines.old) (merged_of merge) }
     requires new { IsNew merge }
@@ -123,7 +125,7 @@ fn list_part<S: Source, K: Sink, M: Machine>(
 {
     let captured = CaptureFeed::new(capture, source);
     let mut feed = UpTo::new(captured, MOST_SAMPLES - earlier);
-    let mut lister = Lister::over(stack, merge, sink);
+    let mut lister = Lister::over(stack, merge, sink, watch);
     machines_are_a_tree(machines, parents);
     run_direct(machines, parents, &mut feed, &mut lister);
     let Ran {
@@ -217,6 +219,7 @@ pub fn part<S: Source, K: Sink, M: Keep>(
         earlier,
         source,
         &mut buffered,
+        Unwatched,
     );
     let samples = earlier + listed.given;
     let end = check_behind(&mut buffered, samples, machines, kinds, listed.end);

@@ -1,12 +1,11 @@
 -- What is written of one more mark.
-use Rattle.std.proofs.Common.{◌≡◌, ◌≢◌, inl, inr, ℕ, ◌==◌, ◌≤◌, ◌<◌, Bool, true, false, cond, List, [], ◌∷◌, ◌++◌, ◌+◌, length, get_or, take, drop, Option, Some, None, Ok, Err, refl, sym, ◌∙◌, ap, subst, append_assoc, take-append-drop, arith}
+use Rattle.std.proofs.Common.{◌≡◌, ◌≢◌, inl, inr, ℕ, ◌==◌, ◌≤◌, ◌<◌, Bool, true, false, cond, List, [], ◌∷◌, ◌++◌, get_or, length, Option, Some, None, Ok, Err, refl, sym, ◌∙◌, ap, subst, append_assoc, arith}
 use Rattle.std.specs.Prelude.{IsNone, IsSome}
 use Rattle.std.specs.Io.KnownBytes.{Appends, Keeps}
 use Rattle.std.proofs.KnownBytes.{Appends-kept}
 use Rattle.std.proofs.lemmas.Option.{none-some}
 use Rattle.std.proofs.lemmas.Bool.{cases_eq}
 use Rattle.std.proofs.lemmas.Bool.Decides.{nat_tests}
-use Rattle.std.proofs.lemmas.Grind.{flat_map-append}
 use Rattle.std.proofs.lemmas.List.{append-nil}
 use Rattle.std.proofs.lemmas.List.Elements.{All-nil}
 use Rattle.la_base.specs.declared.wires.Mark.{Mark}
@@ -14,22 +13,22 @@ use Rattle.la_base.specs.declared.wires.Mark.TheVariants.{Note as NoteMark, Piec
 use Rattle.la_io.specs.Causes.{AppendsFront, Rose}
 use Rattle.la_io.specs.Feeds.{AddsMark}
 use Rattle.la_io.specs.Grown.{appends_nothing, appends_on}
-use Rattle.la_io.specs.declared.outside.Failed.{Failed}
-use Rattle.la_io.proofs.Fronts.{front_longer, front_on, front_whole}
+use Rattle.la_io.proofs.Fronts.{front_on, front_whole}
 use Rattle.note_order.specs.declared.entry.Entry.{Entry}
 use Rattle.stack_spec.specs.Accepting.{Accepted}
 use Rattle.annot_merge.specs.Bounds.{IsAllowed}
 use Rattle.annot_merge.specs.Held.{Stands, StandsStill, Takes, count_of, held_in}
 use Rattle.annot_merge.specs.Marks.{Begins, Pushes}
 use Rattle.annot_merge.specs.declared.merge.Merge.{Merge}
-use Rattle.annot_merge.proofs.PutLemmas.{first_of}
 use Rattle.note_lister.specs.Data.{bytes_in, wanted_by, wanted_of}
-use Rattle.note_lister.specs.Lines.{shown_line, shown_lines}
+use Rattle.note_lister.specs.Lines.{shown_entries, shown_lines}
 use Rattle.note_lister.specs.Prompt.{Prompts}
-use Rattle.note_lister.specs.Ready.{ListsReady}
+use Rattle.note_lister.specs.Ready.{ListsReady, StopCause}
 use Rattle.note_lister.specs.Taking.{Writes, WritesAll, WritesFront, WritesFrontOf, WritesLines}
+use Rattle.note_lister.specs.Watching.{SeesNone}
 use Rattle.note_lister.specs.declared.stop.ListStop.{ListStop}
 use Rattle.note_lister.specs.declared.stop.ListStop.TheVariants.{Write, NoMemory}
+use Rattle.note_lister.proofs.Seeing.{Shown, entries_append, listed_more, nothing_front, saw_none, shown_behind, shown_front, shown_longer, shown_saw, shown_whole}
 use Rattle.note_lister.proofs.Settling.{Settles, one_more, settles}
 
 pub as_pushed : (before after : ℕ → List Mark) (instance : ℕ) (mark : Mark) → AddsMark before after instance mark → Pushes before after instance mark
@@ -77,220 +76,224 @@ none_is (Some x) is = absurd cc
 some-none : {X : Type 0} (x : X) → Some x ≡ None → ⊥
 some-none x is = none-some x (sym is)
 
-nothing_front : (old : Option (List ℕ)) (bytes : List ℕ) → AppendsFront old old bytes
-nothing_front old bytes = front_longer old old [] bytes (front_whole old old [] (appends_nothing old))
-
 module _ (accepted : Accepted) where
   -- nothing was taken
-  pub nothing_taken : (binary : Option (ℕ × ℕ)) (merge : Merge) (old : Option (List ℕ)) → Stands merge (λ _. []) [] → held_in merge ≡ [] → WritesAll accepted binary merge old old (λ _. [])
-  nothing_taken None merge old stands none = record {
+  pub nothing_taken : (binary : Option (ℕ × ℕ)) (merge : Merge) (saw : List Entry → Type 0) (old : Option (List ℕ)) → saw [] → Stands merge (λ _. []) [] → held_in merge ≡ [] → WritesAll accepted binary merge saw old old (λ _. [])
+  nothing_taken None merge saw old unseen stands none = record {
     given = [];
     stands = stands;
     prompt = subst (λ l. (k : ℕ) (d : Entry) → k < length l → IsAllowed (count_of merge) (λ _. []) (get_or l k d) → ⊥) (sym none) (All-nil (λ e. IsAllowed (count_of merge) (λ _. []) e → ⊥));
     lines = appends_nothing old;
+    seen = unseen;
   }
-  nothing_taken (Some wanted) merge old stands none = appends_nothing old
+  nothing_taken (Some wanted) merge saw old unseen stands none = (appends_nothing old, unseen)
 
   -- it is stopped now
-  stopped_now : (count : ℕ) (old new : Option (List ℕ)) (marks : ℕ → List Mark) → WritesFrontOf accepted count old new marks → WritesFront accepted count old new marks
-  stopped_now count old new marks w = record {
+  stopped_now : (count : ℕ) (saw : List Entry → Type 0) (old new : Option (List ℕ)) (marks : ℕ → List Mark) → WritesFrontOf accepted count saw old new marks → WritesFront accepted count saw old new marks
+  stopped_now count saw old new marks w = record {
     first = marks;
     begins = λ j. begins_itself (marks j);
     out = w.out;
+    notes = w.notes;
     prompts = w.prompts;
     front = w.front;
+    seen = w.seen;
   }
 
   -- there is no cause
-  pub never_stopped : (merge : Merge) (cause : Option ListStop) (stops : ℕ) (old new : Option (List ℕ)) (failed_old failed_new : ℕ) (marks : ℕ → List Mark) → cause ≡ None → Writes accepted merge cause stops old new failed_old failed_new marks
-      → (stops ≡ 0) × (failed_new ≡ failed_old) × WritesAll accepted accepted.binary merge old new marks
-  never_stopped merge None stops old new failed_old failed_new marks never w = w
-  never_stopped merge (Some why) stops old new failed_old failed_new marks never w = absurd (some-none why never)
+  pub never_stopped : (merge : Merge) (cause : Option ListStop) (stops : ℕ) (saw : List Entry → Type 0) (old new : Option (List ℕ)) (failed_old failed_new : ℕ) (marks : ℕ → List Mark) → cause ≡ None → Writes accepted merge cause stops saw old new failed_old failed_new marks
+      → (stops ≡ 0) × (failed_new ≡ failed_old) × WritesAll accepted accepted.binary merge saw old new marks
+  never_stopped merge None stops saw old new failed_old failed_new marks never w = w
+  never_stopped merge (Some why) stops saw old new failed_old failed_new marks never w = absurd (some-none why never)
 
   -- what was written at once is a front of itself
-  pub all_front : (binary : Option (ℕ × ℕ)) → accepted.binary ≡ binary → (merge : Merge) (old new : Option (List ℕ)) (marks : ℕ → List Mark) → WritesAll accepted binary merge old new marks → WritesFrontOf accepted (count_of merge) old new marks
-  all_front None is merge old new marks w = record {
+  pub all_front : (binary : Option (ℕ × ℕ)) → accepted.binary ≡ binary → (merge : Merge) (saw : List Entry → Type 0) (old new : Option (List ℕ)) (marks : ℕ → List Mark) → WritesAll accepted binary merge saw old new marks → WritesFrontOf accepted (count_of merge) saw old new marks
+  all_front None is merge saw old new marks w = record {
     out = shown_lines accepted w.given;
-    prompts = subst (λ b. Prompts accepted b (count_of merge) marks (shown_lines accepted w.given)) (sym is) (record { given = w.given; held = held_in merge; merges = w.stands.merges; prompt = w.prompt; lines = refl });
+    notes = shown_entries accepted w.given;
+    prompts = subst (λ b. Prompts accepted b (count_of merge) marks (shown_lines accepted w.given) (shown_entries accepted w.given)) (sym is) (record {
+      given = w.given;
+      held = held_in merge;
+      merges = w.stands.merges;
+      prompt = w.prompt;
+      lines = refl;
+      shown = refl;
+    });
     front = front_whole old new (shown_lines accepted w.given) w.lines;
+    seen = shown_saw accepted saw old new w.given (shown_whole accepted saw old new w.given w.lines w.seen);
   }
-  all_front (Some wanted) is merge old new marks w = record {
-    out = bytes_in wanted.1 (marks wanted.0);
-    prompts = subst (λ b. Prompts accepted b (count_of merge) marks (bytes_in wanted.1 (marks wanted.0))) (sym is) refl;
-    front = front_whole old new (bytes_in wanted.1 (marks wanted.0)) w;
-  }
+  all_front (Some wanted) is merge saw old new marks w =
+      let front = front_whole old new (bytes_in wanted.1 (marks wanted.0)) w.0 in
+      record {
+        out = bytes_in wanted.1 (marks wanted.0);
+        notes = [];
+        prompts = subst (λ b. Prompts accepted b (count_of merge) marks (bytes_in wanted.1 (marks wanted.0)) []) (sym is) (refl, refl);
+        front = front;
+        seen = saw_none accepted saw old new (bytes_in wanted.1 (marks wanted.0)) front w.1;
+      }
 
-  -- it stays written
-  all_kept : (binary : Option (ℕ × ℕ)) (merge : Merge) (old mid new : Option (List ℕ)) (marks : ℕ → List Mark) → Keeps mid new → WritesAll accepted binary merge old mid marks → WritesAll accepted binary merge old new marks
-  all_kept None merge old mid new marks kept w = record { given = w.given; stands = w.stands; prompt = w.prompt; lines = Appends-kept old mid new (shown_lines accepted w.given) w.lines kept }
-  all_kept (Some wanted) merge old mid new marks kept w = Appends-kept old mid new (bytes_in wanted.1 (marks wanted.0)) w kept
+  -- it stays written and seen
+  all_kept : (binary : Option (ℕ × ℕ)) (merge : Merge) (saw_mid saw : List Entry → Type 0) (old mid new : Option (List ℕ)) (marks : ℕ → List Mark) → SeesNone saw_mid saw → Keeps mid new → WritesAll accepted binary merge saw_mid old mid marks → WritesAll accepted binary merge saw old new marks
+  all_kept None merge saw_mid saw old mid new marks none kept w = record {
+    given = w.given;
+    stands = w.stands;
+    prompt = w.prompt;
+    lines = Appends-kept old mid new (shown_lines accepted w.given) w.lines kept;
+    seen = none (shown_entries accepted w.given) w.seen;
+  }
+  all_kept (Some wanted) merge saw_mid saw old mid new marks none kept w = (Appends-kept old mid new (bytes_in wanted.1 (marks wanted.0)) w.0 kept, none [] w.1)
 
   -- a pause
-  module _ (merge : Merge) (cause : Option ListStop) (stops : ℕ) (old mid new : Option (List ℕ)) (failed_old failed_mid failed_new : ℕ) (marks : ℕ → List Mark) (never : cause ≡ None) (kept : Keeps mid new) (w : Writes accepted merge cause stops old mid failed_old failed_mid marks) where
-    all_still : WritesAll accepted accepted.binary merge old new marks
-    all_still = all_kept accepted.binary merge old mid new marks kept (never_stopped merge cause stops old mid failed_old failed_mid marks never w).2
+  module _ (merge : Merge) (cause : Option ListStop) (stops : ℕ) (saw_mid saw : List Entry → Type 0) (old mid new : Option (List ℕ)) (failed_old failed_mid failed_new : ℕ) (marks : ℕ → List Mark) (never : cause ≡ None) (none : SeesNone saw_mid saw) (kept : Keeps mid new)
+      (w : Writes accepted merge cause stops saw_mid old mid failed_old failed_mid marks) where
+    all_still : WritesAll accepted accepted.binary merge saw old new marks
+    all_still = all_kept accepted.binary merge saw_mid saw old mid new marks none kept (never_stopped merge cause stops saw_mid old mid failed_old failed_mid marks never w).2
 
-    pub pause_kept : failed_new ≡ failed_mid → Writes accepted merge cause stops old new failed_old failed_new marks × WritesAll accepted accepted.binary merge old new marks
+    pub pause_kept : failed_new ≡ failed_mid → Writes accepted merge cause stops saw old new failed_old failed_new marks × WritesAll accepted accepted.binary merge saw old new marks
     pause_kept same =
-        let had = never_stopped merge cause stops old mid failed_old failed_mid marks never w in
-        (subst (λ c. Writes accepted merge c stops old new failed_old failed_new marks) (sym never) (had.0, same ∙ had.1, all_still), all_still)
+        let had = never_stopped merge cause stops saw_mid old mid failed_old failed_mid marks never w in
+        (subst (λ c. Writes accepted merge c stops saw old new failed_old failed_new marks) (sym never) (had.0, same ∙ had.1, all_still), all_still)
 
-    pub pause_fails : failed_mid ≤ failed_new → Rose failed_mid failed_new → Writes accepted merge (Some Write) stops old new failed_old failed_new marks × WritesAll accepted accepted.binary merge old new marks
+    pub pause_fails : failed_mid ≤ failed_new → Rose failed_mid failed_new → Writes accepted merge (Some Write) stops saw old new failed_old failed_new marks × WritesAll accepted accepted.binary merge saw old new marks
     pause_fails later rose =
-        let had = never_stopped merge cause stops old mid failed_old failed_mid marks never w in
-        ((omega (arith, had.1, later), subst (λ (n : ℕ). Rose n failed_new) had.1 rose, stopped_now (count_of merge) old new marks (all_front accepted.binary refl merge old new marks all_still)), all_still)
+        let had = never_stopped merge cause stops saw_mid old mid failed_old failed_mid marks never w in
+        ((omega (arith, had.1, later), subst (λ (n : ℕ). Rose n failed_new) had.1 rose, stopped_now (count_of merge) saw old new marks (all_front accepted.binary refl merge saw old new marks all_still)), all_still)
 
   module _ (before after : ℕ → List Mark) (instance : ℕ) (mark : Mark) (adds : AddsMark before after instance mark) where
     -- it was stopped before
-    front_later : (count : ℕ) (old new : Option (List ℕ)) → WritesFront accepted count old new before → WritesFront accepted count old new after
-    front_later count old new w = record {
+    front_later : (count : ℕ) (saw : List Entry → Type 0) (old new : Option (List ℕ)) → WritesFront accepted count saw old new before → WritesFront accepted count saw old new after
+    front_later count saw old new w = record {
       first = w.first;
       begins = λ j. elim (cases_eq j instance) [
         | inl same ↦ subst (λ (k : ℕ). Begins (w.first k) (after k)) (sym same) ((w.begins instance).0 ++ mark ∷ [], sym (append_assoc (w.first instance) (w.begins instance).0 (mark ∷ [])) ∙ (ap (λ (l : List Mark). l ++ mark ∷ []) (w.begins instance).1 ∙ sym adds.here))
         | inr differ ↦ subst (Begins (w.first j)) (sym (adds.others j differ)) (w.begins j)
       ];
       out = w.out;
+      notes = w.notes;
       prompts = w.prompts;
       front = w.front;
+      seen = w.seen;
     }
 
-    pub stopped_again : (merge : Merge) (cause : Option ListStop) (stops more : ℕ) (old new : Option (List ℕ)) (failed_old failed_new : ℕ) → IsSome cause → more ≢ 0 → Writes accepted merge cause stops old new failed_old failed_new before
-        → Writes accepted merge cause more old new failed_old failed_new after
-    stopped_again merge None stops more old new failed_old failed_new some again w = absurd cc
-    stopped_again merge (Some Write) stops more old new failed_old failed_new some again w = (w.0, w.1, front_later (count_of merge) old new w.2)
-    stopped_again merge (Some NoMemory) stops more old new failed_old failed_new some again w = (again, w.1, front_later (count_of merge) old new w.2)
+    pub stopped_again : (merge : Merge) (cause : Option ListStop) (stops more : ℕ) (saw : List Entry → Type 0) (old new : Option (List ℕ)) (failed_old failed_new : ℕ) → IsSome cause → more ≢ 0 → Writes accepted merge cause stops saw old new failed_old failed_new before
+        → Writes accepted merge cause more saw old new failed_old failed_new after
+    stopped_again merge None stops more saw old new failed_old failed_new some again w = absurd cc
+    stopped_again merge (Some Write) stops more saw old new failed_old failed_new some again w = (w.0, w.1, front_later (count_of merge) saw old new w.2)
+    stopped_again merge (Some NoMemory) stops more saw old new failed_old failed_new some again w = (again, w.1, front_later (count_of merge) saw old new w.2)
 
     -- binary data is wanted
-    data_on : (binary : Option (ℕ × ℕ)) → IsSome binary → (merge : Merge) (old mid new : Option (List ℕ)) → WritesAll accepted binary merge old mid before → Appends mid new (wanted_by binary instance mark) → WritesAll accepted binary merge old new after
-    data_on None some merge old mid new had more = absurd cc
-    data_on (Some wanted) some merge old mid new had more =
-        appends_on old mid new (bytes_in wanted.1 (before wanted.0)) (wanted_of wanted instance mark) (bytes_in wanted.1 (after wanted.0)) had more (sym (bytes_after wanted before after instance mark adds))
+    data_on : (binary : Option (ℕ × ℕ)) → IsSome binary → (merge : Merge) (saw : List Entry → Type 0) (old mid new : Option (List ℕ)) → WritesAll accepted binary merge saw old mid before → Appends mid new (wanted_by binary instance mark) → WritesAll accepted binary merge saw old new after
+    data_on None some merge saw old mid new had more = absurd cc
+    data_on (Some wanted) some merge saw old mid new had more = (
+      appends_on old mid new (bytes_in wanted.1 (before wanted.0)) (wanted_of wanted instance mark) (bytes_in wanted.1 (after wanted.0)) had.0 more (sym (bytes_after wanted before after instance mark adds)),
+      had.1,
+    )
 
-    data_front : (binary : Option (ℕ × ℕ)) → IsSome binary → accepted.binary ≡ binary → (merge : Merge) (old mid new : Option (List ℕ)) → WritesAll accepted binary merge old mid before → AppendsFront mid new (wanted_by binary instance mark)
-        → WritesFrontOf accepted (count_of merge) old new after
-    data_front None some is merge old mid new had more = absurd cc
-    data_front (Some wanted) some is merge old mid new had more = record {
-      out = bytes_in wanted.1 (after wanted.0);
-      prompts = subst (λ b. Prompts accepted b (count_of merge) after (bytes_in wanted.1 (after wanted.0))) (sym is) refl;
-      front = subst (AppendsFront old new) (sym (bytes_after wanted before after instance mark adds)) (front_on old mid new (bytes_in wanted.1 (before wanted.0)) (wanted_of wanted instance mark) had more);
-    }
+    data_front : (binary : Option (ℕ × ℕ)) → IsSome binary → accepted.binary ≡ binary → (merge : Merge) (saw : List Entry → Type 0) (old mid new : Option (List ℕ)) → WritesAll accepted binary merge saw old mid before → AppendsFront mid new (wanted_by binary instance mark)
+        → WritesFrontOf accepted (count_of merge) saw old new after
+    data_front None some is merge saw old mid new had more = absurd cc
+    data_front (Some wanted) some is merge saw old mid new had more =
+        let front : AppendsFront old new (bytes_in wanted.1 (after wanted.0)) = subst (AppendsFront old new) (sym (bytes_after wanted before after instance mark adds)) (front_on old mid new (bytes_in wanted.1 (before wanted.0)) (wanted_of wanted instance mark) had.0 more) in
+        record {
+          out = bytes_in wanted.1 (after wanted.0);
+          notes = [];
+          prompts = subst (λ b. Prompts accepted b (count_of merge) after (bytes_in wanted.1 (after wanted.0)) []) (sym is) (refl, refl);
+          front = front;
+          seen = saw_none accepted saw old new (bytes_in wanted.1 (after wanted.0)) front had.1;
+        }
 
     -- notes are listed
-    lines_append : (xs ys : List Entry) → shown_lines accepted (xs ++ ys) ≡ shown_lines accepted xs ++ shown_lines accepted ys
-    lines_append xs ys = flat_map-append (shown_line accepted) xs ys
-
-    lines_on : (merge mid_merge last : Merge) (old mid new : Option (List ℕ)) (done : Unit {0}) → WritesLines accepted merge old mid before → Takes merge mid_merge instance mark
-        → ((marks : ℕ → List Mark) (given : List Entry) → Stands mid_merge marks given → ListsReady accepted last mid new marks given (Ok done)) → WritesLines accepted last old new after
-    lines_on merge mid_merge last old mid new done w takes lists =
+    lines_on : (merge mid_merge last : Merge) (saw_mid saw : List Entry → Type 0) (old mid new : Option (List ℕ)) (done : Unit {0}) → WritesLines accepted merge saw_mid old mid before → Takes merge mid_merge instance mark
+        → ((marks : ℕ → List Mark) (given : List Entry) → Stands mid_merge marks given → ListsReady accepted last saw_mid saw mid new marks given (Ok done)) → WritesLines accepted last saw old new after
+    lines_on merge mid_merge last saw_mid saw old mid new done w takes lists =
         let r = lists after w.given (takes before after w.given w.stands (as_pushed before after instance mark adds)) in
         record {
           given = w.given ++ r.0.more;
           stands = r.0.stands;
           prompt = r.1;
-          lines = appends_on old mid new (shown_lines accepted w.given) (shown_lines accepted r.0.more) (shown_lines accepted (w.given ++ r.0.more)) w.lines r.0.lines (sym (lines_append w.given r.0.more));
+          lines = listed_more accepted old mid new w.given r.0.more w.lines r.0.lines;
+          seen = subst saw (sym (entries_append accepted w.given r.0.more)) (r.0.sees (shown_entries accepted w.given) w.seen);
         }
 
     module _ (is : accepted.binary ≡ None) where
-      front_of : (count : ℕ) (old new : Option (List ℕ)) (given : List Entry) (s : Settles count after given) → AppendsFront old new (shown_lines accepted given) → WritesFrontOf accepted count old new after
-      front_of count old new given s front = record {
-        out = shown_lines accepted (given ++ s.more);
-        prompts = subst (λ b. Prompts accepted b count after (shown_lines accepted (given ++ s.more))) (sym is) (record {
-          given = given ++ s.more;
-          held = s.held;
-          merges = s.merges;
-          prompt = s.prompt;
-          lines = refl;
-        });
-        front = subst (AppendsFront old new) (sym (lines_append given s.more)) (front_longer old new (shown_lines accepted given) (shown_lines accepted s.more) front);
-      }
+      front_of : (count : ℕ) (saw : List Entry → Type 0) (old new : Option (List ℕ)) (given : List Entry) (s : Settles count after given) → Shown accepted saw old new given → WritesFrontOf accepted count saw old new after
+      front_of count saw old new given s shown =
+          let longer = shown_longer accepted saw old new given s.more shown in
+          record {
+            out = shown_lines accepted (given ++ s.more);
+            notes = shown_entries accepted (given ++ s.more);
+            prompts = subst (λ b. Prompts accepted b count after (shown_lines accepted (given ++ s.more)) (shown_entries accepted (given ++ s.more))) (sym is) (record {
+              given = given ++ s.more;
+              held = s.held;
+              merges = s.merges;
+              prompt = s.prompt;
+              lines = refl;
+              shown = refl;
+            });
+            front = shown_front accepted saw old new (given ++ s.more) longer;
+            seen = shown_saw accepted saw old new (given ++ s.more) longer;
+          }
 
-      lines_front : (merge mid_merge last : Merge) (old mid new : Option (List ℕ)) (failed : Failed) → WritesLines accepted merge old mid before → Takes merge mid_merge instance mark
-          → ((marks : ℕ → List Mark) (given : List Entry) → Stands mid_merge marks given → ListsReady accepted last mid new marks given (Err failed)) → WritesFrontOf accepted (count_of last) old new after
-      lines_front merge mid_merge last old mid new failed w takes lists =
+      lines_front : (merge mid_merge last : Merge) (saw_mid saw : List Entry → Type 0) (old mid new : Option (List ℕ)) (why : ListStop) → WritesLines accepted merge saw_mid old mid before → Takes merge mid_merge instance mark
+          → ((marks : ℕ → List Mark) (given : List Entry) → Stands mid_merge marks given → ListsReady accepted last saw_mid saw mid new marks given (Err why)) → WritesFrontOf accepted (count_of last) saw old new after
+      lines_front merge mid_merge last saw_mid saw old mid new why w takes lists =
           let r = lists after w.given (takes before after w.given w.stands (as_pushed before after instance mark adds)) in
-          front_of (count_of last) old new (w.given ++ r.more) (settles (count_of last) after (w.given ++ r.more) (held_in last) r.stands.merges)
-          (subst (AppendsFront old new) (sym (lines_append w.given r.more)) (front_on old mid new (shown_lines accepted w.given) (shown_lines accepted r.more) w.lines r.front))
+          front_of (count_of last) saw old new (w.given ++ r.more) (settles (count_of last) after (w.given ++ r.more) (held_in last) r.stands.merges)
+          (shown_behind accepted saw saw_mid old mid new w.given r.more w.lines w.seen r.front)
 
-      lines_cut : (merge last : Merge) (old new : Option (List ℕ)) → instance < count_of last → WritesLines accepted merge old new before → StandsStill merge last → WritesFrontOf accepted (count_of last) old new after
-      lines_cut merge last old new within w still =
-          front_of (count_of last) old new w.given (one_more (count_of last) before after w.given (held_in last) instance mark within (still before w.given w.stands).merges (as_pushed before after instance mark adds))
-          (front_whole old new (shown_lines accepted w.given) w.lines)
+      lines_cut : (merge last : Merge) (saw : List Entry → Type 0) (old new : Option (List ℕ)) → instance < count_of last → WritesLines accepted merge saw old new before → StandsStill merge last → WritesFrontOf accepted (count_of last) saw old new after
+      lines_cut merge last saw old new within w still =
+          front_of (count_of last) saw old new w.given (one_more (count_of last) before after w.given (held_in last) instance mark within (still before w.given w.stands).merges (as_pushed before after instance mark adds))
+          (shown_whole accepted saw old new w.given w.lines w.seen)
 
     -- nothing is written of it
-    pub cut_first : (binary : Option (ℕ × ℕ)) → accepted.binary ≡ binary → (merge : Merge) (old new : Option (List ℕ)) → instance < count_of merge → WritesAll accepted binary merge old new before → WritesFrontOf accepted (count_of merge) old new after
-    cut_first None is merge old new within w = lines_cut is merge merge old new within w (λ marks given s. s)
-    cut_first (Some wanted) is merge old new within w = data_front (Some wanted) refl is merge old new new w (nothing_front new (wanted_of wanted instance mark))
+    pub cut_first : (binary : Option (ℕ × ℕ)) → accepted.binary ≡ binary → (merge : Merge) (saw : List Entry → Type 0) (old new : Option (List ℕ)) → instance < count_of merge → WritesAll accepted binary merge saw old new before → WritesFrontOf accepted (count_of merge) saw old new after
+    cut_first None is merge saw old new within w = lines_cut is merge merge saw old new within w (λ marks given s. s)
+    cut_first (Some wanted) is merge saw old new within w = data_front (Some wanted) refl is merge saw old new new w (nothing_front new (wanted_of wanted instance mark))
 
-    -- what was written before, and how often the sink had failed
-    module _ (merge : Merge) (cause : Option ListStop) (stops : ℕ) (old mid new : Option (List ℕ)) (failed_old failed_mid failed_new : ℕ) (never : cause ≡ None) (w : Writes accepted merge cause stops old mid failed_old failed_mid before) where
-      had : (stops ≡ 0) × (failed_mid ≡ failed_old) × WritesAll accepted accepted.binary merge old mid before
-      had = never_stopped merge cause stops old mid failed_old failed_mid before never w
+    -- what was written and seen before, and how often the sink had failed
+    module _ (merge : Merge) (cause : Option ListStop) (stops : ℕ) (saw_mid saw : List Entry → Type 0) (old mid new : Option (List ℕ)) (failed_old failed_mid failed_new : ℕ) (never : cause ≡ None) (w : Writes accepted merge cause stops saw_mid old mid failed_old failed_mid before) where
+      had : (stops ≡ 0) × (failed_mid ≡ failed_old) × WritesAll accepted accepted.binary merge saw_mid old mid before
+      had = never_stopped merge cause stops saw_mid old mid failed_old failed_mid before never w
 
       -- all of it
-      goes_well : (last : Merge) → failed_new ≡ failed_mid → WritesAll accepted accepted.binary last old new after → Writes accepted last cause stops old new failed_old failed_new after
-      goes_well last kept all = subst (λ c. Writes accepted last c stops old new failed_old failed_new after) (sym never) (had.0, kept ∙ had.1, all)
+      goes_well : (last : Merge) (saw_now : List Entry → Type 0) → failed_new ≡ failed_mid → WritesAll accepted accepted.binary last saw_now old new after → Writes accepted last cause stops saw_now old new failed_old failed_new after
+      goes_well last saw_now kept all = subst (λ c. Writes accepted last c stops saw_now old new failed_old failed_new after) (sym never) (had.0, kept ∙ had.1, all)
 
-      -- a write failed
-      fails : (last : Merge) (now : Option ListStop) (more : ℕ) → now ≡ Some Write → more ≢ 0 → failed_mid ≤ failed_new → Rose failed_mid failed_new → WritesFrontOf accepted (count_of last) old new after
-          → Writes accepted last now more old new failed_old failed_new after × WritesFrontOf accepted (count_of last) old new after
-      fails last now more is some later rose front = (
-        subst (λ c. Writes accepted last c more old new failed_old failed_new after) (sym is)
-            (omega (arith, had.1, later), subst (λ (n : ℕ). Rose n failed_new) had.1 rose, stopped_now (count_of last) old new after front),
-        front,
-      )
+      -- it was stopped for this cause
+      stopped_for : (last : Merge) (saw_now : List Entry → Type 0) (why : ListStop) (more : ℕ) → more ≢ 0 → StopCause why failed_mid failed_new → WritesFrontOf accepted (count_of last) saw_now old new after → Writes accepted last (Some why) more saw_now old new failed_old failed_new after
+      stopped_for last saw_now Write more again cause front = (omega (arith, had.1, cause.0), subst (λ (n : ℕ). Rose n failed_new) had.1 cause.1, stopped_now (count_of last) saw_now old new after front)
+      stopped_for last saw_now NoMemory more again cause front = (again, cause ∙ had.1, stopped_now (count_of last) saw_now old new after front)
 
-      pub data_writes : IsSome accepted.binary → failed_new ≡ failed_mid → Appends mid new (wanted_by accepted.binary instance mark) → Writes accepted merge cause stops old new failed_old failed_new after
-      data_writes some kept more = goes_well merge kept (data_on accepted.binary some merge old mid new had.2 more)
+      fails : (last : Merge) (saw_now : List Entry → Type 0) (why : ListStop) (now : Option ListStop) (more : ℕ) → now ≡ Some why → more ≢ 0 → StopCause why failed_mid failed_new → WritesFrontOf accepted (count_of last) saw_now old new after
+          → Writes accepted last now more saw_now old new failed_old failed_new after × WritesFrontOf accepted (count_of last) saw_now old new after
+      fails last saw_now why now more is again cause front = (subst (λ c. Writes accepted last c more saw_now old new failed_old failed_new after) (sym is) (stopped_for last saw_now why more again cause front), front)
+
+      -- of binary data
+      pub data_writes : IsSome accepted.binary → failed_new ≡ failed_mid → Appends mid new (wanted_by accepted.binary instance mark) → Writes accepted merge cause stops saw_mid old new failed_old failed_new after
+      data_writes some kept more = goes_well merge saw_mid kept (data_on accepted.binary some merge saw_mid old mid new had.2 more)
 
       pub data_fails : IsSome accepted.binary → (now : Option ListStop) (more : ℕ) → now ≡ Some Write → more ≢ 0 → failed_mid ≤ failed_new → Rose failed_mid failed_new → AppendsFront mid new (wanted_by accepted.binary instance mark)
-          → Writes accepted merge now more old new failed_old failed_new after × WritesFrontOf accepted (count_of merge) old new after
-      data_fails some now more is again later rose front = fails merge now more is again later rose (data_front accepted.binary some refl merge old mid new had.2 front)
+          → Writes accepted merge now more saw_mid old new failed_old failed_new after × WritesFrontOf accepted (count_of merge) saw_mid old new after
+      data_fails some now more is again later rose front = fails merge saw_mid Write now more is again (later, rose) (data_front accepted.binary some refl merge saw_mid old mid new had.2 front)
 
+      -- of notes
       module _ (notes : accepted.binary ≡ None) (mid_merge last : Merge) where
-        lines : WritesLines accepted merge old mid before
-        lines = subst (λ b. WritesAll accepted b merge old mid before) notes had.2
+        lines : WritesLines accepted merge saw_mid old mid before
+        lines = subst (λ b. WritesAll accepted b merge saw_mid old mid before) notes had.2
 
         pub mark_writes : (done : Unit {0}) → failed_new ≡ failed_mid → Takes merge mid_merge instance mark
-            → ((marks : ℕ → List Mark) (given : List Entry) → Stands mid_merge marks given → ListsReady accepted last mid new marks given (Ok done)) → Writes accepted last cause stops old new failed_old failed_new after
-        mark_writes done kept takes lists = goes_well last kept (subst (λ b. WritesAll accepted b last old new after) (sym notes) (lines_on merge mid_merge last old mid new done lines takes lists))
+            → ((marks : ℕ → List Mark) (given : List Entry) → Stands mid_merge marks given → ListsReady accepted last saw_mid saw mid new marks given (Ok done)) → Writes accepted last cause stops saw old new failed_old failed_new after
+        mark_writes done kept takes lists = goes_well last saw kept (subst (λ b. WritesAll accepted b last saw old new after) (sym notes) (lines_on merge mid_merge last saw_mid saw old mid new done lines takes lists))
 
-        pub mark_fails : (failed : Failed) (now : Option ListStop) (more : ℕ) → now ≡ Some Write → more ≢ 0 → failed_mid ≤ failed_new → Rose failed_mid failed_new → Takes merge mid_merge instance mark
-            → ((marks : ℕ → List Mark) (given : List Entry) → Stands mid_merge marks given → ListsReady accepted last mid new marks given (Err failed)) → Writes accepted last now more old new failed_old failed_new after × WritesFrontOf accepted (count_of last) old new after
-        mark_fails failed now more is again later rose takes lists = fails last now more is again later rose (lines_front notes merge mid_merge last old mid new failed lines takes lists)
+        pub mark_fails : (why : ListStop) (now : Option ListStop) (more : ℕ) → now ≡ Some why → more ≢ 0 → StopCause why failed_mid failed_new → Takes merge mid_merge instance mark
+            → ((marks : ℕ → List Mark) (given : List Entry) → Stands mid_merge marks given → ListsReady accepted last saw_mid saw mid new marks given (Err why)) → Writes accepted last now more saw old new failed_old failed_new after × WritesFrontOf accepted (count_of last) saw old new after
+        mark_fails why now more is again cause takes lists = fails last saw why now more is again cause (lines_front notes merge mid_merge last saw_mid saw old mid new why lines takes lists)
 
     -- there was no memory for it
-    pub mark_cut : (merge : Merge) (cause : Option ListStop) (stops : ℕ) (old new : Option (List ℕ)) (failed_old failed_new : ℕ) → cause ≡ None → Writes accepted merge cause stops old new failed_old failed_new before → accepted.binary ≡ None
-        → (last : Merge) (now : Option ListStop) (more : ℕ) → now ≡ Some NoMemory → more ≢ 0 → instance < count_of last → StandsStill merge last → Writes accepted last now more old new failed_old failed_new after × WritesFrontOf accepted (count_of last) old new after
-    mark_cut merge cause stops old new failed_old failed_new never w notes last now more is again within still =
-        let h = never_stopped merge cause stops old new failed_old failed_new before never w in
-        let front = lines_cut notes merge last old new within (subst (λ b. WritesAll accepted b merge old new before) notes h.2) still in (
-          subst (λ c. Writes accepted last c more old new failed_old failed_new after) (sym is) (again, h.1, stopped_now (count_of last) old new after front),
-          front,
-        )
-
--- more notes that were given
-pub listed_more : (accepted : Accepted) (old mid new : Option (List ℕ)) (more run : List Entry) → Appends old mid (shown_lines accepted more) → Appends mid new (shown_lines accepted run) → Appends old new (shown_lines accepted (more ++ run))
-listed_more accepted old mid new more run had one =
-    appends_on old mid new (shown_lines accepted more) (shown_lines accepted run) (shown_lines accepted (more ++ run)) had one
-    (sym (flat_map-append (shown_line accepted) more run))
-
-pub listed_front : (accepted : Accepted) (old mid new : Option (List ℕ)) (more run : List Entry) → Appends old mid (shown_lines accepted more) → AppendsFront mid new (shown_lines accepted run) → AppendsFront old new (shown_lines accepted (more ++ run))
-listed_front accepted old mid new more run had one =
-    subst (AppendsFront old new) (sym (flat_map-append (shown_line accepted) more run))
-    (front_on old mid new (shown_lines accepted more) (shown_lines accepted run) had one)
-
--- the lines of some notes, and a front of the next one's
-pub front_so_far : (accepted : Accepted) (old mid new : Option (List ℕ)) (es : List Entry) (i : ℕ) (e : Entry) → i < length es → e ≡ get_or es i e → Appends old mid (shown_lines accepted (take i es)) → AppendsFront mid new (shown_line accepted e)
-    → AppendsFront old new (shown_lines accepted es)
-front_so_far accepted old mid new es i e within is had one =
-    subst (λ (l : List Entry). AppendsFront old new (shown_lines accepted l)) (ap (λ (l : List Entry). take i es ++ l) (sym (first_of es i e within is)) ∙ take-append-drop i es)
-    (listed_front accepted old mid new (take i es) (e ∷ drop (i + 1) es) had (front_longer mid new (shown_line accepted e) (shown_lines accepted (drop (i + 1) es)) one))
-
-pub front_of_some : (accepted : Accepted) (old new : Option (List ℕ)) (es : List Entry) (i : ℕ) → Appends old new (shown_lines accepted (take i es)) → AppendsFront old new (shown_lines accepted es)
-front_of_some accepted old new es i had =
-    subst (λ (l : List Entry). AppendsFront old new (shown_lines accepted l)) (take-append-drop i es)
-    (listed_front accepted old new new (take i es) (drop i es) had (nothing_front new (shown_lines accepted (drop i es))))
-
-pub no_entries : (es : List Entry) → length es ≡ 0 → es ≡ []
-no_entries [] none = refl
-no_entries (e ∷ es) none = absurd (omega (arith, none))
+    pub mark_cut : (merge : Merge) (cause : Option ListStop) (stops : ℕ) (saw : List Entry → Type 0) (old new : Option (List ℕ)) (failed_old failed_new : ℕ) (never : cause ≡ None) → Writes accepted merge cause stops saw old new failed_old failed_new before → accepted.binary ≡ None
+        → (last : Merge) (now : Option ListStop) (more : ℕ) → now ≡ Some NoMemory → more ≢ 0 → instance < count_of last → StandsStill merge last → Writes accepted last now more saw old new failed_old failed_new after × WritesFrontOf accepted (count_of last) saw old new after
+    mark_cut merge cause stops saw old new failed_old failed_new never w notes last now more is again within still =
+        let h = never_stopped merge cause stops saw old new failed_old failed_new before never w in
+        fails merge cause stops saw saw old new new failed_old failed_new failed_new never w last saw NoMemory now more is again refl
+        (lines_cut notes merge last saw old new within (subst (λ b. WritesAll accepted b merge saw old new before) notes h.2) still)

@@ -1,5 +1,6 @@
 pub mod Lines
 pub mod Data
 pub mod Prompt
+pub mod Watching
 pub mod Ready
 pub mod Taking

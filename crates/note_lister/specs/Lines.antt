@@ -1,6 +1,6 @@
 -- The lines of notes.
-use Rattle.std.specs.Prelude.{ℕ, if◌then◌else◌, List, [], slice_get, Option, Some, None}
-use Rattle.std.specs.List.{flat_map}
+use Rattle.std.specs.Prelude.{ℕ, if◌then◌else◌, Bool, List, [], slice_get, Option, Some, None}
+use Rattle.std.specs.List.{filter, flat_map}
 use Rattle.la_base.specs.declared.wires.Note.{Note}
 use Rattle.listing_out.specs.NoteLines.{line_as}
 use Rattle.note_order.specs.declared.entry.Entry.{Entry}
@@ -25,3 +25,11 @@ shown_line accepted entry =
 
 abbrev pub shown_lines : Accepted → List Entry → List ℕ
 shown_lines accepted entries = flat_map (shown_line accepted) entries
+
+-- whether the instance of a note is shown
+abbrev pub has_shown : Accepted → Entry → Bool
+has_shown accepted entry = is_shown accepted.shown entry.instance
+
+-- the notes whose instances are shown, in their order
+abbrev pub shown_entries : Accepted → List Entry → List Entry
+shown_entries accepted entries = filter (has_shown accepted) entries

@@ -1,5 +1,5 @@
 //! What takes the marks of a stack of decoders and writes their notes in the order of a listing,
-//! each as soon as it may be given.
+//! each as soon as it may be given, while one that looks on is shown these notes.
 #![tactic(auto)]
 
 mod laws;
@@ -7,7 +7,9 @@ mod lines;
 mod lister;
 mod stop;
 mod take;
+mod watch;
 
 pub use laws::lister_is_send;
 pub use lister::Lister;
 pub use stop::ListStop;
+pub use watch::{Unwatched, Watch};

@@ -10,12 +10,15 @@ use std::snapshot::Snapshot;
 
 /// Takes the marks of the instances of a stack, and writes the line of each note of an instance
 /// that is shown as soon as no later note can come before it, in the order of a listing; or, where
-/// binary data is wanted, its bytes as they come.
+/// binary data is wanted, its bytes as they come. What looks on is shown each of these notes behind
+/// its line, and nothing of binary data.
 #[derive(Drop)]
-pub struct Lister<'a, 'b, K> {
+pub struct Lister<'a, 'b, K, W> {
     pub(crate) stack: &'a Stack,
     /// The sink, to be taken back.
     pub sink: &'b mut K,
+    /// What looks on, to be taken back.
+    pub watch: W,
     pub(crate) merge: Merge,
     pub(crate) line: NoteLine,
     /// Why nothing more is written; none where there was no fault. The next mark is stopped for it.

@@ -12,11 +12,12 @@ ghost use Rattle.note_lister.specs.Data.{wanted_by};
 ghost use Rattle.note_lister.specs.Taking.{Goes, SameOrigin, StaysStopped, StopsFor, Took};
 ghost use Rattle.note_lister.specs.Taking.{cause_of, first_of, first_sink, held_by, instances_of};
 ghost use Rattle.note_lister.specs.Taking.{merges_in};
-ghost use Rattle.note_lister.specs.Taking.{sink_of, stack_of, stops_of};
+ghost use Rattle.note_lister.specs.Taking.{sink_of, stack_of, stops_of, watch_of};
 
 use crate::lines::list_ready;
 use crate::lister::Lister;
 use crate::stop::ListStop;
+use crate::watch::Watch;
 use annot_merge::Merge;
 use la_base::{Mark, NoMemory};
 use la_io::{Failed, MarkTake, Sink, Stopped};
@@ -87,9 +88,11 @@ fn stop_again(stops: &mut u64) -> Result<(), Stopped>
     Err(Stopped)
 }
 
-impl<'a, 'b, K: Sink> Lister<'a, 'b, K> {
-    /// Takes the marks of this stack by this merge, to which nothing was pushed.
-    pub fn over(stack: &'a Stack, merge: Merge, sink: &'b mut K) -> Lister<'a, 'b, K>
+impl<'a, 'b, K: Sink, W: Watch> Lister<'a, 'b, K, W> {
+    /// Takes the marks of this stack by this merge, to which nothing was pushed. What looks on
+    /// has seen nothing.
+    pub fn over(stack: &'a Stack, merge: Merge, sink: &'b mut K, watch: W) -> Lister<'a, 'b, K, W>
+        requires unseen { W.saw watch [] }
         requires stands { Stands merge (λ _. []) [] }
         requires none { held_in merge ≡ [] }
         ensures instances { instances_of result ≡ count_of merge }
@@ -97,14 +100,16 @@ impl<'a, 'b, K: Sink> Lister<'a, 'b, K> {
         ensures first { first_sink result ≡ sink.old }
         ensures now { sink_of result ≡ sink.old }
         ensures same { (first_of result).ghost_name ≡ sink.entry.ghost_name }
+        ensures watch { watch_of result ≡ watch }
         ensures goes { Goes true result }
         ensures never { stops_of result ≡ 0 }
-        ensures took { Took K.written K.faults K.goes_on result (λ _. []) }
+        ensures took { Took K.written K.faults K.goes_on W.saw result (λ _. []) }
     {
         let first = Snapshot::of(&sink);
         Lister {
             stack,
             sink,
+            watch,
             merge,
             line: NoteLine::new(),
             cause: None,
@@ -114,40 +119,17 @@ impl<'a, 'b, K: Sink> Lister<'a, 'b, K> {
         }
     }
 
-    /// Takes the marks of this stack, of which none was taken yet, and writes to this sink.
-    pub fn new(
-        alloc: Global,
-        stack: &'a Stack,
-        sink: &'b mut K,
-    ) -> Result<Lister<'a, 'b, K>, NoMemory>
-        ensures instances { IfOk result
-            (λ lister. instances_of lister ≡ length (instances_in stack.now)) }
-        ensures stack { IfOk result (λ lister. stack_of lister ≡ stack.now) }
-        ensures first { IfOk result (λ lister. first_sink lister ≡ sink.old) }
-        ensures same { IfOk result
-            (λ lister. (first_of lister).ghost_name ≡ sink.entry.ghost_name) }
-        ensures goes { IfOk result (λ lister. Goes true lister) }
-        ensures never { IfOk result (λ lister. stops_of lister ≡ 0) }
-        ensures took { IfOk result
-            (λ lister. Took K.written K.faults K.goes_on lister (λ _. [])) }
-    {
-        match Merge::new(alloc, stack.count()) {
-            Ok(merge) => Ok(Lister::over(stack, merge, sink)),
-            Err(NoMemory) => Err(NoMemory),
-        }
-    }
-
     // Takes a mark where notes are listed.
     #[inline(always)]
     fn take_mark(&mut self, instance: u32, mark: Mark) -> Result<(), Stopped>
         requires within { instance < instances_of self.old }
         requires merges { merges_in self.old ≡ true }
-        ensures adds { TakesMark (Took K.written K.faults K.goes_on self.old)
-            (Took K.written K.faults K.goes_on self.new) instance mark }
+        ensures adds { TakesMark (Took K.written K.faults K.goes_on W.saw self.old)
+            (Took K.written K.faults K.goes_on W.saw self.new) instance mark }
         ensures instances { instances_of self.new ≡ instances_of self.old }
         ensures cause { HasCause (stops_of self.old) (stops_of self.new) result }
         ensures going { Goes true self.old → Goes (is_ok result) self.new }
-        ensures origin { SameOrigin self.old self.new }
+        ensures origin { SameOrigin W.origin self.old self.new }
         ensures why { OnErr result (StopsFor (cause_of self.new)
             (K.faults (sink_of self.old)) (K.faults (sink_of self.new))) }
     {
@@ -156,14 +138,16 @@ impl<'a, 'b, K: Sink> Lister<'a, 'b, K> {
                 if !self.merge.is_ready() {
                     return Ok(());
                 }
-                match list_ready(&mut self.merge, self.stack, &mut self.line, self.sink) {
+                let listed = list_ready(
+                    &mut self.merge,
+                    self.stack,
+                    &mut self.line,
+                    self.sink,
+                    &mut self.watch,
+                );
+                match listed {
                     Ok(()) => Ok(()),
-                    Err(Failed) => stop(
-                        &mut self.cause,
-                        &mut self.stops,
-                        &mut self.merges,
-                        ListStop::Write,
-                    ),
+                    Err(why) => stop(&mut self.cause, &mut self.stops, &mut self.merges, why),
                 }
             }
             Err(NoMemory) => stop(
@@ -179,12 +163,12 @@ impl<'a, 'b, K: Sink> Lister<'a, 'b, K> {
     fn take_data(&mut self, instance: u32, mark: Mark) -> Result<(), Stopped>
         requires never { cause_of self.old ≡ None }
         requires wanted { IsSome (stack_meaning (stack_of self.old)).binary }
-        ensures adds { TakesMark (Took K.written K.faults K.goes_on self.old)
-            (Took K.written K.faults K.goes_on self.new) instance mark }
+        ensures adds { TakesMark (Took K.written K.faults K.goes_on W.saw self.old)
+            (Took K.written K.faults K.goes_on W.saw self.new) instance mark }
         ensures instances { instances_of self.new ≡ instances_of self.old }
         ensures cause { HasCause (stops_of self.old) (stops_of self.new) result }
         ensures going { Goes true self.old → Goes (is_ok result) self.new }
-        ensures origin { SameOrigin self.old self.new }
+        ensures origin { SameOrigin W.origin self.old self.new }
         ensures why { OnErr result (StopsFor (cause_of self.new)
             (K.faults (sink_of self.old)) (K.faults (sink_of self.new))) }
     {
@@ -204,12 +188,12 @@ impl<'a, 'b, K: Sink> Lister<'a, 'b, K> {
     fn take_apart(&mut self, instance: u32, mark: Mark) -> Result<(), Stopped>
         requires within { instance < instances_of self.old }
         requires apart { merges_in self.old ≡ false }
-        ensures adds { TakesMark (Took K.written K.faults K.goes_on self.old)
-            (Took K.written K.faults K.goes_on self.new) instance mark }
+        ensures adds { TakesMark (Took K.written K.faults K.goes_on W.saw self.old)
+            (Took K.written K.faults K.goes_on W.saw self.new) instance mark }
         ensures instances { instances_of self.new ≡ instances_of self.old }
         ensures cause { HasCause (stops_of self.old) (stops_of self.new) result }
         ensures going { Goes true self.old → Goes (is_ok result) self.new }
-        ensures origin { SameOrigin self.old self.new }
+        ensures origin { SameOrigin W.origin self.old self.new }
         ensures why { cause_of self.old ≡ None → OnErr result (StopsFor (cause_of self.new)
             (K.faults (sink_of self.old)) (K.faults (sink_of self.new))) }
         ensures behind { IsSome (cause_of self.old) → StaysStopped self.old self.new result }
@@ -235,32 +219,61 @@ impl<'a, 'b, K: Sink> Lister<'a, 'b, K> {
     }
 }
 
-impl<'a, 'b, K: Sink> MarkTake for Lister<'a, 'b, K> {
-    ghost use Rattle.note_lister.specs.Taking.{Goes, Took, instances_of};
+impl<'a, 'b, K: Sink, W: Watch + Drop> Lister<'a, 'b, K, W> {
+    /// Takes the marks of this stack, of which none was taken yet, and writes to this sink. What
+    /// looks on has seen nothing. It fails where there is no memory.
+    pub fn new(
+        alloc: Global,
+        stack: &'a Stack,
+        sink: &'b mut K,
+        watch: W,
+    ) -> Result<Lister<'a, 'b, K, W>, NoMemory>
+        requires { W.saw watch [] }
+        ensures instances { IfOk result
+            (λ lister. instances_of lister ≡ length (instances_in stack.now)) }
+        ensures stack { IfOk result (λ lister. stack_of lister ≡ stack.now) }
+        ensures first { IfOk result (λ lister. first_sink lister ≡ sink.old) }
+        ensures same { IfOk result
+            (λ lister. (first_of lister).ghost_name ≡ sink.entry.ghost_name) }
+        ensures watch { IfOk result (λ lister. watch_of lister ≡ watch) }
+        ensures goes { IfOk result (λ lister. Goes true lister) }
+        ensures never { IfOk result (λ lister. stops_of lister ≡ 0) }
+        ensures took { IfOk result
+            (λ lister. Took K.written K.faults K.goes_on W.saw lister (λ _. [])) }
+    {
+        match Merge::new(alloc, stack.count()) {
+            Ok(merge) => Ok(Lister::over(stack, merge, sink, watch)),
+            Err(NoMemory) => Err(NoMemory),
+        }
+    }
+}
 
-    type Origin = (&'a Stack, Snapshot<&'b mut K>);
+impl<'a, 'b, K: Sink, W: Watch> MarkTake for Lister<'a, 'b, K, W> {
+    ghost use Rattle.note_lister.specs.Taking.{Goes, Took, instances_of, origin_of};
+
+    type Origin = (&'a Stack, Snapshot<&'b mut K>, W::Origin);
 
     ghost instances = { λ lister. instances_of lister };
 
-    ghost took = { λ lister marks. Took K.written K.faults K.goes_on lister marks };
+    ghost took = { λ lister marks. Took K.written K.faults K.goes_on W.saw lister marks };
 
     ghost stops = { λ lister. lister.stops };
 
     ghost going = { λ lister still. Goes still lister };
 
-    ghost origin = { λ lister. (lister.stack, lister.first) };
+    ghost origin = { λ lister. origin_of W.origin lister };
 
     /// Takes the next mark of an instance. Once there is a cause, it stops at each mark, and writes
     /// nothing.
     #[inline(always)]
     fn take(&mut self, instance: u32, mark: Mark) -> Result<(), Stopped>
         requires { instance < instances_of self.old }
-        ensures adds { TakesMark (Took K.written K.faults K.goes_on self.old)
-            (Took K.written K.faults K.goes_on self.new) instance mark }
+        ensures adds { TakesMark (Took K.written K.faults K.goes_on W.saw self.old)
+            (Took K.written K.faults K.goes_on W.saw self.new) instance mark }
         ensures instances { instances_of self.new ≡ instances_of self.old }
         ensures cause { HasCause (stops_of self.old) (stops_of self.new) result }
         ensures going { Goes true self.old → Goes (is_ok result) self.new }
-        ensures origin { SameOrigin self.old self.new }
+        ensures origin { SameOrigin W.origin self.old self.new }
         ensures why { cause_of self.old ≡ None → OnErr result (StopsFor (cause_of self.new)
             (K.faults (sink_of self.old)) (K.faults (sink_of self.new))) }
         ensures behind { IsSome (cause_of self.old) → StaysStopped self.old self.new result }
@@ -272,14 +285,14 @@ impl<'a, 'b, K: Sink> MarkTake for Lister<'a, 'b, K> {
         }
     }
 
-    /// Has the sink hand on what it keeps back. Where the sink fails, the next mark is stopped for
-    /// it.
+    /// Has the sink hand on what it keeps back, and then what looks on. Where the sink fails, the
+    /// next mark is stopped for it.
     fn pause(&mut self) {
         if self.cause.is_some() {
             return;
         }
         match self.sink.hand_on() {
-            Ok(()) => {}
+            Ok(()) => self.watch.pause(),
             Err(Failed) => {
                 self.cause = Some(ListStop::Write);
                 self.merges = false;

@@ -90,7 +90,6 @@ impl Stack {
 
     /// Whether an instance is shown.
     pub fn shown(&self, instance: u32) -> bool
-        requires { instance < length (instances_in self.now) }
         ensures { result ≡ is_shown (stack_meaning self.now).shown instance }
     {
         match &self.shown {

@@ -34,7 +34,7 @@ returns-clause-lists g c =
     parts_moved m s k c.args.machines.now run.new.machines c.args.parents.now c.args.earlier
     stack_is (ap (λ o. o.0.0.value.now) run.ensures.feed_origin ∙ (ap (λ f. f.first_capture.value.now) limit.ensures.feed ∙ captured.capture)) (ap (λ o. o.0.1.value.now) run.ensures.feed_origin ∙ (ap (λ f. f.first_source.value.now) limit.ensures.feed ∙ captured.source))
     (search rules) (ap (λ o. o.1.value.now) run.ensures.take_origin ∙ lister.ensures.first) (search rules) (sym close.ensures.end) (sym close.ensures.given)
-    (parted m s k c.args.machines.now run.new.machines c.args.parents.now c.args.earlier limit.result feed lister.result run.new.take run.result runs gave took run.ensures.at_end (run.ensures.going lister.ensures.goes) most few c.machines_are_a_tree.ensures tree wanted)
+    (parted m s k g.W.Watch.saw c.args.machines.now run.new.machines c.args.parents.now c.args.earlier limit.result feed lister.result run.new.take run.result runs gave took run.ensures.at_end (run.ensures.going lister.ensures.goes) most few c.machines_are_a_tree.ensures tree wanted)
 
 pub returns-clause-goes_on : goal.returns-clause-goes_on
 returns-clause-goes_on g c =
