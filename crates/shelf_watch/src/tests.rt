@@ -1,0 +1,187 @@
+ghost use Rattle.std.specs.Prelude.{◌≡◌, ◌≤◌, IfOk, length};
+ghost use Rattle.std.specs.String.{string_bytes};
+ghost use Rattle.stack_spec.specs.Stacks.{instances_in};
+ghost use Rattle.view_store.specs.Listings.{nothing};
+ghost use Rattle.view_store.specs.Views.{pending, published};
+
+use crate::ShelfWatch;
+use la_base::{Mark, NoMemory, Note};
+use la_io::{MarkTake, MemSink};
+use note_lister::{ListStop, Lister, Watch};
+use note_order::Entry;
+use stack_spec::{ChainWord, Stack, read_stack};
+use std::alloc::Global;
+use std::sync::Wait;
+use std::test::Fail;
+use view_store::{Answer, ViewReader, ViewWriter, shelf};
+
+// The note of a byte on a serial line.
+fn byte(start: u64, a: u64) -> Note {
+    Note {
+        class: 1,
+        start,
+        end: start.saturating_add(9),
+        a,
+        b: 0,
+    }
+}
+
+// Shows so many notes.
+fn show<W: Watch>(watch: &mut W, count: u64) -> Result<(), NoMemory> {
+    for start in 0..count {
+        let entry = Entry {
+            instance: 0,
+            note: byte(start, 65),
+        };
+        watch.see(&entry)?;
+    }
+    Ok(())
+}
+
+// What a reader is answered behind 1,024 notes, one more, a pause, and the end.
+fn counts<R: Wait>(
+    rt: &R,
+    writer: &mut ViewWriter,
+    mut reader: ViewReader,
+) -> Result<[Answer; 4], NoMemory>
+    requires pending { pending writer.old ≡ nothing }
+    requires published { published writer.old ≡ nothing }
+{
+    let mut watch = ShelfWatch::new(rt, writer);
+    show(&mut watch, 1024)?;
+    let many = reader.ask(rt, 0, u64::MAX)?;
+    show(&mut watch, 1)?;
+    let more = reader.ask(rt, 0, u64::MAX)?;
+    watch.pause();
+    let all = reader.ask(rt, 0, u64::MAX)?;
+    let (_, ended) = watch.finish();
+    ended?;
+    Ok([many, more, all, reader.ask(rt, 0, u64::MAX)?])
+}
+
+#[test]
+fn many_notes_are_published_at_once(rt: HostRuntime) -> Result<(), Fail> {
+    let (mut writer, mut readers) = shelf(&rt, rt.alloc(), 1)?;
+    let counted = match readers.pop() {
+        Some(reader) => counts(&rt, &mut writer, reader),
+        None => Err(NoMemory),
+    };
+    writer.close(&rt);
+    let [many, more, all, ended] = counted?;
+    assert_eq!(rt; (many.seen, many.ended), (0, false));
+    assert_eq!(rt; (more.seen, more.ended), (1024, false));
+    assert_eq!(rt; (all.seen, all.ended), (1025, false));
+    assert_eq!(rt; (ended.seen, ended.ended), (1025, true));
+    Ok(())
+}
+
+fn word(alloc: Global, word: u32, text: &str) -> Result<ChainWord, Fail>
+    ensures { IfOk result (λ chain. length (string_bytes chain.text) ≤ 4096) }
+{
+    if text.len() > 4096 {
+        return Err("a text is too long".into());
+    }
+    let text = String::from_str(alloc, text)?;
+    Ok(ChainWord { word, text })
+}
+
+// The stack of two serial lines, of which the second is shown.
+fn two_lines(alloc: Global) -> Result<Stack, Fail> {
+    let first = word(alloc, 0, "uart:rx=D0")?;
+    let second = word(alloc, 1, "uart:rx=D1")?;
+    let show = word(alloc, 2, "uart-2")?;
+    let chains = [first, second];
+    match read_stack(alloc, &chains, Some(&show), None) {
+        Ok(stack) => Ok(stack),
+        Err(_) => Err("no stack".into()),
+    }
+}
+
+// Ends a shelf behind a listing that was stopped for this cause, if it was.
+fn end<R: Wait>(mut watch: ShelfWatch<R>, cause: Option<ListStop>) -> Result<(), NoMemory> {
+    if cause.is_some() {
+        watch.pause();
+        return Ok(());
+    }
+    let (_, ended) = watch.finish();
+    ended
+}
+
+// Lists notes of both lines beside a shelf, and answers why it was stopped, if it was.
+fn list<R: Wait>(
+    rt: &R,
+    alloc: Global,
+    stack: &Stack,
+    sink: &mut MemSink,
+    writer: &mut ViewWriter,
+) -> Result<Option<ListStop>, NoMemory>
+    requires two { length (instances_in stack.now) ≡ 2 }
+    requires pending { pending writer.old ≡ nothing }
+    requires published { published writer.old ≡ nothing }
+{
+    let mut lister = Lister::new(alloc, stack, sink, ShelfWatch::new(rt, writer))?;
+    let _ = lister.take(1, Mark::Note(byte(5, 65)));
+    let _ = lister.take(0, Mark::Note(byte(7, 65)));
+    let _ = lister.take(1, Mark::Note(byte(30, 65)));
+    let _ = lister.take(0, Mark::End);
+    let _ = lister.take(1, Mark::End);
+    let Lister { watch, cause, .. } = lister;
+    end(watch, cause)?;
+    Ok(cause)
+}
+
+// The same, and what a reader is answered behind it.
+fn list_and_ask<R: Wait>(
+    rt: &R,
+    alloc: Global,
+    stack: &Stack,
+    sink: &mut MemSink,
+    writer: &mut ViewWriter,
+    mut reader: ViewReader,
+) -> Result<(Option<ListStop>, Answer), NoMemory>
+    requires two { length (instances_in stack.now) ≡ 2 }
+    requires pending { pending writer.old ≡ nothing }
+    requires published { published writer.old ≡ nothing }
+{
+    let cause = list(rt, alloc, stack, sink, writer)?;
+    Ok((cause, reader.ask(rt, 0, u64::MAX)?))
+}
+
+// The same over a new shelf.
+fn listed<R: Wait>(
+    rt: &R,
+    alloc: Global,
+    stack: &Stack,
+    sink: &mut MemSink,
+) -> Result<(Option<ListStop>, Answer), NoMemory>
+    requires { length (instances_in stack.now) ≡ 2 }
+{
+    let (mut writer, mut readers) = shelf(rt, alloc, 1)?;
+    let came = match readers.pop() {
+        Some(reader) => list_and_ask(rt, alloc, stack, sink, &mut writer, reader),
+        None => Err(NoMemory),
+    };
+    writer.close(rt);
+    came
+}
+
+// A sink that takes 4 bytes at once and fails in its call of this number.
+#[test]
+fn a_note_is_seen_behind_its_line(rt: HostRuntime) -> Result<(), Fail> {
+    let alloc = rt.alloc();
+    let stack = two_lines(alloc)?;
+    assert!(rt; stack.count() == 2);
+    for (failed, bytes, seen) in [(100u64, 33usize, 2u64), (5, 20, 1), (3, 12, 0)] {
+        let mut fails = Vec::new(alloc);
+        fails.push(failed)?;
+        let mut sink = MemSink::new(alloc, 4, fails, 100).expect(&rt, "memory");
+        let (cause, answer) = listed(&rt, alloc, &stack, &mut sink)?;
+        assert_eq!(rt;
+            (cause.is_none(), answer.ended),
+            (failed == 100, failed == 100)
+        );
+        assert_eq!(rt; answer.seen, seen);
+        assert_eq!(rt; sink.written().len(), bytes);
+    }
+    Ok(())
+}
