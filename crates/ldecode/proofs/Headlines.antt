@@ -18,10 +18,13 @@ use Rattle.check_point.specs.declared.faults.CheckFault.{CheckFault}
 use Rattle.la_io.specs.declared.fault.CaptureFault.TheVariants.{Past}
 use Rattle.stack_spec.specs.Binding as binding
 use Rattle.ldecode.specs.Asking.{CanBind, CannotBind, CheckRefused, EndsAs, GoesPast, HasFault, HasStack, HasStackFault, HeadIs, IsFormOf, IsJudged, NamesNoHead}
-use Rattle.ldecode.specs.Headline.{DidFail, Does, Good, Headline, IsMade, Makes, Notified, OrNoMemory, Parted, Runs, SinkCause, SourceCause, Stream, Tells, WhereUnread, Worked, Works}
+use Rattle.ldecode.specs.Headline.{DidFail, Does, Good, IsLine, IsMade, Makes, Notified, OrNoMemory, Parted, Promises, Runs, Saw, SinkCause, SourceCause, Stream, Tells, WhereUnread, Worked, Works}
 use Rattle.ldecode.specs.declared.status.Status.{Status}
 use Rattle.ldecode.specs.declared.status.Status.TheVariants.{Bind, Capture, Check, Done, NoMemory, ReadFault, Stack, Words, WriteFault}
+use Rattle.ldecode.specs.Notices.{line_of, notice_of}
 use Rattle.ldecode.specs.Parting.{Saves, most_samples}
+use Rattle.ldecode.specs.Watching.{RunsShelved, WatchedHeadline}
+use Rattle.view_store.specs.Listings.{Listing}
 use Rattle.ldecode.proofs.Exact.{bound_judged, refused_judged, bad_or_can, bad_or_cannot, bad_or_check, can_or_cannot, can_or_check, can_or_stack, cannot_or_stack, check_or_cannot, check_or_stack, head_or_stack, one_bad, one_check, one_ending, one_refusal, one_stack_fault, past_can, unread_or_cannot, unread_or_check, within_or_past}
 use Rattle.ldecode.proofs.Running.{of_these}
 
@@ -355,8 +358,8 @@ module _ (saves : Saves) (words : List Text) (source sink notices : Stream) (sam
       exactly (λ values. EndsAs saves values left AtEnd Clean) Done
       (λ values w e. works_complete saves values runs.bytes over.0 runs.told over.2 sink.old sink.new source sink no_read no_write status w read write (subst (λ (l : List ℕ). EndsAs saves values l AtEnd Clean) over.1 e)) (λ values e made. ends_not_made saves values left AtEnd Clean e made) g
 
-  pub headline : WhereUnread (Good words NamesNoHead) status same → (Good words IsMade → same) → Notified notices status → Headline saves words source sink notices same status
-  headline unread made_same notified = record {
+  pub promises : (Line : List ℕ → Told → List ℕ → Type 0) → WhereUnread (Good words NamesNoHead) status same → (Good words IsMade → same) → Notified notices (Line runs.bytes runs.told) → Promises saves words source sink notices same status Line
+  promises Line unread made_same notified = record {
     bytes = runs.bytes;
     told = runs.told;
     taken = runs.taken;
@@ -375,3 +378,21 @@ module _ (saves : Saves) (words : List Text) (source sink notices : Stream) (sam
     unread = unread;
     notified = notified;
   }
+
+-- the line that tells what a viewer saw is that of the run
+pub line_told : (words : List Text) (bytes : List ℕ) (told : Told) (status : Status) (seen : Option ℕ) → Saw words bytes told status seen → (notices : Stream) → Notified notices (λ line. line ≡ line_of status seen) → Notified notices (IsLine words bytes told status)
+line_told words bytes told status seen saw notices n = record {
+  line = n.line;
+  is = record { seen = seen; saw = saw; is = n.is };
+  front = n.front;
+  whole = n.whole;
+}
+
+-- the promise of a run onto a new shelf
+pub watched : (saves : Saves) (words : List Text) (source sink notices : Stream) (same : Type 0) (status : Status) (shelf : Listing) (runs : RunsShelved saves words source.old source.new sink.old sink.new shelf status) → SourceCause source.failed_old source.failed_new status → SinkCause sink.failed_old sink.failed_new status
+    → WhereUnread (Good words NamesNoHead) status same → (Good words IsMade → same) → Notified notices (λ line. line ≡ notice_of status) → WatchedHeadline saves words source sink notices same shelf status
+unfolding promises
+watched saves words source sink notices same status shelf runs read write unread made notified = record {
+  run = promises saves words source sink notices same status runs.runs read write (λ (bytes : List ℕ) (told : Told) (line : List ℕ). line ≡ notice_of status) unread made notified;
+  on_shelf = runs.on_shelf;
+}

@@ -13,3 +13,6 @@ mod Counting
 mod Tallying
 mod Opened
 mod PartTold
+mod Decoding
+mod Shelving
+mod Viewing

@@ -1,13 +1,10 @@
--- What comes of a decoding, told of a copy of its parents, and of the decoding of a part.
+-- What comes of the decoding of a part.
 use Rattle.std.proofs.Common.{◌≡◌, ◌<◌, ◌++◌, ℕ, List, [], map, length, arith, Option, Some, None, Ok, sym, ap, subst, ◌∙◌, Bor, String, Global}
 use Rattle.std.specs.Prelude.{option_map}
 use Rattle.std.specs.Option.{option_copied}
 use Rattle.std.specs.String.{string_bytes}
 use Rattle.std.proofs.Math.Path.{transport}
-use Rattle.std.specs.Io.KnownBytes.{Appends}
-use Rattle.la_io.specs.Causes.{AppendsFront}
 use Rattle.capture_any.specs.Captures.{IsForm}
-use Rattle.capture_any.specs.Listings.{Lists}
 use Rattle.capture_any.specs.Reading.{Opens, form_of, names_of, pins_of, rate_of}
 use Rattle.capture_any.specs.declared.capture.Capture.{Capture}
 use Rattle.capture_any.specs.declared.end.ListingEnd.{ListingEnd}
@@ -24,11 +21,11 @@ use Rattle.tree_runs.specs.Machines.{Stand}
 use Rattle.tree_runs.specs.Runs.{StandOn, nodes_of}
 use Rattle.stack_spec.specs.Accepting.{Accepted}
 use Rattle.stack_spec.specs.Stacks.{stack_meaning}
-use Rattle.decode_job.specs.Listing.{tree_output, tree_output_behind}
+use Rattle.decode_job.specs.Listing.{tree_output_behind}
 use Rattle.decode_job.specs.Parting.{Behind, CutsCheck, PartLists as JobLists, WritesAll as JobAll, WritesCheck, WritesFront as JobFront, WritesUpTo, output_behind}
 use Rattle.decode_job.specs.declared.part_end.PartEnd.{PartEnd}
 use Rattle.words.specs.Settings.{Values}
-use Rattle.words.specs.declared.kinds.Job.TheVariants.{Decode, Part}
+use Rattle.words.specs.declared.kinds.Job.TheVariants.{Part}
 use Rattle.ldecode.specs.Asking.{AsksStack, IsFormOf, IsJudged, StackBound, setups_in}
 use Rattle.ldecode.specs.Headline.{WorksOn}
 use Rattle.ldecode.specs.Notices.{end_of_part, status_of}
@@ -41,17 +38,6 @@ use Rattle.ldecode.proofs.Begun.{begun_behind, begun_few, begun_setups, parents_
 use Rattle.ldecode.proofs.PartTold.{part_ended, part_wrote}
 use Rattle.ldecode.proofs.Working.{checking_fails, part_ends}
 use Rattle.std.proofs.lemmas.List.{length-map}
-
-module _ (saves : Saves) (values : Values) (job : values.job ≡ Decode) (left_old left_now left_new old new : Option (List ℕ)) (opened : Opened) (is : IsOpened saves values left_old left_now opened) where
-  abbrev Listed : List (Option ℕ) → ListingEnd → Type 0
-  Listed parents end =
-      Lists (form_of opened.capture) (pins_of opened.capture)
-      (λ samples. Appends old new (tree_output outs_of (stack_meaning opened.stack) (nodes_of (map setup_of opened.machines.items) parents) samples))
-      (λ samples. AppendsFront old new (tree_output outs_of (stack_meaning opened.stack) (nodes_of (map setup_of opened.machines.items) parents) samples))
-      is.bytes is.told left_now left_new end
-
-  pub comes_of : (parents : List (Option ℕ)) → parents ≡ opened.parents.items → (end : ListingEnd) → Listed parents end → WorksOn saves values left_old left_new old new (status_of end)
-  comes_of parents same end lists = is.works job left_new old new end (subst (λ (l : List (Option ℕ)). Listed l end) same lists)
 
 -- a part at a capture behind its head, whose decoders have these setups
 module _ (saves : Saves) (values : Values) (form : Form) (named : IsFormOf values form) (judged : IsJudged values) (left_old left_mid old : Option (List ℕ)) (capture : Capture) (opens : Opens form left_old left_mid (Ok capture)) (setups : List Setup) where

@@ -1,26 +1,62 @@
 -- What a whole run says, from what its words and its work say.
-use Rattle.std.proofs.Common.{◌≡◌, ℕ, List, [], Option, Ok, refl, sym, ◌∙◌, subst, inl, inr}
+use Rattle.std.proofs.Common.{◌≡◌, ℕ, true, false, List, [], Option, Some, None, IfSome, Ok, Err, refl, sym, ◌∙◌, ap, subst, inl, inr}
 use Rattle.std.proofs.KnownBytes.{Consumes-nil}
-use Rattle.la_io.specs.Capture.{Cut}
+use Rattle.la_io.specs.Capture.{Told, Cut}
 use Rattle.la_io.specs.Grown.{appends_nothing}
 use Rattle.words.specs.Lexer.{Text}
 use Rattle.words.specs.Settings.{Values, settings_of}
-use Rattle.ldecode.specs.Headline.{Good, IsMade, Runs, Tells, WorksOn}
+use Rattle.words.specs.Given.{fault_in}
+use Rattle.words.specs.declared.kinds.WordsError.{WordsError}
+use Rattle.words.specs.declared.kinds.WordsError.TheVariants as error
+use Rattle.view_store.specs.Listings.{Listing, nothing}
+use Rattle.ldecode.specs.Asking.{NamesNoHead, lists_notes}
+use Rattle.ldecode.specs.Headline.{Does, DoesOn, Good, IsMade, IsWatched, Runs, Saw, Tells, WhereUnread, WorksOn}
 use Rattle.ldecode.specs.Making.{MadeBy}
+use Rattle.ldecode.specs.Notices.{status_at_words}
 use Rattle.ldecode.specs.Parting.{Saves}
+use Rattle.ldecode.specs.Watching.{IsShelved, RunsShelved, RunsViewed, SawOf, ShelvesOn, ViewsOn}
+use Rattle.ldecode.specs.declared.outcome.Outcome.{Outcome}
 use Rattle.ldecode.specs.declared.status.Status.{Status}
 use Rattle.ldecode.specs.declared.status.Status.TheVariants.{Bind, Capture, Check, Done, NoMemory, ReadFault, Stack, Words, WriteFault}
+use Rattle.ldecode.proofs.Shelving.{works_shelved}
+
+-- what work and shelf say of a run
+pub does_work : (saves : Saves) (values : Values) (left_old left_new old new : Option (List ℕ)) (status : Status) → WorksOn saves values left_old left_new old new status → DoesOn saves values left_old left_new old new status
+does_work saves values left_old left_new old new status w = record { bytes = w.bytes; told = w.told; taken = w.taken; at_end = w.at_end; does = inl w.works }
+
+-- of a made capture nothing was read
+pub does_make : (saves : Saves) (values : Values) → IsMade values → (left old new : Option (List ℕ)) (status : Status) → MadeBy values.seed values.count old new status → DoesOn saves values left left old new status
+does_make saves values made left old new status m = record { bytes = []; told = Cut; taken = Consumes-nil left; at_end = λ e. cc; does = inr (record { job = made; none = refl; wrote = m }) }
 
 module _ (saves : Saves) (words : List Text) where
-  -- there was no memory to read the words
-  pub no_words_read : (left old : Option (List ℕ)) → Runs saves words left left old old NoMemory
-  no_words_read left old = record {
-    bytes = [];
-    told = Cut;
-    taken = Consumes-nil left;
-    at_end = λ e. cc;
-    tells = inr (appends_nothing old);
+  -- the words have a fault, or there was no memory to read them
+  words_tell : (why : WordsError) → IfSome (fault_in why) (λ fault. settings_of words ≡ Err fault) → (old : Option (List ℕ)) → Tells saves words [] Cut old old (status_at_words why)
+  words_tell (error.Fault fault) is old = (is, refl, appends_nothing old)
+  words_tell error.NoMemory is old = inr (appends_nothing old)
+
+  words_refused : (why : WordsError) → IfSome (fault_in why) (λ fault. settings_of words ≡ Err fault) → (left old : Option (List ℕ)) → Runs saves words left left old old (status_at_words why)
+  words_refused why is left old = record { bytes = []; told = Cut; taken = Consumes-nil left; at_end = λ e. cc; tells = words_tell why is old }
+
+  not_done : (why : WordsError) → status_at_words why ≡ Done → ⊥
+  not_done (error.Fault fault) is = cc
+  not_done error.NoMemory is = cc
+
+  -- no viewer saw any
+  pub refused_viewed : (why : WordsError) → IfSome (fault_in why) (λ fault. settings_of words ≡ Err fault) → (left old : Option (List ℕ)) (status : Status) → status ≡ status_at_words why → RunsViewed saves words left left old old (record { status = status; seen = None })
+  refused_viewed why is left old status same = record {
+    runs = subst (Runs saves words left left old old) (sym same) (words_refused why is left old);
+    saw = λ done g. not_done why (sym same ∙ done);
   }
+
+  -- and a new shelf has none
+  pub refused_shelved : (why : WordsError) → IfSome (fault_in why) (λ fault. settings_of words ≡ Err fault) → (left old : Option (List ℕ)) (shelf : Listing) → shelf ≡ nothing → (status : Status) → status ≡ status_at_words why → RunsShelved saves words left left old old shelf status
+  unfolding words_refused
+  refused_shelved why is left old shelf none status same =
+      subst (RunsShelved saves words left left old old shelf) (sym same) (record { runs = words_refused why is left old; on_shelf = λ values good lists. none_shelved why is values good })
+    where
+      none_shelved : (why : WordsError) → IfSome (fault_in why) (λ fault. settings_of words ≡ Err fault) → (values : Values) → settings_of words ≡ Ok values → IsShelved values [] Cut old old shelf (status_at_words why)
+      none_shelved (error.Fault fault) is values good = let both = sym is ∙ good in cc
+      none_shelved error.NoMemory is values good = inr (tt, appends_nothing old, none)
 
   module _ (values : Values) (good : settings_of words ≡ Ok values) where
     -- what holds of the values of good words holds of these
@@ -30,30 +66,78 @@ module _ (saves : Saves) (words : List Text) where
         let same : g.0 ≡ values = cc in
         subst P same g.2
 
+    does_tells : (bytes : List ℕ) (told : Told) (old new : Option (List ℕ)) (status : Status) → Does saves values bytes told old new status → Tells saves words bytes told old new status
+    does_tells bytes told old new Done d = (values, good, d)
+    does_tells bytes told old new (Words fault) (inl w) = absurd w
+    does_tells bytes told old new (Words fault) (inr m) = absurd m.wrote
+    does_tells bytes told old new (Stack fault) d = (values, good, d)
+    does_tells bytes told old new (Bind fault) d = (values, good, d)
+    does_tells bytes told old new (Check fault) d = (values, good, d)
+    does_tells bytes told old new ReadFault d = (values, good, d)
+    does_tells bytes told old new (Capture fault) d = (values, good, d)
+    does_tells bytes told old new WriteFault d = (values, good, d)
+    does_tells bytes told old new NoMemory d = inl (values, good, d)
+
     -- what is said of good words is said of these
-    pub runs_on : (left_old left_new old new : Option (List ℕ)) (status : Status) → WorksOn saves values left_old left_new old new status → Runs saves words left_old left_new old new status
-    runs_on left_old left_new old new Done w = record { bytes = w.bytes; told = w.told; taken = w.taken; at_end = w.at_end; tells = (values, good, inl w.works) }
-    runs_on left_old left_new old new (Words fault) w = absurd w.works
-    runs_on left_old left_new old new (Stack fault) w = record { bytes = w.bytes; told = w.told; taken = w.taken; at_end = w.at_end; tells = (values, good, inl w.works) }
-    runs_on left_old left_new old new (Bind fault) w = record { bytes = w.bytes; told = w.told; taken = w.taken; at_end = w.at_end; tells = (values, good, inl w.works) }
-    runs_on left_old left_new old new (Check fault) w = record { bytes = w.bytes; told = w.told; taken = w.taken; at_end = w.at_end; tells = (values, good, inl w.works) }
-    runs_on left_old left_new old new ReadFault w = record { bytes = w.bytes; told = w.told; taken = w.taken; at_end = w.at_end; tells = (values, good, inl w.works) }
-    runs_on left_old left_new old new (Capture fault) w = record { bytes = w.bytes; told = w.told; taken = w.taken; at_end = w.at_end; tells = (values, good, inl w.works) }
-    runs_on left_old left_new old new WriteFault w = record { bytes = w.bytes; told = w.told; taken = w.taken; at_end = w.at_end; tells = (values, good, inl w.works) }
-    runs_on left_old left_new old new NoMemory w = record { bytes = w.bytes; told = w.told; taken = w.taken; at_end = w.at_end; tells = inl (values, good, inl w.works) }
+    pub runs_of : (left_old left_new old new : Option (List ℕ)) (status : Status) → DoesOn saves values left_old left_new old new status → Runs saves words left_old left_new old new status
+    runs_of left_old left_new old new status d = record {
+      bytes = d.bytes;
+      told = d.told;
+      taken = d.taken;
+      at_end = d.at_end;
+      tells = does_tells d.bytes d.told old new status d.does;
+    }
 
-    -- what is said of a made capture is said of these, and nothing was read
-    module _ (made : IsMade values) (left old new : Option (List ℕ)) where
-      made_tells : (status : Status) → MadeBy values.seed values.count old new status → Tells saves words [] Cut old new status
-      made_tells Done m = (values, good, inr (record { job = made; none = refl; wrote = m }))
-      made_tells (Words fault) m = absurd m
-      made_tells (Stack fault) m = absurd m
-      made_tells (Bind fault) m = absurd m
-      made_tells (Check fault) m = absurd m
-      made_tells ReadFault m = absurd m
-      made_tells (Capture fault) m = absurd m
-      made_tells WriteFault m = (values, good, inr (record { job = made; none = refl; wrote = m }))
-      made_tells NoMemory m = inl (values, good, inr (record { job = made; none = refl; wrote = m }))
+    -- a refusal that holds where nothing was read, and what holds of a made capture
+    pub unread_of : (status : Status) (P : Type 0) → WhereUnread (NamesNoHead values) status P → WhereUnread (Good words NamesNoHead) status P
+    unread_of Done P u = tt
+    unread_of (Words fault) P u = u
+    unread_of (Stack fault) P u = u
+    unread_of (Bind fault) P u = λ g. u (of_these NamesNoHead g)
+    unread_of (Check fault) P u = λ g. u (of_these NamesNoHead g)
+    unread_of ReadFault P u = tt
+    unread_of (Capture fault) P u = tt
+    unread_of WriteFault P u = tt
+    unread_of NoMemory P u = tt
 
-      pub runs_made : (status : Status) → MadeBy values.seed values.count old new status → Runs saves words left left old new status
-      runs_made status m = record { bytes = []; told = Cut; taken = Consumes-nil left; at_end = λ e. cc; tells = made_tells status m }
+    -- where nobody looks on, no viewer saw any
+    pub unwatched : (IsWatched values → ⊥) → (left_old left_new old new : Option (List ℕ)) (outcome : Outcome) → outcome.seen ≡ None → DoesOn saves values left_old left_new old new outcome.status → RunsViewed saves words left_old left_new old new outcome
+    unfolding runs_of
+    unwatched not left_old left_new old new outcome none d = record {
+      runs = runs_of left_old left_new old new outcome.status d;
+      saw = subst (λ (seen : Option ℕ). Saw words d.bytes d.told outcome.status seen) (sym none) (λ done g. not (of_these IsWatched g));
+    }
+
+    saw_of : (bytes : List ℕ) (told : Told) (status : Status) (seen : Option ℕ) → SawOf values bytes told status seen → Saw words bytes told status seen
+    saw_of bytes told status None saw = λ done g. saw done (of_these IsWatched g)
+    saw_of bytes told status (Some count) saw = (saw.0, (values, good, (saw.1, saw.2)))
+
+    -- a viewer saw what it saw
+    pub viewed : (left_old left_new old new : Option (List ℕ)) (outcome : Outcome) → ViewsOn saves values left_old left_new old new outcome → RunsViewed saves words left_old left_new old new outcome
+    unfolding runs_of does_work
+    viewed left_old left_new old new outcome v = record {
+      runs = runs_of left_old left_new old new outcome.status (does_work saves values left_old left_new old new outcome.status v.works);
+      saw = saw_of v.works.bytes v.works.told outcome.status outcome.seen v.saw;
+    }
+
+    -- a shelf has what it has
+    pub on_shelf : (left_old left_new old new : Option (List ℕ)) (shelf : Listing) (status : Status) → ShelvesOn values left_old left_new old new shelf status → RunsShelved saves words left_old left_new old new shelf status
+    unfolding runs_of does_work works_shelved
+    on_shelf left_old left_new old new shelf status s = record {
+      runs = runs_of left_old left_new old new status (does_work saves values left_old left_new old new status (works_shelved saves values left_old left_new old new shelf status s));
+      on_shelf = λ other is. λ lists_other. subst (λ (v : Values). IsShelved v s.bytes s.told old new shelf status) (same_values other is) s.shelved;
+    }
+      where
+        same_values : (other : Values) → settings_of words ≡ Ok other → values ≡ other
+        same_values other is = let both = sym good ∙ is in cc
+
+    -- no listing of notes is asked for
+    pub unshelved : lists_notes values ≡ false → (left_old left_new old new : Option (List ℕ)) (shelf : Listing) (status : Status) → DoesOn saves values left_old left_new old new status → RunsShelved saves words left_old left_new old new shelf status
+    unfolding runs_of
+    unshelved not left_old left_new old new shelf status d = record {
+      runs = runs_of left_old left_new old new status d;
+      on_shelf = λ other is lists. absurd (none other is lists);
+    }
+      where
+        none : (other : Values) → settings_of words ≡ Ok other → lists_notes other ≡ true → ⊥
+        none other is lists = let both = sym good ∙ is in let same : values ≡ other = cc in let both = sym (ap lists_notes same ∙ lists) ∙ not in cc

@@ -4,7 +4,6 @@ use Rattle.std.proofs.KnownBytes.{Consumes-nil, Consumes-trans}
 use Rattle.std.proofs.Props.{props}
 use Rattle.la_base.specs.declared.samples.Rate.{Rate}
 use Rattle.la_io.specs.Capture.{Told, AtEnd, Cut, Head}
-use Rattle.la_io.specs.Causes.{AppendsFront}
 use Rattle.la_io.specs.Grown.{appends_nothing}
 use Rattle.la_io.specs.declared.fault.CaptureError.{CaptureError}
 use Rattle.la_io.specs.declared.fault.CaptureError.TheVariants as error
@@ -25,18 +24,18 @@ use Rattle.words.specs.Rates.{RateNumbers, numbers_of}
 use Rattle.words.specs.Settings.{Values}
 use Rattle.stack_spec.specs.Accepting.{Accepted}
 use Rattle.check_point.specs.declared.faults.CheckFault.{CheckFault}
-use Rattle.words.specs.declared.kinds.Job.TheVariants.{Decode, Part}
+use Rattle.words.specs.declared.kinds.Job.TheVariants.{Part}
 use Rattle.ldecode.specs.Asking.{AsksFor, AsksStack, HasHead, IsFormOf, IsJudged, NamesNoHead, PartRefused, SearchRefused, StackRefused, setups_in}
-use Rattle.ldecode.specs.Decoding.{decode_listing}
 use Rattle.std.specs.Io.KnownBytes.{Appends}
 use Rattle.std.proofs.Math.Path.{transport}
 use Rattle.decoder_core.specs.Trees.{Node}
 use Rattle.decoder_set.specs.declared.setup.Setup.{Setup}
-use Rattle.ldecode.specs.Headline.{SinkCause, SourceCause, WhereUnread, Worked, Works, WorksOn}
+use Rattle.ldecode.specs.Headline.{Refuses, RefusesOn, SinkCause, SourceCause, WhereUnread, Worked, Works, WorksOn}
 use Rattle.ldecode.specs.Notices.{status_at_head, status_of}
 use Rattle.ldecode.specs.Parting.{CanBegin, Saves}
 use Rattle.ldecode.specs.Parts.{PartEnds, PartLists}
-use Rattle.ldecode.specs.declared.status.Status.TheVariants.{Bind, Check, NoMemory}
+use Rattle.ldecode.specs.declared.status.Status.{Status}
+use Rattle.ldecode.specs.declared.status.Status.TheVariants.{Bind, Capture as CaptureStatus, Check, Done, NoMemory, ReadFault, Stack, Words, WriteFault}
 use Rattle.stack_spec.specs.declared.faults.BindFault.{BindFault}
 
 -- rates with the same numbers are one
@@ -74,7 +73,7 @@ pub one_head : (values : Values) (form other : Form) (bytes : List ℕ) (told : 
 one_head values form other bytes told one is also head = ap (λ (f : Form). (capture_of f [] bytes told).head) (one_form values other form also is) ∙ head
 
 -- a good head stays, as long as nothing comes behind a told end
-head_later : (form : Form) (before bytes : List ℕ) (then now : Told) (names : List (List ℕ)) (rate : Rate) → Later then bytes now → HasHead form before then names rate → HasHead form (before ++ bytes) now names rate
+pub head_later : (form : Form) (before bytes : List ℕ) (then now : Told) (names : List (List ℕ)) (rate : Rate) → Later then bytes now → HasHead form before then names rate → HasHead form (before ++ bytes) now names rate
 head_later form before bytes AtEnd now names rate later head =
     let none = later.none refl in
     let still = later.still refl in
@@ -82,14 +81,14 @@ head_later form before bytes AtEnd now names rate later head =
 head_later form before bytes Cut now names rate later head = head_stays.good form [] before bytes now names rate.num rate.den head
 
 -- work that came to its end, as what the status of that end says
-worked : (saves : Saves) (values : Values) (bytes : List ℕ) (told : Told) (old new : Option (List ℕ)) (end : ListingEnd) → (end ≡ ends.Read → told ≡ Cut) → Worked saves values bytes told old new end → Works saves values bytes told old new (status_of end)
+pub worked : (saves : Saves) (values : Values) (bytes : List ℕ) (told : Told) (old new : Option (List ℕ)) (end : ListingEnd) → (end ≡ ends.Read → told ≡ Cut) → Worked saves values bytes told old new end → Works saves values bytes told old new (status_of end)
 worked saves values bytes told old new ends.Done cut w = w
 worked saves values bytes told old new ends.Read cut w = (cut refl, inl w)
 worked saves values bytes told old new ends.Write cut w = w
 worked saves values bytes told old new (ends.Fault fault) cut w = inl w
 worked saves values bytes told old new ends.NoMemory cut w = inl w
 
-read_is_cut : (form : Form) (pins : List ℕ) (Whole Front : List ℕ → Type 0) (bytes : List ℕ) (told : Told) (end : ListingEnd) → end ≡ ends.Read → Says form pins Whole Front bytes told end → told ≡ Cut
+pub read_is_cut : (form : Form) (pins : List ℕ) (Whole Front : List ℕ → Type 0) (bytes : List ℕ) (told : Told) (end : ListingEnd) → end ≡ ends.Read → Says form pins Whole Front bytes told end → told ≡ Cut
 read_is_cut form pins Whole Front bytes told ends.Done is says = cc
 read_is_cut form pins Whole Front bytes told ends.Read is says = says.0
 read_is_cut form pins Whole Front bytes told ends.Write is says = cc
@@ -103,44 +102,77 @@ part_is_cut form pins count bytes told ends.Write says is = cc
 part_is_cut form pins count bytes told (ends.Fault fault) says is = cc
 part_is_cut form pins count bytes told ends.NoMemory says is = cc
 
-module _ (saves : Saves) (values : Values) (form : Form) (named : IsFormOf values form) (judged : IsJudged values) (left_old left_mid old : Option (List ℕ)) where
+-- what couldn't begin, as what its status says: nothing was written
+pub refused_works : (saves : Saves) (values : Values) (bytes : List ℕ) (told : Told) (old new : Option (List ℕ)) → Appends old new [] → (status : Status) → Refuses values bytes told status → Works saves values bytes told old new status
+refused_works saves values bytes told old new none Done r = absurd r
+refused_works saves values bytes told old new none (Words fault) r = absurd r
+refused_works saves values bytes told old new none (Stack fault) r = (r.0, r.1, none)
+refused_works saves values bytes told old new none (Bind fault) r = (r, none)
+refused_works saves values bytes told old new none (Check fault) r = absurd r
+refused_works saves values bytes told old new none ReadFault r = (r.0, inr (r.1, none))
+refused_works saves values bytes told old new none (CaptureStatus fault) r = inr (r, none)
+refused_works saves values bytes told old new none WriteFault r = absurd r
+refused_works saves values bytes told old new none NoMemory r = inr none
+
+pub works_refused : (saves : Saves) (values : Values) (left_old left_new written : Option (List ℕ)) (status : Status) → RefusesOn values left_old left_new status → WorksOn saves values left_old left_new written written status
+works_refused saves values left_old left_new written status r = record {
+  bytes = r.bytes;
+  told = r.told;
+  taken = r.taken;
+  at_end = r.at_end;
+  works = refused_works saves values r.bytes r.told written written (appends_nothing written) status r.refuses;
+}
+
+module _ (values : Values) (form : Form) (named : IsFormOf values form) (judged : IsJudged values) (left_old left_mid : Option (List ℕ)) where
   -- the capture can't be opened
-  pub opening_fails : (why : CaptureError) → Opens form left_old left_mid (Err why) → WorksOn saves values left_old left_mid old old (status_at_head why)
+  pub opening_fails : (why : CaptureError) → Opens form left_old left_mid (Err why) → RefusesOn values left_old left_mid (status_at_head why)
   opening_fails (error.Fault fault) opens = record {
     bytes = opens.bytes;
     told = opens.opened.0;
     taken = opens.consumed;
     at_end = opens.opened.1;
-    works = inr (record { form = form; form_is = named; judged = judged; head_is = opens.opened.2 }, appends_nothing old);
+    refuses = record { form = form; form_is = named; judged = judged; head_is = opens.opened.2 };
   }
   opening_fails error.Read opens = record {
     bytes = opens.bytes;
     told = Cut;
     taken = opens.consumed;
     at_end = λ e. cc;
-    works = (refl, inr (record { form = form; form_is = named; judged = judged; head_is = opens.opened }, appends_nothing old));
+    refuses = (refl, record { form = form; form_is = named; judged = judged; head_is = opens.opened });
   }
   opening_fails error.NoMemory opens = record {
     bytes = opens.bytes;
     told = Cut;
     taken = opens.consumed;
     at_end = λ e. cc;
-    works = inr (appends_nothing old);
+    refuses = tt;
   }
 
   module _ (capture : Capture) (opens : Opens form left_old left_mid (Ok capture)) where
-    head_of : HasHead form opens.bytes opens.opened.0 (names_of capture) (rate_of capture)
-    head_of = opens.opened.3
-
     -- a channel isn't there
-    pub binding_fails : (fault : BindFault) → SearchRefused values (names_of capture) fault ⊎ StackRefused values (names_of capture) (rate_of capture) fault → WorksOn saves values left_old left_mid old old (Bind fault)
+    pub binding_fails : (fault : BindFault) → SearchRefused values (names_of capture) fault ⊎ StackRefused values (names_of capture) (rate_of capture) fault → RefusesOn values left_old left_mid (Bind fault)
     binding_fails fault refused = record {
       bytes = opens.bytes;
       told = opens.opened.0;
       taken = opens.consumed;
       at_end = opens.opened.1;
-      works = (record { form = form; names = names_of capture; rate = rate_of capture; form_is = named; head = head_of; refused = refused }, appends_nothing old);
+      refuses = record { form = form; names = names_of capture; rate = rate_of capture; form_is = named; head = opens.opened.3; refused = refused };
     }
+
+    -- there was no memory to bind
+    pub no_room_to_bind : RefusesOn values left_old left_mid NoMemory
+    no_room_to_bind = record {
+      bytes = opens.bytes;
+      told = Cut;
+      taken = opens.consumed;
+      at_end = λ e. cc;
+      refuses = tt;
+    }
+
+module _ (saves : Saves) (values : Values) (form : Form) (named : IsFormOf values form) (judged : IsJudged values) (left_old left_mid old : Option (List ℕ)) where
+  module _ (capture : Capture) (opens : Opens form left_old left_mid (Ok capture)) where
+    head_of : HasHead form opens.bytes opens.opened.0 (names_of capture) (rate_of capture)
+    head_of = opens.opened.3
 
     -- the checkpoint of a part is refused
     pub checking_fails : (fault : CheckFault) → PartRefused saves values (names_of capture) (rate_of capture) fault → WorksOn saves values left_old left_mid old old (Check fault)
@@ -150,16 +182,6 @@ module _ (saves : Saves) (values : Values) (form : Form) (named : IsFormOf value
       taken = opens.consumed;
       at_end = opens.opened.1;
       works = (record { form = form; names = names_of capture; rate = rate_of capture; form_is = named; head = head_of; refused = refused }, appends_nothing old);
-    }
-
-    -- there was no memory to bind
-    pub no_room_to_bind : WorksOn saves values left_old left_mid old old NoMemory
-    no_room_to_bind = record {
-      bytes = opens.bytes;
-      told = Cut;
-      taken = opens.consumed;
-      at_end = λ e. cc;
-      works = inr (appends_nothing old);
     }
 
     module _ (now : Capture) (pins : List ℕ) (form_stays : capture_form now ≡ form) (pins_are : pins_of now ≡ pins) (left_new new : Option (List ℕ)) where
@@ -182,20 +204,6 @@ module _ (saves : Saves) (values : Values) (form : Form) (named : IsFormOf value
             works = worked saves values (opens.bytes ++ l.bytes) l.told old new end (λ is. read_is_cut form pins (λ samples. WholeListing samples alts old new) (λ samples. ListingFront samples alts old new) (opens.bytes ++ l.bytes) l.told end is l.says) (inl (record { form = form; names = names_of capture; rate = rate_of capture; form_is = named; head = head_on l.bytes l.told l.later; pins = pins; alts = alts; asks = asks; says = l.says }));
           }
 
-      -- a decoding came to its end
-      pub decoding_ends : values.job ≡ Decode → (accepted : Accepted) (nodes : List (Node Setup)) (end : ListingEnd) → AsksStack values (names_of capture) (rate_of capture) pins accepted nodes
-          → Lists (capture_form now) (pins_of now) (λ samples. Appends old new (decode_listing accepted nodes samples)) (λ samples. AppendsFront old new (decode_listing accepted nodes samples)) opens.bytes opens.opened.0 left_mid left_new end
-          → WorksOn saves values left_old left_new old new (status_of end)
-      decoding_ends job accepted nodes end asks lists =
-          let l = as_opened (λ samples. Appends old new (decode_listing accepted nodes samples)) (λ samples. AppendsFront old new (decode_listing accepted nodes samples)) end lists in
-          record {
-            bytes = opens.bytes ++ l.bytes;
-            told = l.told;
-            taken = Consumes-trans left_old left_mid left_new opens.bytes l.bytes opens.consumed l.taken;
-            at_end = l.at_end;
-            works = worked saves values (opens.bytes ++ l.bytes) l.told old new end (λ is. read_is_cut form pins (λ samples. Appends old new (decode_listing accepted nodes samples)) (λ samples. AppendsFront old new (decode_listing accepted nodes samples)) (opens.bytes ++ l.bytes) l.told end is l.says) (inr (inl (record { form = form; names = names_of capture; rate = rate_of capture; form_is = named; head = head_on l.bytes l.told l.later; pins = pins; accepted = accepted; nodes = nodes; job = job; asks = asks; says = l.says })));
-          }
-
       -- the decoding of a part came to its end
       pub part_ends : IsForm form → values.job ≡ Part → (accepted : Accepted) (nodes : List (Node Setup)) (asks : AsksStack values (names_of capture) (rate_of capture) pins accepted nodes) (count : ℕ) → CanBegin saves (setups_in asks.stack) values.from count → (end : ListingEnd)
           → PartLists saves accepted nodes values.from count (capture_form now) (pins_of now) opens.bytes opens.opened.0 left_mid left_new old new end → WorksOn saves values left_old left_new old new (status_of end)
@@ -211,13 +219,13 @@ module _ (saves : Saves) (values : Values) (form : Form) (named : IsFormOf value
           }
 
 -- there was no memory before anything was read
-pub no_room : (saves : Saves) (values : Values) (left old : Option (List ℕ)) → WorksOn saves values left left old old NoMemory
-no_room saves values left old = record {
+pub no_room : (values : Values) (left : Option (List ℕ)) → RefusesOn values left left NoMemory
+no_room values left = record {
   bytes = [];
   told = Cut;
   taken = Consumes-nil left;
   at_end = λ e. cc;
-  works = inr (appends_nothing old);
+  refuses = tt;
 }
 
 -- what holds behind each end, at a head that is no good one, and where binding failed

@@ -1,6 +1,6 @@
 -- What good words ask for: the form of the capture, and for each job what is bound to its channels.
 use Rattle.std.specs.Prelude.{ℕ, ◌≡◌, ◌+◌, ◌≤◌, ◌<◌, ◌⊎◌, List, [], ◌∷◌, length, map}
-use Rattle.std.specs.Prelude.{Result, Ok, Err}
+use Rattle.std.specs.Prelude.{Result, Ok, Err, Bool, true, false, ◌&&◌, is_none}
 use Rattle.std.proofs.Common.{inl, inr}
 use Rattle.la_base.specs.declared.samples.Rate.{Rate}
 use Rattle.la_base.specs.declared.samples.TheConstants.{MOST_PINS}
@@ -40,6 +40,20 @@ IsFormOf values (Vcd down) = (values.format ≡ format.Vcd) × (down ≡ values.
 IsFormOf values (Csv mode header rate) =
     (values.format ≡ format.Csv) × (mode ≡ values.csv) × (header ≡ values.header)
     × (numbers_of rate ≡ values.rate)
+
+-- the job is to decode a whole capture
+abbrev pub is_decode : Job → Bool
+is_decode Decode = true
+is_decode Find = false
+is_decode Make = false
+is_decode Part = false
+
+-- a listing of notes is asked for: a whole capture is decoded, and not for binary data
+abbrev pub lists_notes : Values → Bool
+lists_notes values = is_decode values.job && is_none values.binary
+
+abbrev pub ListsNotes : Values → Type 0
+ListsNotes values = lists_notes values ≡ true
 
 -- in this form the bytes have a head, with these names of channels and this rate
 abbrev pub HasHead : Form → List ℕ → Told → List (List ℕ) → Rate → Type 0

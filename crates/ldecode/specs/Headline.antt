@@ -1,6 +1,7 @@
 -- What a run does: the status that its words, its capture and its failures give, and what is
 -- written with it.
-use Rattle.std.specs.Prelude.{ℕ, ◌≡◌, ◌≤◌, ◌⊎◌, List, [], Option, Some, Ok, Err}
+use Rattle.std.specs.Prelude.{ℕ, ◌≡◌, ◌≤◌, ◌⊎◌, true, List, [], Option, Some, None, Ok, Err}
+use Rattle.std.specs.Prelude.{length}
 use Rattle.std.specs.Io.KnownBytes.{Appends, Consumes}
 use Rattle.la_base.specs.declared.samples.Rate.{Rate}
 use Rattle.la_io.specs.Capture.{Told, AtEnd, Cut, Bad, Unread, Clean}
@@ -25,9 +26,10 @@ use Rattle.decoder_core.specs.Trees.{Node}
 use Rattle.decoder_set.specs.declared.setup.Setup.{Setup}
 use Rattle.ldecode.specs.Asking.{AsksFor, AsksStack, CannotBind, CheckRefused, EndsAs, HasFault}
 use Rattle.ldecode.specs.Asking.{HasHead, HasStackFault, HeadIs, IsFormOf, NamesNoHead, setups_in}
-use Rattle.ldecode.specs.Decoding.{decode_listing}
+use Rattle.ldecode.specs.Asking.{lists_notes}
+use Rattle.ldecode.specs.Decoding.{decode_listing, decode_notes}
 use Rattle.ldecode.specs.Making.{MadeBy}
-use Rattle.ldecode.specs.Notices.{notice_of}
+use Rattle.ldecode.specs.Notices.{line_of}
 use Rattle.ldecode.specs.Parting.{CanBegin, Saves}
 use Rattle.ldecode.specs.Parts.{CameBefore, IsCheckAt, PartEnds, PartWrites, part_listing}
 use Rattle.ldecode.specs.declared.status.Status.{Status}
@@ -65,9 +67,10 @@ pub record Searched (values : Values) (bytes : List ℕ) (told : Told) (old new 
   pub says : Says form pins (λ samples. WholeListing samples alts old new)
       (λ samples. ListingFront samples alts old new) bytes told end
 
--- the decoding of a whole capture that the values ask for came to this end
-pub record Decoded (values : Values) (bytes : List ℕ) (told : Told) (old new : Option (List ℕ))
-    (end : ListingEnd) : Type 0 where
+-- the decoding of a whole capture that the values ask for came to this end, and this holds of its
+-- stack and of the samples: `Whole` of all of them, or `Front` of those that some bytes settle
+pub record DecodedAs (values : Values) (Whole Front : Accepted → List (Node Setup) → List ℕ → Type 0)
+    (bytes : List ℕ) (told : Told) (end : ListingEnd) : Type 0 where
   pub form : Form
   pub names : List (List ℕ)
   pub rate : Rate
@@ -78,8 +81,23 @@ pub record Decoded (values : Values) (bytes : List ℕ) (told : Told) (old new :
   pub nodes : List (Node Setup)
   pub job : values.job ≡ Decode
   pub asks : AsksStack values names rate pins accepted nodes
-  pub says : Says form pins (λ samples. Appends old new (decode_listing accepted nodes samples))
-      (λ samples. AppendsFront old new (decode_listing accepted nodes samples)) bytes told end
+  pub says : Says form pins (Whole accepted nodes) (Front accepted nodes) bytes told end
+
+-- the listing of a stack was written, or a front of it
+abbrev pub IsListed : Option (List ℕ) → Option (List ℕ) → Accepted → List (Node Setup) → List ℕ
+    → Type 0
+IsListed old new accepted nodes samples = Appends old new (decode_listing accepted nodes samples)
+
+abbrev pub IsBegun : Option (List ℕ) → Option (List ℕ) → Accepted → List (Node Setup) → List ℕ
+    → Type 0
+IsBegun old new accepted nodes samples =
+    AppendsFront old new (decode_listing accepted nodes samples)
+
+-- the decoding came to this end, with what was written
+abbrev pub Decoded : Values → List ℕ → Told → Option (List ℕ) → Option (List ℕ) → ListingEnd
+    → Type 0
+Decoded values bytes told old new end =
+    DecodedAs values (IsListed old new) (IsBegun old new) bytes told end
 
 -- the decoding of a part that the values ask for came to this end. What was written is said where
 -- it is the first part, or goes on behind a checkpoint that was made of its decoders behind some
@@ -142,6 +160,37 @@ pub record WorksOn (saves : Saves) (values : Values) (left_old left_new old new 
   pub at_end : ToldAt told left_new
   pub works : Works saves values bytes told old new status
 
+-- the same of a decoding that took these bytes of its source
+pub record DecodesOn (values : Values) (Whole Front : Accepted → List (Node Setup) → List ℕ → Type 0)
+    (left_old left_new : Option (List ℕ)) (end : ListingEnd) : Type 0 where
+  pub bytes : List ℕ
+  pub told : Told
+  pub taken : Consumes left_old left_new bytes
+  pub at_end : ToldAt told left_new
+  pub decoded : DecodedAs values Whole Front bytes told end
+
+-- why nothing could be decoded or searched, by the status: of good words, and of the bytes that were
+-- taken for the head
+abbrev pub Refuses : Values → List ℕ → Told → Status → Type 0
+Refuses values bytes told Done = ⊥
+Refuses values bytes told (Words fault) = ⊥
+Refuses values bytes told (Stack fault) = HasStackFault values fault × (bytes ≡ [])
+Refuses values bytes told (Bind fault) = CannotBind values bytes told fault
+Refuses values bytes told (Check fault) = ⊥
+Refuses values bytes told ReadFault = (told ≡ Cut) × HeadIs values bytes told Unread
+Refuses values bytes told (Capture fault) = HeadIs values bytes told (Bad fault)
+Refuses values bytes told WriteFault = ⊥
+Refuses values bytes told NoMemory = Unit {0}
+
+-- the same of what took these bytes of its source
+pub record RefusesOn (values : Values) (left_old left_new : Option (List ℕ)) (status : Status)
+    : Type 0 where
+  pub bytes : List ℕ
+  pub told : Told
+  pub taken : Consumes left_old left_new bytes
+  pub at_end : ToldAt told left_new
+  pub refuses : Refuses values bytes told status
+
 -- the words are good, and this holds of their values
 abbrev pub Good : List Text → (Values → Type 0) → Type 0
 Good words Holds = (values : Values) × (settings_of words ≡ Ok values) × Holds values
@@ -162,6 +211,15 @@ abbrev pub Does : Saves → Values → List ℕ → Told → Option (List ℕ) �
     → Type 0
 Does saves values bytes told old new status =
     Works saves values bytes told old new status ⊎ Makes values bytes old new status
+
+-- the same of what took these bytes of its source
+pub record DoesOn (saves : Saves) (values : Values) (left_old left_new old new : Option (List ℕ))
+    (status : Status) : Type 0 where
+  pub bytes : List ℕ
+  pub told : Told
+  pub taken : Consumes left_old left_new bytes
+  pub at_end : ToldAt told left_new
+  pub does : Does saves values bytes told old new status
 
 -- what a status says of the words, the bytes that were taken and what was written
 abbrev pub Tells : Saves → List Text → List ℕ → Told → Option (List ℕ) → Option (List ℕ) → Status
@@ -236,16 +294,46 @@ WhereUnread NoHead (Capture fault) P = Unit {0}
 WhereUnread NoHead WriteFault P = Unit {0}
 WhereUnread NoHead NoMemory P = Unit {0}
 
--- the line of the status was written, whole where the notices didn't fail
-pub record Notified (notices : Stream) (status : Status) : Type 0 where
-  pub front : AppendsFront notices.old notices.new (notice_of status)
-  pub whole : ¬ DidFail notices → Appends notices.old notices.new (notice_of status)
+-- a viewer looks on where a decoding is asked for that is to have one, and lists notes
+abbrev pub IsWatched : Values → Type 0
+IsWatched values = (values.watch ≡ true) × (lists_notes values ≡ true)
+
+-- the listing of all samples has so many notes
+abbrev pub HasSoMany : ℕ → Accepted → List (Node Setup) → List ℕ → Type 0
+HasSoMany count accepted nodes samples = count ≡ length (decode_notes accepted nodes samples)
+
+-- the whole listing that the values ask for has so many notes, of bytes that end as they may
+abbrev pub HasNotes : Values → List ℕ → Told → ℕ → Type 0
+HasNotes values bytes told count =
+    DecodedAs values (HasSoMany count) (λ accepted nodes samples. Unit {0}) bytes told end.Done
+
+-- how many notes a viewer saw: those of the whole listing. None where no viewer looks on, or the
+-- run isn't done
+abbrev pub Saw : List Text → List ℕ → Told → Status → Option ℕ → Type 0
+Saw words bytes told status None = status ≡ Done → Good words IsWatched → ⊥
+Saw words bytes told status (Some count) =
+    (status ≡ Done)
+    × Good words (λ values. IsWatched values × HasNotes values bytes told count)
+
+-- the line that tells of a run: that of its status; or how many notes a viewer saw
+pub record IsLine (words : List Text) (bytes : List ℕ) (told : Told) (status : Status)
+    (line : List ℕ) : Type 0 where
+  pub seen : Option ℕ
+  pub saw : Saw words bytes told status seen
+  pub is : line ≡ line_of status seen
+
+-- the line that tells of a run was written, whole where the notices didn't fail
+pub record Notified (notices : Stream) (Tells : List ℕ → Type 0) : Type 0 where
+  pub line : List ℕ
+  pub is : Tells line
+  pub front : AppendsFront notices.old notices.new line
+  pub whole : ¬ DidFail notices → Appends notices.old notices.new line
 
 -- The promise of a run: for these words, what it did to its source, its sink and its notices, and
--- the status that it answers. `same` says that the source is just as it was, and `saves` which
--- bytes a decoder saves.
-pub record Headline (saves : Saves) (words : List Text) (source sink notices : Stream)
-    (same : Type 0) (status : Status) : Type 0 where
+-- the status that it answers. `same` says that the source is just as it was, `saves` which bytes a
+-- decoder saves, and `Line` which line tells of the bytes that were taken.
+pub record Promises (saves : Saves) (words : List Text) (source sink notices : Stream)
+    (same : Type 0) (status : Status) (Line : List ℕ → Told → List ℕ → Type 0) : Type 0 where
   -- these bytes were taken of the source, whose end it told or not
   pub bytes : List ℕ
   pub told : Told
@@ -282,5 +370,11 @@ pub record Headline (saves : Saves) (words : List Text) (source sink notices : S
   pub write : SinkCause sink.failed_old sink.failed_new status
   -- a refusal reads nothing
   pub unread : WhereUnread (Good words NamesNoHead) status same
-  -- the notices have got the line of the status
-  pub notified : Notified notices status
+  -- the notices have got the line that tells of it
+  pub notified : Notified notices (Line bytes told)
+
+-- the promise of a run that tells its status, and of one at which a viewer looked on what it saw
+abbrev pub Headline : Saves → List Text → Stream → Stream → Stream → Type 0 → Status → Type 0
+Headline saves words source sink notices same status =
+    Promises saves words source sink notices same status
+    (λ bytes told line. IsLine words bytes told status line)

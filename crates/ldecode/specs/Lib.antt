@@ -11,3 +11,4 @@ pub mod MadeFeeding
 pub mod MadeTrees
 pub mod Sums
 pub mod Opening
+pub mod Watching

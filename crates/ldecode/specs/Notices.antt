@@ -1,5 +1,5 @@
 -- What a run's status tells its user: the exit status, and one line of text.
-use Rattle.std.specs.Prelude.{ℕ, List, [], ◌++◌, codes}
+use Rattle.std.specs.Prelude.{ℕ, Bool, true, false, List, [], ◌++◌, Option, Some, None, Result, Ok, Err, codes}
 use Rattle.std.specs.Fmt.{decimal}
 use Rattle.la_io.specs.declared.fault.CaptureError.{CaptureError}
 use Rattle.la_io.specs.declared.fault.CaptureError.TheVariants as error
@@ -8,6 +8,8 @@ use Rattle.la_io.specs.declared.fault.CaptureFault.TheVariants as capture
 use Rattle.wait_cond.specs.declared.faults.BindWhy.{BindWhy}
 use Rattle.wait_cond.specs.declared.faults.BindWhy.TheVariants as binding
 use Rattle.words.specs.declared.kinds.WordWhy.{WordWhy}
+use Rattle.words.specs.declared.kinds.WordsError.{WordsError}
+use Rattle.words.specs.declared.kinds.WordsError.TheVariants as words
 use Rattle.words.specs.declared.kinds.WordWhy.TheVariants as word
 use Rattle.stack_spec.specs.declared.faults.StackWhy.{StackWhy}
 use Rattle.stack_spec.specs.declared.faults.StackWhy.TheVariants as stack
@@ -35,11 +37,33 @@ abbrev pub end_of_part : PartEnd → ListingEnd
 end_of_part (part.Ended end) = end
 end_of_part part.Past = end.Fault capture.Past
 
+-- the status of a run whose words can't be read
+abbrev pub status_at_words : WordsError → Status
+status_at_words (words.Fault fault) = Words fault
+status_at_words words.NoMemory = NoMemory
+
 -- the status of a run whose capture can't be opened
 abbrev pub status_at_head : CaptureError → Status
 status_at_head (error.Fault fault) = Capture fault
 status_at_head error.Read = ReadFault
 status_at_head error.NoMemory = NoMemory
+
+-- the status of a decoding that came to this end, or couldn't begin
+abbrev pub status_by : Result ListingEnd Status → Status
+status_by (Ok end) = status_of end
+status_by (Err status) = status
+
+-- whether a run is done
+abbrev pub is_done : Status → Bool
+is_done Done = true
+is_done (Words fault) = false
+is_done (Stack fault) = false
+is_done (Bind fault) = false
+is_done (Check fault) = false
+is_done ReadFault = false
+is_done (Capture fault) = false
+is_done WriteFault = false
+is_done NoMemory = false
 
 -- the exit status
 abbrev pub code_of : Status → ℕ
@@ -144,3 +168,12 @@ notice_of (Capture fault) =
     ++ codes "\n"
 notice_of WriteFault = codes "ldecode: write fault\n"
 notice_of NoMemory = codes "ldecode: out of memory\n"
+
+-- the line that tells of a run that is done, and of a viewer that saw so many notes
+abbrev pub viewer_saw : ℕ → List ℕ
+viewer_saw count = codes "ldecode: viewer saw " ++ decimal count ++ codes " notes\n"
+
+-- the line that tells of a run: that of its status, or how many notes a viewer saw
+abbrev pub line_of : Status → Option ℕ → List ℕ
+line_of status None = notice_of status
+line_of status (Some count) = viewer_saw count

@@ -1,40 +1,52 @@
-// A run of the job `decode`.
-ghost use Rattle.std.specs.Prelude.{◌≡◌, ◌≤◌, IfSome};
+// A decoding of the stack that settings ask for, whoever looks on.
+ghost use Rattle.std.specs.Prelude.{◌≡◌, ◌≤◌, [], IfErr, IfOk, IfSome};
 ghost use Rattle.words.specs.Readable.{IsReadable, IsShort};
 ghost use Rattle.words.specs.Settings.{meaning_of};
 ghost use Rattle.words.specs.declared.kinds.Job.TheVariants.{Decode};
 ghost use Rattle.ldecode.specs.Asking.{NamesNoHead};
-ghost use Rattle.ldecode.specs.Headline.{WorksOn, SourceCause, SinkCause, WhereUnread};
+ghost use Rattle.ldecode.specs.Headline.{DecodesOn, RefusesOn, SinkCause, SourceCause};
+ghost use Rattle.ldecode.specs.Headline.{WhereUnread};
+ghost use Rattle.ldecode.specs.Notices.{status_by};
+ghost use Rattle.ldecode.specs.Watching.{IsSeen, IsSeenFront};
 
 use crate::open_stack::{Opened, open_stack};
 use crate::status::Status;
-use decode_job::{InThreads, decode, decode_in_threads};
-use decoder_core::Keep;
-use decoder_set::AnyDecoder;
+use decode_job::{DecodeEnd, InThreads, decode, decode_in_threads};
 use la_io::{Sink, Source};
+use note_lister::Watch;
 use stage_crew::Pacer;
 use std::alloc::Global;
 use std::sync::Wait;
 use std::thread::Threads;
 use words::Settings;
 
-/// Decodes the capture under the stack that the settings ask for, on this one thread.
-pub fn decode_stack<S: Source, K: Sink>(
+/// Decodes the capture under the stack that the settings ask for, on this one thread, before what
+/// looks on, which is given back. It answers how the decoding ended, or the status of one that
+/// couldn't begin.
+pub(crate) fn decode_stack<S: Source, K: Sink, W: Watch>(
     alloc: Global,
     settings: &Settings,
     source: &mut S,
     sink: &mut K,
-) -> Status
+    watch: W,
+) -> (Result<DecodeEnd, Status>, W)
     requires job { settings.now.job ≡ Decode }
     requires readable { IsReadable Decode settings.now.chains.items }
     requires shown { IfSome settings.now.show IsShort }
     requires binary { IfSome settings.now.binary IsShort }
-    ensures works { WorksOn ⟦<AnyDecoder as Keep>⟧.saves (meaning_of settings.now)
-        (S.left source.old) (S.left source.new) (K.written sink.old) (K.written sink.new) result }
-    ensures unread { WhereUnread (NamesNoHead (meaning_of settings.now)) result
+    requires unseen { W.saw watch [] }
+    ensures decodes { IfOk result.0 (DecodesOn (meaning_of settings.now)
+        (IsSeen (W.saw result.1) (K.written sink.old) (K.written sink.new))
+        (IsSeenFront (W.saw result.1) (K.written sink.old) (K.written sink.new))
+        (S.left source.old) (S.left source.new)) }
+    ensures refuses { IfErr result.0
+        (RefusesOn (meaning_of settings.now) (S.left source.old) (S.left source.new)) }
+    ensures untouched { IfErr result.0 (λ _. (sink.new ≡ sink.old) × (result.1 ≡ watch)) }
+    ensures origin { W.origin result.1 ≡ W.origin watch }
+    ensures unread { WhereUnread (NamesNoHead (meaning_of settings.now)) (status_by result.0)
         (source.new ≡ source.old) }
-    ensures read { SourceCause (S.faults source.old) (S.faults source.new) result }
-    ensures write { SinkCause (K.faults sink.old) (K.faults sink.new) result }
+    ensures read { SourceCause (S.faults source.old) (S.faults source.new) (status_by result.0) }
+    ensures write { SinkCause (K.faults sink.old) (K.faults sink.new) (status_by result.0) }
 {
     let Opened {
         stack,
@@ -43,10 +55,10 @@ pub fn decode_stack<S: Source, K: Sink>(
         parents,
     } = match open_stack(alloc, settings, source) {
         Ok(opened) => opened,
-        Err(status) => return status,
+        Err(status) => return (Err(status), watch),
     };
     let mut capture = capture;
-    Status::from(decode(
+    let (end, watch) = decode(
         alloc,
         &stack,
         &mut capture,
@@ -54,29 +66,39 @@ pub fn decode_stack<S: Source, K: Sink>(
         &parents,
         source,
         sink,
-    ))
+        watch,
+    );
+    (Ok(end), watch)
 }
 
-/// The same with a thread for each decoder, and rings of as many slots as the settings say. The
-/// pacer says how much a decoder does in a turn.
-pub fn decode_stack_in_threads<R: Threads + Wait + Sync, P: Pacer + Sync, S: Source, K: Sink>(
+// The same with a thread for each decoder, and rings of as many slots as the settings say. The
+// pacer says how much a decoder does in a turn.
+fn decode_stack_in_threads<R: Threads + Wait + Sync, P: Pacer + Sync, S: Source, K: Sink, W: Watch>(
     rt: &R,
     alloc: Global,
     settings: &Settings,
     source: &mut S,
     sink: &mut K,
     pacer: &P,
-) -> Status
+    watch: W,
+) -> (Result<DecodeEnd, Status>, W)
     requires job { settings.now.job ≡ Decode }
     requires readable { IsReadable Decode settings.now.chains.items }
     requires shown { IfSome settings.now.show IsShort }
     requires binary { IfSome settings.now.binary IsShort }
-    ensures works { WorksOn ⟦<AnyDecoder as Keep>⟧.saves (meaning_of settings.now)
-        (S.left source.old) (S.left source.new) (K.written sink.old) (K.written sink.new) result }
-    ensures unread { WhereUnread (NamesNoHead (meaning_of settings.now)) result
+    requires unseen { W.saw watch [] }
+    ensures decodes { IfOk result.0 (DecodesOn (meaning_of settings.now)
+        (IsSeen (W.saw result.1) (K.written sink.old) (K.written sink.new))
+        (IsSeenFront (W.saw result.1) (K.written sink.old) (K.written sink.new))
+        (S.left source.old) (S.left source.new)) }
+    ensures refuses { IfErr result.0
+        (RefusesOn (meaning_of settings.now) (S.left source.old) (S.left source.new)) }
+    ensures untouched { IfErr result.0 (λ _. (sink.new ≡ sink.old) × (result.1 ≡ watch)) }
+    ensures origin { W.origin result.1 ≡ W.origin watch }
+    ensures unread { WhereUnread (NamesNoHead (meaning_of settings.now)) (status_by result.0)
         (source.new ≡ source.old) }
-    ensures read { SourceCause (S.faults source.old) (S.faults source.new) result }
-    ensures write { SinkCause (K.faults sink.old) (K.faults sink.new) result }
+    ensures read { SourceCause (S.faults source.old) (S.faults source.new) (status_by result.0) }
+    ensures write { SinkCause (K.faults sink.old) (K.faults sink.new) (status_by result.0) }
 {
     let Opened {
         stack,
@@ -85,7 +107,7 @@ pub fn decode_stack_in_threads<R: Threads + Wait + Sync, P: Pacer + Sync, S: Sou
         parents,
     } = match open_stack(alloc, settings, source) {
         Ok(opened) => opened,
-        Err(status) => return status,
+        Err(status) => return (Err(status), watch),
     };
     let mut capture = capture;
     let way = InThreads {
@@ -94,5 +116,56 @@ pub fn decode_stack_in_threads<R: Threads + Wait + Sync, P: Pacer + Sync, S: Sou
         slots: settings.ring.clamp(1, 16384),
         pacer,
     };
-    Status::from(decode_in_threads(&way, &stack, &mut capture, machines, &parents, source, sink))
+    let (end, watch) = decode_in_threads(
+        &way,
+        &stack,
+        &mut capture,
+        machines,
+        &parents,
+        source,
+        sink,
+        watch,
+    );
+    (Ok(end), watch)
+}
+
+/// Decodes with a thread for each decoder where the settings ask for threads, and else on this one.
+pub(crate) fn decode_stack_as_asked<
+    R: Threads + Wait + Sync,
+    P: Pacer + Sync,
+    S: Source,
+    K: Sink,
+    W: Watch,
+>(
+    rt: &R,
+    alloc: Global,
+    settings: &Settings,
+    source: &mut S,
+    sink: &mut K,
+    pacer: &P,
+    watch: W,
+) -> (Result<DecodeEnd, Status>, W)
+    requires job { settings.now.job ≡ Decode }
+    requires readable { IsReadable Decode settings.now.chains.items }
+    requires shown { IfSome settings.now.show IsShort }
+    requires binary { IfSome settings.now.binary IsShort }
+    requires unseen { W.saw watch [] }
+    ensures decodes { IfOk result.0 (DecodesOn (meaning_of settings.now)
+        (IsSeen (W.saw result.1) (K.written sink.old) (K.written sink.new))
+        (IsSeenFront (W.saw result.1) (K.written sink.old) (K.written sink.new))
+        (S.left source.old) (S.left source.new)) }
+    ensures refuses { IfErr result.0
+        (RefusesOn (meaning_of settings.now) (S.left source.old) (S.left source.new)) }
+    ensures untouched { IfErr result.0 (λ _. (sink.new ≡ sink.old) × (result.1 ≡ watch)) }
+    ensures origin { W.origin result.1 ≡ W.origin watch }
+    ensures unread { WhereUnread (NamesNoHead (meaning_of settings.now)) (status_by result.0)
+        (source.new ≡ source.old) }
+    ensures read { SourceCause (S.faults source.old) (S.faults source.new) (status_by result.0) }
+    ensures write { SinkCause (K.faults sink.old) (K.faults sink.new) (status_by result.0) }
+{
+    if settings.threads {
+        decode_stack_in_threads(rt, alloc, settings, source, sink, pacer, watch)
+    } else {
+        decode_stack(alloc, settings, source, sink, watch)
+    }
 }

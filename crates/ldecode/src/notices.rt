@@ -2,8 +2,9 @@
 ghost use Rattle.std.specs.Prelude.{◌≡◌, ◌≤◌, ◌++◌, [], codes, length};
 ghost use Rattle.std.specs.Fmt.{decimal};
 ghost use Rattle.ldecode.specs.Notices.{word_why, stack_why, bind_why, capture_why, capture_at};
-ghost use Rattle.ldecode.specs.Notices.{check_why, notice_of};
+ghost use Rattle.ldecode.specs.Notices.{check_why, line_of, notice_of, viewer_saw};
 
+use crate::outcome::Outcome;
 use crate::status::Status;
 use check_point::CheckWhy;
 use la_io::CaptureFault;
@@ -188,4 +189,25 @@ pub fn notice(status: &Status) -> LineBuf
         Status::NoMemory => push_text(&mut line, "ldecode: out of memory\n"),
     }
     line
+}
+
+// The line that tells how many notes a viewer saw.
+fn viewer_saw(count: u64) -> LineBuf
+    ensures { result ≡ viewer_saw count }
+{
+    let mut line = LineBuf::new();
+    push_text(&mut line, "ldecode: viewer saw ");
+    line.push_number(count);
+    push_text(&mut line, " notes\n");
+    line
+}
+
+/// The line that tells of a run: that of its status, or how many notes a viewer saw.
+pub(crate) fn line_of(outcome: &Outcome) -> LineBuf
+    ensures { result ≡ line_of outcome.now.status outcome.now.seen }
+{
+    match outcome.seen {
+        None => notice(&outcome.status),
+        Some(count) => viewer_saw(count),
+    }
 }

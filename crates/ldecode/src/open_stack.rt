@@ -1,9 +1,9 @@
 // What stands before a decoding.
-ghost use Rattle.std.specs.Prelude.{◌≡◌, ℕ, All, IfErr, IfOk, IfSome, List, Option};
+ghost use Rattle.std.specs.Prelude.{◌≡◌, ℕ, All, IfErr, IfOk, IfSome};
 ghost use Rattle.words.specs.Readable.{IsShort};
 ghost use Rattle.words.specs.Settings.{meaning_of};
 ghost use Rattle.ldecode.specs.Asking.{HasStack, NamesNoHead};
-ghost use Rattle.ldecode.specs.Headline.{SinkCause, SourceCause, WhereUnread, WorksOn};
+ghost use Rattle.ldecode.specs.Headline.{RefusesOn, SinkCause, SourceCause, WhereUnread};
 ghost use Rattle.ldecode.specs.Opening.{IsOpened};
 
 use crate::form::form_of;
@@ -40,9 +40,8 @@ pub(crate) fn open_stack<S: Source>(
     ensures kept { IfOk result (λ _. S.faults source.new ≡ S.faults source.old) }
     ensures headless { IfOk result (λ _. NamesNoHead (meaning_of settings.now)
         → source.new ≡ source.old) }
-    ensures works { IfErr result (λ status. (written : Option (List ℕ))
-        → WorksOn ⟦<AnyDecoder as Keep>⟧.saves (meaning_of settings.now) (S.left source.old)
-        (S.left source.new) written written status) }
+    ensures refuses { IfErr result
+        (RefusesOn (meaning_of settings.now) (S.left source.old) (S.left source.new)) }
     ensures unread { IfErr result (λ status. WhereUnread (NamesNoHead (meaning_of settings.now))
         status (source.new ≡ source.old)) }
     ensures read { IfErr result (SourceCause (S.faults source.old) (S.faults source.new)) }

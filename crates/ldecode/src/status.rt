@@ -1,6 +1,6 @@
 // How a run ends.
 ghost use Rattle.std.specs.Prelude.{◌≡◌};
-ghost use Rattle.ldecode.specs.Notices.{code_of, status_at_head};
+ghost use Rattle.ldecode.specs.Notices.{code_of, status_at_head, status_by};
 
 use capture_any::ListingEnd;
 use check_point::CheckFault;
@@ -33,6 +33,27 @@ pub enum Status {
     NoMemory,
 }
 
+impl Status {
+    ghost use Rattle.ldecode.specs.Notices.{is_done};
+
+    // Whether the run is done.
+    pub(crate) fn is_done(&self) -> bool
+        ensures { result ≡ is_done self.now }
+    {
+        match self {
+            Status::Done => true,
+            Status::Words(_)
+            | Status::Stack(_)
+            | Status::Bind(_)
+            | Status::Check(_)
+            | Status::ReadFault
+            | Status::Capture(_)
+            | Status::WriteFault
+            | Status::NoMemory => false,
+        }
+    }
+}
+
 /// The exit status of the program for the status of a run.
 pub fn exit_code(status: &Status) -> u8
     ensures { result ≡ code_of status.now }
@@ -55,6 +76,16 @@ pub fn status_at_head(error: CaptureError) -> Status
         CaptureError::Fault(fault) => Status::Capture(fault),
         CaptureError::Read => Status::ReadFault,
         CaptureError::NoMemory => Status::NoMemory,
+    }
+}
+
+/// The status of a decoding that came to this end, or couldn't begin.
+pub(crate) fn status_by(ended: Result<ListingEnd, Status>) -> Status
+    ensures { result ≡ status_by ended }
+{
+    match ended {
+        Ok(end) => Status::from(end),
+        Err(status) => status,
     }
 }
 

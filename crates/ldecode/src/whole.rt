@@ -1,16 +1,20 @@
 // A whole run.
 ghost use Rattle.std.specs.Prelude.{◌≡◌, map};
 ghost use Rattle.std.specs.String.{string_bytes};
-ghost use Rattle.ldecode.specs.Asking.{NamesNoHead};
-ghost use Rattle.ldecode.specs.Headline.{Good, Headline, IsMade, Notified, Runs, SinkCause};
+ghost use Rattle.view_store.specs.Listings.{nothing};
+ghost use Rattle.view_store.specs.Views.{pending, published, shelf_of};
+ghost use Rattle.ldecode.specs.Asking.{ListsNotes, NamesNoHead};
+ghost use Rattle.ldecode.specs.Headline.{Good, Headline, IsMade, Notified, SinkCause};
 ghost use Rattle.ldecode.specs.Headline.{SourceCause, WhereUnread, stream};
+ghost use Rattle.ldecode.specs.Notices.{line_of, status_at_words};
+ghost use Rattle.ldecode.specs.Watching.{RunsShelved, RunsViewed, WatchedHeadline};
 
-use crate::decode_stack::{decode_stack, decode_stack_in_threads};
-use crate::make::make;
-use crate::notices::notice;
-use crate::part::part_stack;
-use crate::search::search;
+use crate::notices::line_of;
+use crate::outcome::Outcome;
+use crate::shelve_stack::shelve_stack;
 use crate::status::Status;
+use crate::view_stack::{count_stack, is_watched, lists_notes, view_stack};
+use crate::work::{work_aside, work_here};
 use decoder_core::Keep;
 use decoder_set::AnyDecoder;
 use la_io::{Failed, Sink, Source, write_whole};
@@ -18,37 +22,53 @@ use stage_crew::Pacer;
 use std::alloc::Global;
 use std::sync::Wait;
 use std::thread::Threads;
-use words::{Job, WordsError, read_words};
+use view_store::ViewWriter;
+use words::{WordsError, read_words};
 
-// Runs what the words say.
+// The status of words that can't be read.
+fn refused(error: WordsError) -> Status
+    ensures { result ≡ status_at_words error }
+{
+    match error {
+        WordsError::Fault(fault) => Status::Words(fault),
+        WordsError::NoMemory => Status::NoMemory,
+    }
+}
+
+// Runs what the words say, and counts notes as a viewer does where they ask for one.
 fn run_words<S: Source, K: Sink>(
     alloc: Global,
     words: &[String],
     source: &mut S,
     sink: &mut K,
-) -> Status
-    ensures runs { Runs ⟦<AnyDecoder as Keep>⟧.saves (map string_bytes words.now)
+) -> Outcome
+    ensures runs { RunsViewed ⟦<AnyDecoder as Keep>⟧.saves (map string_bytes words.now)
         (S.left source.old) (S.left source.new) (K.written sink.old) (K.written sink.new) result }
-    ensures unread { WhereUnread (Good (map string_bytes words.now) NamesNoHead) result
+    ensures unread { WhereUnread (Good (map string_bytes words.now) NamesNoHead) result.status
         (source.new ≡ source.old) }
     ensures made { Good (map string_bytes words.now) IsMade → source.new ≡ source.old }
-    ensures read { SourceCause (S.faults source.old) (S.faults source.new) result }
-    ensures write { SinkCause (K.faults sink.old) (K.faults sink.new) result }
+    ensures read { SourceCause (S.faults source.old) (S.faults source.new) result.status }
+    ensures write { SinkCause (K.faults sink.old) (K.faults sink.new) result.status }
 {
     let settings = match read_words(alloc, words) {
         Ok(settings) => settings,
-        Err(WordsError::Fault(fault)) => return Status::Words(fault),
-        Err(WordsError::NoMemory) => return Status::NoMemory,
+        Err(error) => {
+            return Outcome {
+                status: refused(error),
+                seen: None,
+            };
+        }
     };
-    match settings.job {
-        Job::Find => search(alloc, &settings, source, sink),
-        Job::Decode => decode_stack(alloc, &settings, source, sink),
-        Job::Part => part_stack(alloc, &settings, source, sink),
-        Job::Make => make(alloc, settings.seed, settings.count, sink),
+    if is_watched(&settings) {
+        return count_stack(alloc, &settings, source, sink);
+    }
+    Outcome {
+        status: work_here(alloc, &settings, source, sink),
+        seen: None,
     }
 }
 
-// The same with threads, where the words ask for them.
+// The same with threads, where the words ask for them, and with a viewer in a thread of its own.
 fn run_words_in_threads<R: Threads + Wait + Sync, S: Source, K: Sink, P: Pacer + Sync>(
     rt: &R,
     alloc: Global,
@@ -56,9 +76,53 @@ fn run_words_in_threads<R: Threads + Wait + Sync, S: Source, K: Sink, P: Pacer +
     source: &mut S,
     sink: &mut K,
     pacer: &P,
-) -> Status
-    ensures runs { Runs ⟦<AnyDecoder as Keep>⟧.saves (map string_bytes words.now)
+) -> Outcome
+    ensures runs { RunsViewed ⟦<AnyDecoder as Keep>⟧.saves (map string_bytes words.now)
         (S.left source.old) (S.left source.new) (K.written sink.old) (K.written sink.new) result }
+    ensures unread { WhereUnread (Good (map string_bytes words.now) NamesNoHead) result.status
+        (source.new ≡ source.old) }
+    ensures made { Good (map string_bytes words.now) IsMade → source.new ≡ source.old }
+    ensures read { SourceCause (S.faults source.old) (S.faults source.new) result.status }
+    ensures write { SinkCause (K.faults sink.old) (K.faults sink.new) result.status }
+{
+    let settings = match read_words(alloc, words) {
+        Ok(settings) => settings,
+        Err(error) => {
+            return Outcome {
+                status: refused(error),
+                seen: None,
+            };
+        }
+    };
+    if is_watched(&settings) {
+        if settings.threads {
+            return view_stack(rt, alloc, &settings, source, sink, pacer);
+        }
+        return count_stack(alloc, &settings, source, sink);
+    }
+    Outcome {
+        status: work_aside(rt, alloc, &settings, source, sink, pacer),
+        seen: None,
+    }
+}
+
+// The same onto a new shelf, where the words ask for a listing of notes.
+fn shelve_words<R: Threads + Wait + Sync, S: Source, K: Sink, P: Pacer + Sync>(
+    rt: &R,
+    alloc: Global,
+    words: &[String],
+    source: &mut S,
+    sink: &mut K,
+    pacer: &P,
+    shelf: &mut ViewWriter,
+) -> Status
+    requires pending { pending shelf.old ≡ nothing }
+    requires published { published shelf.old ≡ nothing }
+    ensures runs { RunsShelved ⟦<AnyDecoder as Keep>⟧.saves (map string_bytes words.now)
+        (S.left source.old) (S.left source.new) (K.written sink.old) (K.written sink.new)
+        (published shelf.new) result }
+    ensures shelf { shelf_of shelf.new ≡ shelf_of shelf.old }
+    ensures left { (Good (map string_bytes words.now) ListsNotes → ⊥) → shelf.new ≡ shelf.old }
     ensures unread { WhereUnread (Good (map string_bytes words.now) NamesNoHead) result
         (source.new ≡ source.old) }
     ensures made { Good (map string_bytes words.now) IsMade → source.new ≡ source.old }
@@ -67,25 +131,20 @@ fn run_words_in_threads<R: Threads + Wait + Sync, S: Source, K: Sink, P: Pacer +
 {
     let settings = match read_words(alloc, words) {
         Ok(settings) => settings,
-        Err(WordsError::Fault(fault)) => return Status::Words(fault),
-        Err(WordsError::NoMemory) => return Status::NoMemory,
+        Err(error) => return refused(error),
     };
-    match settings.job {
-        Job::Find => search(alloc, &settings, source, sink),
-        Job::Decode if settings.threads => {
-            decode_stack_in_threads(rt, alloc, &settings, source, sink, pacer)
-        }
-        Job::Decode => decode_stack(alloc, &settings, source, sink),
-        Job::Part => part_stack(alloc, &settings, source, sink),
-        Job::Make => make(alloc, settings.seed, settings.count, sink),
+    if lists_notes(&settings) {
+        return shelve_stack(rt, alloc, &settings, source, sink, pacer, shelf);
     }
+    work_aside(rt, alloc, &settings, source, sink, pacer)
 }
 
-// Writes the line that tells of a status. Where the notices fail, a front of it is written.
-fn tell<E: Sink>(status: &Status, notices: &mut E)
-    ensures { Notified (stream E.written E.faults notices.old notices.new) status.now }
+// Writes the line that tells of a run. Where the notices fail, a front of it is written.
+fn tell<E: Sink>(outcome: &Outcome, notices: &mut E)
+    ensures { Notified (stream E.written E.faults notices.old notices.new)
+        (λ line. line ≡ line_of outcome.now.status outcome.now.seen) }
 {
-    let line = notice(status);
+    let line = line_of(outcome);
     match write_whole(notices, line.bytes()) {
         Ok(()) | Err(Failed) => {}
     }
@@ -101,6 +160,9 @@ fn tell<E: Sink>(status: &Status, notices: &mut E)
 /// only where the source failed, `WriteFault` exactly where the sink failed: a front of the listing
 /// is then written. `NoMemory`, for want of memory, may come in place of any status but
 /// `WriteFault`; a front of the listing, or nothing, is written then.
+///
+/// Where the words ask for a viewer of a listing, and the run is done, the notices get how many
+/// notes the listing has: a viewer that looks on sees them all.
 pub fn run_here<S: Source, K: Sink, E: Sink>(
     alloc: Global,
     words: &[String],
@@ -113,14 +175,18 @@ pub fn run_here<S: Source, K: Sink, E: Sink>(
         (stream K.written K.faults sink.old sink.new)
         (stream E.written E.faults notices.old notices.new) (source.new ≡ source.old) result }
 {
-    let status = run_words(alloc, words, source, sink);
-    tell(&status, notices);
-    status
+    let outcome = run_words(alloc, words, source, sink);
+    tell(&outcome, notices);
+    outcome.status
 }
 
 /// As `run_here`, but with a thread for each decoder where the words ask for threads: the same is
 /// written, in whatever order the threads run. It waits for the threads that it starts; where one
 /// can't be started, the work is done without it. The pacer says how much a decoder does in a turn.
+///
+/// Where the words ask for threads and for a viewer of a listing, that viewer looks at the notes
+/// from a thread of its own while the listing grows, and once more when the run is done: so the
+/// notices get how many notes it saw. Where it has no memory for that, the status is `NoMemory`.
 pub fn run<R: Threads + Wait + Sync, S: Source, K: Sink, E: Sink, P: Pacer + Sync>(
     rt: &R,
     alloc: Global,
@@ -135,7 +201,41 @@ pub fn run<R: Threads + Wait + Sync, S: Source, K: Sink, E: Sink, P: Pacer + Syn
         (stream K.written K.faults sink.old sink.new)
         (stream E.written E.faults notices.old notices.new) (source.new ≡ source.old) result }
 {
-    let status = run_words_in_threads(rt, alloc, words, source, sink, pacer);
-    tell(&status, notices);
+    let outcome = run_words_in_threads(rt, alloc, words, source, sink, pacer);
+    tell(&outcome, notices);
+    outcome.status
+}
+
+/// As `run`, onto a new shelf that readers look at: each note of a listing is added behind its
+/// line. It doesn't heed whether the words ask for a viewer, and tells its status alone.
+///
+/// Behind `Done`, `ReadFault` and `Capture` the shelf has all notes of what was written, and is
+/// ended; behind `WriteFault` and `NoMemory` it has the first of them, and isn't ended; behind any
+/// other status it has none, and is ended. Where the words have a fault, or ask for no listing of
+/// notes (another job, or binary data), it is left as it was. A shelf that finds no memory makes
+/// the status `NoMemory`. The run may wait for a reader that is inside an `ask`.
+pub fn run_watched<R: Threads + Wait + Sync, S: Source, K: Sink, E: Sink, P: Pacer + Sync>(
+    rt: &R,
+    alloc: Global,
+    words: &[String],
+    source: &mut S,
+    sink: &mut K,
+    notices: &mut E,
+    pacer: &P,
+    shelf: &mut ViewWriter,
+) -> Status
+    requires pending { pending shelf.old ≡ nothing }
+    requires published { published shelf.old ≡ nothing }
+    ensures headline { WatchedHeadline ⟦<AnyDecoder as Keep>⟧.saves (map string_bytes words.now)
+        (stream S.left S.faults source.old source.new)
+        (stream K.written K.faults sink.old sink.new)
+        (stream E.written E.faults notices.old notices.new) (source.new ≡ source.old)
+        (published shelf.new) result }
+    ensures shelf { shelf_of shelf.new ≡ shelf_of shelf.old }
+    ensures left { (Good (map string_bytes words.now) ListsNotes → ⊥) → shelf.new ≡ shelf.old }
+{
+    let status = shelve_words(rt, alloc, words, source, sink, pacer, shelf);
+    let outcome = Outcome { status, seen: None };
+    tell(&outcome, notices);
     status
 }

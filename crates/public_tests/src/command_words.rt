@@ -55,6 +55,14 @@ pub const FAULTS: &str = "\
 [--format=RAW] 0 0 Value
 [--threads maybe] 1 0 Value
 [--threads=Yes] 0 0 Value
+[--watch maybe i2c] 1 0 Value
+[--watch=Yes i2c] 0 0 Value
+[--job find --watch maybe D0=h] 3 0 Value
+[--job=make --watch=on] 1 0 Value
+[--watch] 0 0 NoValue
+[--watch=] 0 0 Empty
+[--watch yes i2c --watch=no] 3 0 Repeat
+[--watch=no --watch yes i2c] 1 0 Repeat
 # of two faults the first word's is told
 [--ring=x] 0 0 Value
 [--x --channels=0] 0 0 Unknown
@@ -112,6 +120,7 @@ pub const FAULTS: &str = "\
 [--rate=x/x] 0 0 Value
 # behind all words: too few, too many before what an alternative is, and faults of words before both
 [--threads=no] 1 0 Few
+[--watch=yes] 1 0 Few
 [--job decode] 2 0 Few
 [--job find] 2 0 Few
 [--job=find --ring 5 --rate=5] 4 0 Few
@@ -157,7 +166,7 @@ pub const FAULTS: &str = "\
 
 // The job, the channels, the rate, whether there are threads, and the ring; for a VCD capture the units of
 // a sample besides, for a CSV capture what its records are, and whether the first one names its columns; for
-// a capture that is made the seed and the count.
+// a capture that is made the seed and the count; and `watch` where a viewer is shown the listing.
 pub const VALUES: &str = "\
 [i2c] decode 8 1000000/1 yes 256
 [--job decode i2c] decode 8 1000000/1 yes 256
@@ -175,6 +184,12 @@ pub const VALUES: &str = "\
 [--rate=1000000000000000/1000000000 i2c] decode 8 1000000000000000/1000000000 yes 256
 [--threads no i2c] decode 8 1000000/1 no 256
 [--threads=yes i2c] decode 8 1000000/1 yes 256
+[--watch yes i2c] decode 8 1000000/1 yes 256 watch
+[--watch=no i2c] decode 8 1000000/1 yes 256
+[i2c --threads=no --watch=yes] decode 8 1000000/1 no 256 watch
+[--job find --watch yes D0=h] find 8 1000000/1 yes 256 watch
+[--watch=yes --job=part i2c] part 8 1000000/1 yes 256 watch
+[--job make --watch yes] make 8 1000000/1 yes 256 seed 1 count 1000 watch
 [--ring 1 i2c] decode 8 1000000/1 yes 1
 [--ring=16384 i2c] decode 8 1000000/1 yes 16384
 [--format vcd i2c] decode 8 1000000/1 yes 256 vcd 1
@@ -273,6 +288,9 @@ pub fn holds(alloc: Global, row: &str) -> Result<bool, Fail> {
     if settings.job == Job::Make {
         write!(values, " seed {} count {}", settings.seed, settings.count)?;
     }
+    if settings.watch {
+        values.push_str(" watch")?;
+    }
     let mut texts = String::new(alloc);
     if let Some(show) = &settings.show {
         write!(texts, "{}:{} of ", show.word, show.text)?;
@@ -305,4 +323,5 @@ binary (text) none
 seed (0 to 2147483647) 1
 count (1 to 1000000) 1000
 from (text) none
+watch (yes, no) no
 ";

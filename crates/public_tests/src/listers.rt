@@ -5,7 +5,7 @@ ghost use Rattle.std.specs.String.{string_bytes};
 use crate::stacks::word;
 use la_base::{Mark, Note, Piece};
 use la_io::{MarkTake, MemSink, Stopped};
-use note_lister::{ListStop, Lister};
+use note_lister::{ListStop, Lister, Unwatched};
 use stack_spec::{ChainWord, Stack, read_stack};
 use std::alloc::Global;
 use std::test::Fail;
@@ -54,7 +54,7 @@ fn a_line_is_written_once_no_earlier_one_can_come(rt: HostRuntime) -> Result<(),
     let stack = two_lines(alloc, None, None)?;
     assert!(rt; stack.count() == 2);
     let mut sink = MemSink::new(alloc, 100, Vec::new(alloc), 100).expect(&rt, "memory");
-    let mut lister = Lister::new(alloc, &stack, &mut sink).expect(&rt, "memory");
+    let mut lister = Lister::new(alloc, &stack, &mut sink, Unwatched).expect(&rt, "memory");
     assert!(rt; lister.take(1, byte(5, 65)) == Ok(()));
     assert!(rt; lister.take(1, Mark::Floor(5)) == Ok(()));
     // The first line may still give a note at 5.
@@ -81,7 +81,7 @@ fn a_line_of_an_instance_that_is_shown(rt: HostRuntime) -> Result<(), Fail> {
     let stack = two_lines(alloc, Some(&show), None)?;
     assert!(rt; stack.count() == 2);
     let mut sink = MemSink::new(alloc, 100, Vec::new(alloc), 100).expect(&rt, "memory");
-    let mut lister = Lister::new(alloc, &stack, &mut sink).expect(&rt, "memory");
+    let mut lister = Lister::new(alloc, &stack, &mut sink, Unwatched).expect(&rt, "memory");
     assert!(rt; lister.take(0, byte(5, 65)) == Ok(()));
     assert!(rt; lister.take(1, byte(6, 66)) == Ok(()));
     assert!(rt; lister.take(0, Mark::End) == Ok(()));
@@ -98,7 +98,7 @@ fn binary_data_is_written_as_it_comes(rt: HostRuntime) -> Result<(), Fail> {
     let stack = two_lines(alloc, None, Some(&binary))?;
     assert!(rt; stack.count() == 2);
     let mut sink = MemSink::new(alloc, 100, Vec::new(alloc), 100).expect(&rt, "memory");
-    let mut lister = Lister::new(alloc, &stack, &mut sink).expect(&rt, "memory");
+    let mut lister = Lister::new(alloc, &stack, &mut sink, Unwatched).expect(&rt, "memory");
     assert!(rt; lister.take(1, byte(5, 65)) == Ok(()));
     assert!(rt; lister.take(1, piece(5, 65)) == Ok(()));
     assert!(rt; lister.take(0, piece(5, 66)) == Ok(()));
@@ -117,7 +117,7 @@ fn a_failed_write_stops_it(rt: HostRuntime) -> Result<(), Fail> {
     let mut fails = Vec::new(alloc);
     fails.push(2).expect(&rt, "memory");
     let mut sink = MemSink::new(alloc, 4, fails, 100).expect(&rt, "memory");
-    let mut lister = Lister::new(alloc, &stack, &mut sink).expect(&rt, "memory");
+    let mut lister = Lister::new(alloc, &stack, &mut sink, Unwatched).expect(&rt, "memory");
     assert!(rt; lister.take(0, byte(5, 65)) == Ok(()));
     assert!(rt; lister.take(0, Mark::End) == Ok(()));
     assert!(rt; lister.take(1, Mark::End) == Err(Stopped));

@@ -26,7 +26,7 @@ use std::sync::Wait;
 use std::thread::Threads;
 
 // The files of rows.
-const FILES: [&str; 13] = [
+const FILES: [&str; 14] = [
     "i2c.txt",
     "spi_and_serial.txt",
     "onewire.txt",
@@ -38,6 +38,7 @@ const FILES: [&str; 13] = [
     "refused.txt",
     "limits.txt",
     "parts.txt",
+    "watched.txt",
     "cuts.txt",
     HOSTILE,
 ];

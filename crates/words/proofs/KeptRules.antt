@@ -18,7 +18,7 @@ use Rattle.words.specs.Readable.{IsShort}
 use Rattle.words.specs.Settings.{AreGood, unless_all, use_of, value_of, word_text}
 use Rattle.words.specs.Uses.{Part, Used, chains_of, is_of, parts_from, use_at, uses_of, why_value}
 use Rattle.words.specs.declared.options.Name.{Name}
-use Rattle.words.specs.declared.options.Name.TheVariants.{Job, Format, Channels, Rate, Down, Csv, Header, Threads, Ring, Show, Binary, Seed, Count, From}
+use Rattle.words.specs.declared.options.Name.TheVariants.{Job, Format, Channels, Rate, Down, Csv, Header, Threads, Ring, Show, Binary, Seed, Count, From, Watch}
 use Rattle.words.specs.declared.kinds.WordFault.{WordFault}
 use Rattle.words.proofs.Searches.{find_passes}
 use Rattle.words.proofs.Shapes.{Shape, chain, joined, split, shape_of}
@@ -110,6 +110,7 @@ named Binary = refl
 named Seed = refl
 named Count = refl
 named From = refl
+named Watch = refl
 
 -- so two options have two names
 same_name : (a b : Name) → bytes_eq (row a).name (row b).name ≡ true → a ≡ b
@@ -138,6 +139,7 @@ usual_good Binary = tt
 usual_good Seed = refl
 usual_good Count = refl
 usual_good From = tt
+usual_good Watch = refl
 
 good_value : (name : Name) (uses : List Used) → AllKept uses → IfSome (value_of name uses) (λ text. why_value (row name).takes text ≡ None)
 good_value name uses kept = by (use_of name uses) refl

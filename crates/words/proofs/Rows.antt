@@ -13,7 +13,7 @@ use Rattle.words.specs.Options.{row}
 use Rattle.words.specs.Settings.{use_of}
 use Rattle.words.specs.Uses.{Used, chains_of, is_given, is_of}
 use Rattle.words.specs.declared.options.Name.{Name}
-use Rattle.words.specs.declared.options.Name.TheVariants.{Job, Format, Channels, Rate, Down, Csv, Header, Threads, Ring, Show, Binary, Seed, Count, From}
+use Rattle.words.specs.declared.options.Name.TheVariants.{Job, Format, Channels, Rate, Down, Csv, Header, Threads, Ring, Show, Binary, Seed, Count, From, Watch}
 
 -- the values of an id, behind those that it has
 abbrev pub joined : Option (List Text) → List Text → Option (List Text)
@@ -101,6 +101,7 @@ other_ids Binary = refl
 other_ids Seed = refl
 other_ids Count = refl
 other_ids From = refl
+other_ids Watch = refl
 
 -- a use is of an option where its id is that option's name
 is_of-id : (name : Name) (o : Option Name) → bytes_eq (id_of o) (row name).name ≡ is_of name o
@@ -121,6 +122,7 @@ is_of-id name None = no_option name
     no_option Seed = refl
     no_option Count = refl
     no_option From = refl
+    no_option Watch = refl
 is_of-id name (Some other) = refl
 
 texts_at-none : (name : Name) (uses : List Used) → is_given name uses ≡ false → texts_at (row name).name uses ≡ []

@@ -13,7 +13,7 @@ use Rattle.words.specs.App.{chains_id}
 use Rattle.words.specs.Lexer.{Text, begins_option, long_of}
 use Rattle.words.specs.Options.{row}
 use Rattle.words.specs.declared.options.Name.{Name}
-use Rattle.words.specs.declared.options.Name.TheVariants.{Job, Format, Channels, Rate, Down, Csv, Header, Threads, Ring, Show, Binary, Seed, Count, From}
+use Rattle.words.specs.declared.options.Name.TheVariants.{Job, Format, Channels, Rate, Down, Csv, Header, Threads, Ring, Show, Binary, Seed, Count, From, Watch}
 
 abbrev pub Pending : Type 0
 Pending = Option (Text × List Text)
@@ -99,6 +99,7 @@ by_long Binary = refl
 by_long Seed = refl
 by_long Count = refl
 by_long From = refl
+by_long Watch = refl
 
 by_id : (name : Name) → arg_by_id built_rules (row name).name ≡ Some (built_option name)
 by_id Job = refl
@@ -115,6 +116,7 @@ by_id Binary = refl
 by_id Seed = refl
 by_id Count = refl
 by_id From = refl
+by_id Watch = refl
 
 bytes_eq-refl : (id : Text) → bytes_eq id id ≡ true
 bytes_eq-refl id = (bytes_eq-Decides id id).1 refl

@@ -6,7 +6,7 @@ use Rattle.words.specs.Lexer.{Text}
 use Rattle.words.specs.declared.options.Name.{Name}
 use Rattle.words.specs.declared.options.Name.TheVariants.{Job, Format, Channels, Rate, Down, Csv}
 use Rattle.words.specs.declared.options.Name.TheVariants.{Header, Threads, Ring, Show, Binary, Seed}
-use Rattle.words.specs.declared.options.Name.TheVariants.{Count, From}
+use Rattle.words.specs.declared.options.Name.TheVariants.{Count, From, Watch}
 
 -- the values that an option takes: one of some texts, a number from the first to the second, a
 -- rate, or any text
@@ -75,11 +75,17 @@ row Binary = record { name = codes "binary"; takes = Free; usual = None }
 row Seed = record { name = codes "seed"; takes = Number 0 2147483647; usual = Some (codes "1") }
 row Count = record { name = codes "count"; takes = Number 1 1000000; usual = Some (codes "1000") }
 row From = record { name = codes "from"; takes = Free; usual = None }
+row Watch =
+    record {
+      name = codes "watch";
+      takes = OneOf (codes "yes" ∷ codes "no" ∷ []);
+      usual = Some (codes "no");
+    }
 
 -- all options
 abbrev pub names : List Name
 names = Job ∷ Format ∷ Channels ∷ Rate ∷ Down ∷ Csv ∷ Header ∷ Threads ∷ Ring ∷ Show ∷ Binary ∷ Seed
-    ∷ Count ∷ From ∷ []
+    ∷ Count ∷ From ∷ Watch ∷ []
 
 -- the option that a text names
 abbrev pub name_of : Text → Option Name

@@ -45,6 +45,7 @@ pub record Values : Type 0 where
   pub seed : ℕ
   pub count : ℕ
   pub from : Option Text
+  pub watch : Bool
   pub chains : List WordText
 
 -- the number and the text of a use
@@ -108,6 +109,7 @@ values_of uses = record {
   seed = number_after 0 (text_of name.Seed uses);
   count = number_after 0 (text_of name.Count uses);
   from = value_of name.From uses;
+  watch = is_yes (text_of name.Watch uses);
   chains = map word_text (chains_of uses);
 }
 
@@ -210,5 +212,6 @@ meaning_of s = record {
   seed = s.seed;
   count = s.count;
   from = option_map string_bytes s.from;
+  watch = s.watch;
   chains = map chain_of s.chains.items;
 }

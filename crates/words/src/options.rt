@@ -24,6 +24,7 @@ pub enum Name {
     Seed,
     Count,
     From,
+    Watch,
 }
 
 /// The values that an option takes.
@@ -87,7 +88,7 @@ pub const MOST_SEED: u32 = 2_147_483_647;
 pub const MOST_COUNT: u32 = 1_000_000;
 
 /// The options, in the order in which they are told.
-pub const OPTIONS: [Name; 14] = [
+pub const OPTIONS: [Name; 15] = [
     Name::Job,
     Name::Format,
     Name::Channels,
@@ -102,6 +103,7 @@ pub const OPTIONS: [Name; 14] = [
     Name::Seed,
     Name::Count,
     Name::From,
+    Name::Watch,
 ];
 
 impl Name {
@@ -208,6 +210,12 @@ impl Name {
                 takes: Takes::Text,
                 usual: None,
                 help: "the checkpoint that the part before this one ended with",
+            },
+            Name::Watch => OptionRow {
+                name: "watch",
+                takes: Takes::OneOf(&["yes", "no"]),
+                usual: Some("no"),
+                help: "show a viewer the listing while it grows, and tell how many notes it saw",
             },
         }
     }

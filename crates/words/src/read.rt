@@ -81,6 +81,7 @@ fn settings(alloc: Global, matches: &ArgMatches, uses: &[Given]) -> Result<Setti
         seed,
         count,
         from,
+        watch: is_yes(text(matches, Name::Watch)),
         chains,
     })
 }

@@ -39,6 +39,8 @@ pub struct Settings {
     pub count: u64,
     /// The checkpoint with which an earlier part ended.
     pub from: Option<String>,
+    /// Whether a viewer is shown the listing while it grows.
+    pub watch: bool,
     /// The chains of decoders, or the alternatives of a condition; none where a capture is made.
     pub chains: Vec<ChainWord>,
     ghost channels_fit: { IsWithin (row Channels).takes channels },

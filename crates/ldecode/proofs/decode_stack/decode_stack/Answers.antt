@@ -1,29 +1,31 @@
-use Rattle.std.proofs.Common.{◌≡◌, sym, subst}
+use Rattle.std.proofs.Common.{◌≡◌}
 use Rattle.words.specs.Settings.{meaning_of}
 use Rattle.ldecode.specs.Asking.{NamesNoHead}
-use Rattle.ldecode.specs.Headline.{SinkCause, SourceCause, WhereUnread, WorksOn}
-use Rattle.ldecode.specs.declared.status.Status.{Status}
-use Rattle.ldecode.proofs.Opened.{comes_of}
+use Rattle.ldecode.specs.Watching.{IsSeen, IsSeenFront}
+use Rattle.ldecode.proofs.Decoding.{decoded_of}
 use Rattle.ldecode.proofs.Working.{sink_cause, source_cause, unread_at_end}
 use Rattle.ldecode.proofs.decode_stack.decode_stack.Goals as goal
 
 pub returns-in-Err-clause-write : goal.returns-in-Err-clause-write
 returns-in-Err-clause-write g c = c.in-Err.ensures.write (g.K.Sink.faults c.args.sink.now)
 
-pub returns : goal.returns
-returns g c =
+pub returns-clause-decodes : goal.returns-clause-decodes
+returns-clause-decodes g c =
     let opened = c.in-Ok.ensures.opened in
-    let decodes = c.decode.ensures in
-    let values = meaning_of c.args.settings.now in
+    let ran = c.decode-end in
     let left = g.S.Source.left in
     let k = g.K.Sink in
-    let end = c.decode.result in
-    let same = sym c.from.ensures in
-    record {
-      works = subst (WorksOn _ values (left c.args.source.now) (left c.decode.new.source) (k.written c.args.sink.now) (k.written c.decode.new.sink)) same
-          (comes_of _ values c.requires.job (left c.args.source.now) (left c.open_stack.new.source) (left c.decode.new.source) (k.written c.args.sink.now) (k.written c.decode.new.sink) c.in-Ok.opened opened c.deref.result.now c.deref.ensures.value end (decodes.lists opened.bytes opened.told opened.at opened.stands opened.consumed));
-      unread = subst (λ (s : Status). WhereUnread (NamesNoHead values) s (c.decode.new.source ≡ c.args.source.now)) same (unread_at_end (NamesNoHead values) (c.decode.new.source ≡ c.args.source.now) end);
-      read = subst (SourceCause (g.S.Source.faults c.args.source.now) (g.S.Source.faults c.decode.new.source)) same
-          (source_cause (g.S.Source.faults c.args.source.now) (g.S.Source.faults c.open_stack.new.source) (g.S.Source.faults c.decode.new.source) end c.in-Ok.ensures.kept decodes.read);
-      write = subst (SinkCause (k.faults c.args.sink.now) (k.faults c.decode.new.sink)) same (sink_cause (k.faults c.args.sink.now) (k.faults c.decode.new.sink) end decodes.write);
-    }
+    let saw = g.W.Watch.saw ran.result.1 in
+    let old = k.written c.args.sink.now in
+    let new = k.written ran.new.sink in
+    decoded_of _ (meaning_of c.args.settings.now) c.requires.job (left c.args.source.now) (left c.open_stack.new.source) (left ran.new.source) c.in-Ok.opened opened (IsSeen saw old new) (IsSeenFront saw old new) c.deref.result.now c.deref.ensures.value ran.result.0
+    (ran.ensures.decodes.lists opened.bytes opened.told opened.at opened.stands opened.consumed)
+
+pub returns-clause-unread : goal.returns-clause-unread
+returns-clause-unread g c = unread_at_end (NamesNoHead (meaning_of c.args.settings.now)) (c.decode-end.new.source ≡ c.args.source.now) c.decode-end.result.0
+
+pub returns-clause-read : goal.returns-clause-read
+returns-clause-read g c = source_cause (g.S.Source.faults c.args.source.now) (g.S.Source.faults c.open_stack.new.source) (g.S.Source.faults c.decode-end.new.source) c.decode-end.result.0 c.in-Ok.ensures.kept c.decode-end.ensures.decodes.read
+
+pub returns-clause-write : goal.returns-clause-write
+returns-clause-write g c = sink_cause (g.K.Sink.faults c.args.sink.now) (g.K.Sink.faults c.decode-end.new.sink) c.decode-end.result.0 c.decode-end.ensures.decodes.write

@@ -1,44 +1,37 @@
 use Rattle.std.proofs.Common.{rules, ◌≡◌, ℕ, List, map, inr, sym, ◌∙◌, subst, Ok, Err}
 use Rattle.la_base.specs.declared.samples.TheConstants.{MOST_PINS}
 use Rattle.la_base.specs.declared.samples.Rate.{Rate}
-use Rattle.capture_any.specs.Reading.{form_of, names_of, pins_of, rate_of}
+use Rattle.capture_any.specs.Reading.{form_of, names_of, rate_of}
 use Rattle.stack_spec.specs.BindSteps.{Binds}
 use Rattle.stack_spec.specs.Stacks.{stack_meaning}
 use Rattle.stack_spec.specs.declared.faults.BindFault.{BindFault}
 use Rattle.stack_spec.specs.declared.faults.BindError.{BindError}
 use Rattle.stack_spec.specs.declared.faults.BindError.TheVariants.{Fault}
 use Rattle.words.specs.Settings.{meaning_of}
-use Rattle.ldecode.specs.Asking.{nodes_of, setups_in}
-use Rattle.std.specs.Io.KnownBytes.{Appends}
-use Rattle.la_io.specs.Causes.{AppendsFront}
-use Rattle.capture_any.specs.Listings.{Lists}
-use Rattle.decoder_core.specs.Trees.{Node}
+use Rattle.capture_any.specs.declared.form.Form.{Form}
+use Rattle.ldecode.specs.Asking.{AsksStack, HasHead, IsFormOf, nodes_of, setups_in}
 use Rattle.decoder_set.specs.Opening.{setup_of}
-use Rattle.decoder_set.specs.Setups.{outs_of}
 use Rattle.tree_runs.specs.Runs.{nodes_of as tree_nodes}
-use Rattle.decoder_set.specs.declared.setup.Setup.{Setup}
-use Rattle.decode_job.specs.Listing.{tree_output}
-use Rattle.ldecode.specs.Headline.{WorksOn}
-use Rattle.ldecode.specs.declared.status.Status.{Status}
+use Rattle.ldecode.specs.Headline.{RefusesOn}
 use Rattle.ldecode.specs.declared.status.Status.TheVariants.{Bind}
 use Rattle.ldecode.proofs.Stacked.{as_many_machines, as_many_parents, asked_setups, bound_nodes, stack_asks, stack_forest, stack_refused, the_stack}
 use Rattle.ldecode.proofs.Opened.{parts_on, refuses_on}
-use Rattle.ldecode.proofs.Working.{binding_fails, decoding_ends, no_head_here, no_room, no_room_to_bind, opening_fails}
+use Rattle.ldecode.proofs.Working.{binding_fails, no_head_here, no_room, no_room_to_bind, opening_fails}
 use Rattle.ldecode.proofs.open_stack.open_stack.Goals as goal
 
-pub returns-in-Err-NoMemory-clause-works : goal.returns-in-Err-NoMemory-clause-works
-returns-in-Err-NoMemory-clause-works g c = no_room _ (meaning_of c.args.settings.now) (g.S.Source.left c.args.source.now)
+pub returns-in-Err-NoMemory-clause-refuses : goal.returns-in-Err-NoMemory-clause-refuses
+returns-in-Err-NoMemory-clause-refuses g c = no_room (meaning_of c.args.settings.now) (g.S.Source.left c.args.source.now)
 
-pub returns-in-Err-clause-works : goal.returns-in-Err-clause-works
-returns-in-Err-clause-works g c = λ written.
+pub returns-in-Err-clause-refuses : goal.returns-in-Err-clause-refuses
+returns-in-Err-clause-refuses g c =
     let values = meaning_of c.args.settings.now in
     let accepted = stack_meaning c.in-Ok.stack in
     let stacks = the_stack c.args.settings.now c.deref.result.now c.as_ref.result c.as_ref-2.result c.in-Ok.stack c.requires.job c.deref.ensures.value c.as_ref.ensures.value c.as_ref-2.ensures.value c.in-Ok.ensures.gives in
-    subst (λ (s : Status). WorksOn _ values (g.S.Source.left c.args.source.now) (g.S.Source.left c.open.new.source) written written s) (sym c.status_at_head.ensures)
-    (opening_fails _ values c.form_of.result c.form_of.ensures.named (inr (accepted, stacks)) (g.S.Source.left c.args.source.now) (g.S.Source.left c.open.new.source) written c.in-Err.error c.in-Err.ensures.opens)
+    subst (RefusesOn values (g.S.Source.left c.args.source.now) (g.S.Source.left c.open.new.source)) (sym c.status_at_head.ensures)
+    (opening_fails values c.form_of.result c.form_of.ensures.named (inr (accepted, stacks)) (g.S.Source.left c.args.source.now) (g.S.Source.left c.open.new.source) c.in-Err.error c.in-Err.ensures.opens)
 
-pub returns-in-Err-Fault-bind-clause-works : goal.returns-in-Err-Fault-bind-clause-works
-returns-in-Err-Fault-bind-clause-works g c = λ written.
+pub returns-in-Err-Fault-bind-clause-refuses : goal.returns-in-Err-Fault-bind-clause-refuses
+returns-in-Err-Fault-bind-clause-refuses g c =
     let values = meaning_of c.args.settings.now in
     let capture = c.in-Ok-open.capture in
     let accepted = stack_meaning c.in-Ok.stack in
@@ -47,8 +40,8 @@ returns-in-Err-Fault-bind-clause-works g c = λ written.
     let refused = subst (λ (n : List (List ℕ)). Binds MOST_PINS n (rate_of capture) accepted.instances (Err (Fault fault))) c.names.ensures
     (subst (λ (r : Rate). Binds MOST_PINS c.names.result.now r accepted.instances (Err (Fault fault))) c.rate.ensures
     (subst (λ (e : BindError). Binds MOST_PINS c.names.result.now c.rate.result accepted.instances (Err e)) c.in-Err-Fault-bind.field-0-is c.in-Err-Fault-bind.ensures.binds)) in
-    subst (λ (f : BindFault). WorksOn _ values (g.S.Source.left c.args.source.now) (g.S.Source.left c.open.new.source) written written (Bind f)) (sym c.in-Err-Fault-bind.fault-is)
-    (binding_fails _ values c.form_of.result c.form_of.ensures.named (inr (accepted, stacks)) (g.S.Source.left c.args.source.now) (g.S.Source.left c.open.new.source) written capture c.in-Ok-open.ensures.opens fault (stack_refused values (names_of capture) (rate_of capture) accepted stacks fault refused))
+    subst (λ (f : BindFault). RefusesOn values (g.S.Source.left c.args.source.now) (g.S.Source.left c.open.new.source) (Bind f)) (sym c.in-Err-Fault-bind.fault-is)
+    (binding_fails values c.form_of.result c.form_of.ensures.named (inr (accepted, stacks)) (g.S.Source.left c.args.source.now) (g.S.Source.left c.open.new.source) capture c.in-Ok-open.ensures.opens fault (stack_refused values (names_of capture) (rate_of capture) accepted stacks fault refused))
 
 pub returns-in-Err-Fault-bind-clause-unread : goal.returns-in-Err-Fault-bind-clause-unread
 returns-in-Err-Fault-bind-clause-unread g c = λ names. c.in-Ok-open.ensures.unread (no_head_here (meaning_of c.args.settings.now) c.form_of.result c.form_of.ensures.named names)
@@ -67,6 +60,7 @@ returns-clause-opened g c =
     (subst (λ (r : Rate). Binds MOST_PINS c.names.result.now r accepted.instances (Ok bound)) c.rate.ensures here.binds) in
     let nodes = nodes_of accepted.instances is_bound.read in
     let left = g.S.Source.left in
+    let form_stays : form_of now ≡ c.form_of.result = c.select.ensures.form ∙ c.in-Ok-open.ensures.form in
     let asks = stack_asks values (names_of capture) (rate_of capture) accepted stacks bound.pins.items is_bound.read is_bound.reads is_bound.pins in
     let parents = as_many_parents (names_of capture) (rate_of capture) accepted.instances bound is_bound in
     let setups : map setup_of bound.machines.items ≡ setups_in asks.stack = is_bound.setups ∙ sym (asked_setups values (names_of capture) (rate_of capture) accepted stacks bound.pins.items is_bound.read is_bound.reads is_bound.pins) in
@@ -81,15 +75,16 @@ returns-clause-opened g c =
       consumed = is_bound.consumed;
       bytes = opens.bytes;
       told = opens.opened.0;
+      taken = opens.consumed;
       at = opens.opened.1;
       stands = c.select.ensures.stands opens.bytes opens.opened.0 opens.opened.2;
-      lacks = λ written. no_room_to_bind _ values c.form_of.result c.form_of.ensures.named (inr (accepted, stacks)) (left c.args.source.now) (left c.open.new.source) written capture opens;
+      names = names_of capture;
+      rate = rate_of capture;
+      form_is = subst (IsFormOf values) (sym form_stays) c.form_of.ensures.named;
+      head = subst (λ (f : Form). HasHead f opens.bytes opens.opened.0 (names_of capture) (rate_of capture)) (sym form_stays) opens.opened.3;
+      asks = subst (λ (p : List ℕ). AsksStack values (names_of capture) (rate_of capture) p accepted (tree_nodes (map setup_of bound.machines.items) bound.parents.items)) (sym c.select.ensures.pins)
+          (subst (AsksStack values (names_of capture) (rate_of capture) bound.pins.items accepted) (sym (bound_nodes (names_of capture) (rate_of capture) accepted.instances bound is_bound)) asks);
       refuses = λ job written fault cant. refuses_on _ values c.form_of.result c.form_of.ensures.named (inr (accepted, stacks)) (left c.args.source.now) (left c.open.new.source) written capture opens (map setup_of bound.machines.items) asks.stack setups job fault cant;
-      works = λ job left_new old new end lists.
-          let lists_of = λ (some : List (Node Setup)). Lists (form_of now) (pins_of now) (λ samples. Appends old new (tree_output outs_of accepted some samples)) (λ samples. AppendsFront old new (tree_output outs_of accepted some samples)) opens.bytes opens.opened.0 (left c.open.new.source) left_new end in
-          decoding_ends _ values c.form_of.result c.form_of.ensures.named (inr (accepted, stacks)) (left c.args.source.now) (left c.open.new.source) old capture opens now bound.pins.items
-          (c.select.ensures.form ∙ c.in-Ok-open.ensures.form) c.select.ensures.pins left_new new job accepted nodes end asks
-          (subst lists_of (bound_nodes (names_of capture) (rate_of capture) accepted.instances bound is_bound) lists);
       parts = λ job count can left_new old new end lists.
           parts_on _ values c.form_of.result c.form_of.ensures.named (inr (accepted, stacks)) (left c.args.source.now) (left c.open.new.source) old capture opens (map setup_of bound.machines.items) now bound.pins.items
           (c.select.ensures.form ∙ c.in-Ok-open.ensures.form) c.select.ensures.pins left_new new c.form_of.ensures.fits job accepted nodes (tree_nodes (map setup_of bound.machines.items) bound.parents.items)
@@ -98,3 +93,6 @@ returns-clause-opened g c =
 
 pub returns-clause-headless : goal.returns-clause-headless
 returns-clause-headless g c = λ names. c.in-Ok-open.ensures.unread (no_head_here (meaning_of c.args.settings.now) c.form_of.result c.form_of.ensures.named names)
+
+pub returns-in-Err-NoMemory-bind-clause-refuses : goal.returns-in-Err-NoMemory-bind-clause-refuses
+returns-in-Err-NoMemory-bind-clause-refuses g c = no_room_to_bind (meaning_of c.args.settings.now) c.form_of.result c.form_of.ensures.named (inr (stack_meaning c.in-Ok.stack, the_stack c.args.settings.now c.deref.result.now c.as_ref.result c.as_ref-2.result c.in-Ok.stack c.requires.job c.deref.ensures.value c.as_ref.ensures.value c.as_ref-2.ensures.value c.in-Ok.ensures.gives)) (g.S.Source.left c.args.source.now) (g.S.Source.left c.open.new.source) c.in-Ok-open.capture c.in-Ok-open.ensures.opens

@@ -10,14 +10,14 @@ use Rattle.ldecode.specs.Chosen.{AreTerms, Chooses}
 use Rattle.ldecode.specs.Headline.{WorksOn}
 use Rattle.ldecode.specs.declared.status.Status.{Status}
 use Rattle.ldecode.proofs.Asked.{search_asks, search_refused, the_search}
-use Rattle.ldecode.proofs.Working.{binding_fails, no_head_here, opening_fails, search_ends}
+use Rattle.ldecode.proofs.Working.{binding_fails, no_head_here, opening_fails, search_ends, works_refused}
 use Rattle.ldecode.proofs.search.search.Goals as goal
 
 pub returns-in-Err-clause-works : goal.returns-in-Err-clause-works
 returns-in-Err-clause-works g c =
     let values = meaning_of c.args.settings.now in
     subst (λ (s : Status). WorksOn _ values (g.S.Source.left c.args.source.now) (g.S.Source.left c.open.new.source) (g.K.Sink.written c.args.sink.now) (g.K.Sink.written c.args.sink.now) s) (sym c.status_at_head.ensures)
-    (opening_fails _ values c.form_of.result c.form_of.ensures.named (inl c.requires.job) _ _ _ c.in-Err.error c.in-Err.ensures.opens)
+    (works_refused _ values _ _ (g.K.Sink.written c.args.sink.now) _ (opening_fails values c.form_of.result c.form_of.ensures.named (inl c.requires.job) _ _ c.in-Err.error c.in-Err.ensures.opens))
 
 pub returns-in-Err-Fault-clause-works : goal.returns-in-Err-Fault-clause-works
 returns-in-Err-Fault-clause-works g c =
@@ -26,7 +26,7 @@ returns-in-Err-Fault-clause-works g c =
     let s = the_search c.args.settings.now c.requires.job (c.requires.readable.good refl) in
     let terms = subst (λ (l : List ChainWord). AreTerms l s.0) (sym c.deref.ensures.value) s.1 in
     let refused = subst (λ (n : List (List ℕ)). Chooses n s.0 (Err (Fault c.in-Err-Fault.fault))) c.names.ensures (subst (λ (e : BindError). Chooses c.names.result.now s.0 (Err e)) c.in-Err-Fault.field-0-is (c.in-Err-Fault.ensures.chooses s.0 terms)) in
-    binding_fails _ values c.form_of.result c.form_of.ensures.named (inl c.requires.job) _ _ _ capture c.in-Ok.ensures.opens c.in-Err-Fault.fault (search_refused values (names_of capture) (rate_of capture) s.0 s.2 c.in-Err-Fault.fault refused)
+    works_refused _ values _ _ (g.K.Sink.written c.args.sink.now) _ (binding_fails values c.form_of.result c.form_of.ensures.named (inl c.requires.job) _ _ capture c.in-Ok.ensures.opens c.in-Err-Fault.fault (search_refused values (names_of capture) (rate_of capture) s.0 s.2 c.in-Err-Fault.fault refused))
 
 pub returns-clause-works : goal.returns-clause-works
 returns-clause-works g c =

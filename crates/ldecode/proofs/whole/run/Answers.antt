@@ -1,9 +1,15 @@
-use Rattle.std.proofs.Common.{◌≡◌, map}
+use Rattle.std.proofs.Common.{◌≡◌, map, List, ℕ}
 use Rattle.std.specs.String.{string_bytes}
-use Rattle.ldecode.specs.Headline.{stream}
-use Rattle.ldecode.proofs.Headlines.{headline}
+use Rattle.la_io.specs.Capture.{Told}
+use Rattle.ldecode.specs.Headline.{IsLine, stream}
+use Rattle.ldecode.proofs.Headlines.{line_told, promises}
 use Rattle.ldecode.proofs.whole.run.Goals as goal
 
 pub returns : goal.returns
-returns g c = headline _ (map string_bytes c.args.words.now) (stream g.S.Source.left g.S.Source.faults c.args.source.now c.run_words_in_threads-status.new.source) (stream g.K.Sink.written g.K.Sink.faults c.args.sink.now c.run_words_in_threads-status.new.sink)
-    (stream g.E.Sink.written g.E.Sink.faults c.args.notices.now c.tell.new.notices) (c.run_words_in_threads-status.new.source ≡ c.args.source.now) c.run_words_in_threads-status.result c.run_words_in_threads-status.ensures.runs c.run_words_in_threads-status.ensures.read c.run_words_in_threads-status.ensures.write c.run_words_in_threads-status.ensures.unread c.run_words_in_threads-status.ensures.made c.tell.ensures
+returns g c =
+    let ran = c.run_words_in_threads-outcome in
+    let words = map string_bytes c.args.words.now in
+    let notices = stream g.E.Sink.written g.E.Sink.faults c.args.notices.now c.tell.new.notices in
+    promises _ words (stream g.S.Source.left g.S.Source.faults c.args.source.now ran.new.source) (stream g.K.Sink.written g.K.Sink.faults c.args.sink.now ran.new.sink) notices (ran.new.source ≡ c.args.source.now) ran.result.status
+    ran.ensures.runs.runs ran.ensures.read ran.ensures.write (λ (bytes : List ℕ) (told : Told) (line : List ℕ). IsLine words bytes told ran.result.status line) ran.ensures.unread ran.ensures.made
+    (line_told words ran.ensures.runs.runs.bytes ran.ensures.runs.runs.told ran.result.status ran.result.seen ran.ensures.runs.saw notices c.tell.ensures)

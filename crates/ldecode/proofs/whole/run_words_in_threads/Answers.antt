@@ -1,27 +1,17 @@
-use Rattle.std.proofs.Common.{map}
+use Rattle.std.proofs.Common.{map, None, refl}
 use Rattle.std.specs.String.{string_bytes}
 use Rattle.words.specs.Settings.{meaning_of}
-use Rattle.ldecode.proofs.Running.{no_words_read, runs_made, runs_on}
+use Rattle.ldecode.proofs.Running.{refused_viewed, unwatched, viewed}
 use Rattle.ldecode.proofs.whole.run_words_in_threads.Goals as goal
 
-pub returns-in-Err-NoMemory-clause-runs : goal.returns-in-Err-NoMemory-clause-runs
-returns-in-Err-NoMemory-clause-runs g c = no_words_read _ (map string_bytes c.args.words.now) (g.S.Source.left c.args.source.now) (g.K.Sink.written c.args.sink.now)
+pub returns-in-Err-clause-runs : goal.returns-in-Err-clause-runs
+returns-in-Err-clause-runs g c = refused_viewed _ (map string_bytes c.args.words.now) c.in-Err.error c.in-Err.ensures.gives (g.S.Source.left c.args.source.now) (g.K.Sink.written c.args.sink.now) c.refused.result c.refused.ensures
 
-pub returns-in-Find-clause-runs : goal.returns-in-Find-clause-runs
-returns-in-Find-clause-runs g c = runs_on _ (map string_bytes c.args.words.now) (meaning_of c.in-Ok.settings) c.in-Ok.ensures.gives
-    (g.S.Source.left c.args.source.now) (g.S.Source.left c.search.new.source) (g.K.Sink.written c.args.sink.now) (g.K.Sink.written c.search.new.sink) c.search.result c.search.ensures.works
+pub returns-then-settings-clause-runs : goal.returns-then-settings-clause-runs
+returns-then-settings-clause-runs g c = viewed _ (map string_bytes c.args.words.now) (meaning_of c.in-Ok.settings) c.in-Ok.ensures.gives (g.S.Source.left c.args.source.now) (g.S.Source.left c.view_stack.new.source) (g.K.Sink.written c.args.sink.now) (g.K.Sink.written c.view_stack.new.sink) c.view_stack.result c.view_stack.ensures.views
 
-pub returns-in-Decode-clause-runs : goal.returns-in-Decode-clause-runs
-returns-in-Decode-clause-runs g c = runs_on _ (map string_bytes c.args.words.now) (meaning_of c.in-Ok.settings) c.in-Ok.ensures.gives
-    (g.S.Source.left c.args.source.now) (g.S.Source.left c.decode_stack_in_threads.new.source) (g.K.Sink.written c.args.sink.now) (g.K.Sink.written c.decode_stack_in_threads.new.sink) c.decode_stack_in_threads.result c.decode_stack_in_threads.ensures.works
-
-pub returns-in-Decode-2-clause-runs : goal.returns-in-Decode-2-clause-runs
-returns-in-Decode-2-clause-runs g c = runs_on _ (map string_bytes c.args.words.now) (meaning_of c.in-Ok.settings) c.in-Ok.ensures.gives
-    (g.S.Source.left c.args.source.now) (g.S.Source.left c.decode_stack.new.source) (g.K.Sink.written c.args.sink.now) (g.K.Sink.written c.decode_stack.new.sink) c.decode_stack.result c.decode_stack.ensures.works
-
-pub returns-in-Part-clause-runs : goal.returns-in-Part-clause-runs
-returns-in-Part-clause-runs g c = runs_on _ (map string_bytes c.args.words.now) (meaning_of c.in-Ok.settings) c.in-Ok.ensures.gives
-    (g.S.Source.left c.args.source.now) (g.S.Source.left c.part_stack.new.source) (g.K.Sink.written c.args.sink.now) (g.K.Sink.written c.part_stack.new.sink) c.part_stack.result c.part_stack.ensures.works
+pub returns-then-is_watched-clause-runs : goal.returns-then-is_watched-clause-runs
+returns-then-is_watched-clause-runs g c = viewed _ (map string_bytes c.args.words.now) (meaning_of c.in-Ok.settings) c.in-Ok.ensures.gives (g.S.Source.left c.args.source.now) (g.S.Source.left c.count_stack.new.source) (g.K.Sink.written c.args.sink.now) (g.K.Sink.written c.count_stack.new.sink) c.count_stack.result c.count_stack.ensures.views
 
 pub returns-clause-runs : goal.returns-clause-runs
-returns-clause-runs g c = runs_made _ (map string_bytes c.args.words.now) (meaning_of c.in-Ok.settings) c.in-Ok.ensures.gives c.in-Make.is (g.S.Source.left c.args.source.now) (g.K.Sink.written c.args.sink.now) (g.K.Sink.written c.make.new.sink) c.make.result c.make.ensures.makes
+returns-clause-runs g c = unwatched _ (map string_bytes c.args.words.now) (meaning_of c.in-Ok.settings) c.in-Ok.ensures.gives (c.is_watched.ensures.no c.if-is_watched.false) (g.S.Source.left c.args.source.now) (g.S.Source.left c.work_aside.new.source) (g.K.Sink.written c.args.sink.now) (g.K.Sink.written c.work_aside.new.sink) (record { status = c.work_aside.result; seen = None }) refl c.work_aside.ensures.does

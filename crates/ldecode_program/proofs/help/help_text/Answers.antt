@@ -33,7 +33,7 @@ pub returns : goal.returns
 returns c =
     let named = c.loop-name.invariant in
     let kinds = c.loop-kind.invariant in
-    let all_named : c.loop-name.name-index ≡ 14 = omega (arith, c.loop-name-test.false, c.loop-name.auto.name-index-end) in
+    let all_named : c.loop-name.name-index ≡ 15 = omega (arith, c.loop-name-test.false, c.loop-name.auto.name-index-end) in
     let all_kinds : c.loop-kind.kind-index ≡ 12 = omega (arith, c.loop-kind-test.false, c.loop-kind.auto.kind-index-end) in
     let first : string_bytes c.loop-name.text ≡ USAGE.now ++ named.0 = named.1 ∙ ap (λ (l : List ℕ). l ++ named.0) c.in_ok-text.ensures.ok in
     let second : string_bytes c.push_str-2.new.self ≡ string_bytes c.loop-name.text ++ DECODERS.now = c.in_ok-push_str-2.ensures.bytes in

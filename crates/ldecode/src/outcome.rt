@@ -1,0 +1,10 @@
+// How a run ended, and what a viewer saw of it.
+
+use crate::status::Status;
+
+/// How a run ended, and of one that is done how many notes a viewer saw, where one looked on.
+#[derive(Clone, Copy, Debug, PartialEq, Eq)]
+pub(crate) struct Outcome {
+    pub(crate) status: Status,
+    pub(crate) seen: Option<u64>,
+}

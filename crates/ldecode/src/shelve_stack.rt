@@ -1,0 +1,84 @@
+// A decoding whose notes come on a shelf.
+ghost use Rattle.std.specs.Prelude.{◌≡◌, ◌≤◌, IfSome};
+ghost use Rattle.view_store.specs.Listings.{nothing};
+ghost use Rattle.view_store.specs.Views.{pending, published, shelf_of};
+ghost use Rattle.words.specs.Readable.{IsReadable, IsShort};
+ghost use Rattle.words.specs.Settings.{meaning_of};
+ghost use Rattle.words.specs.declared.kinds.Job.TheVariants.{Decode};
+ghost use Rattle.shelf_watch.specs.Watches.{shelf_ref};
+ghost use Rattle.ldecode.specs.Asking.{NamesNoHead};
+ghost use Rattle.ldecode.specs.Headline.{SinkCause, SourceCause, WhereUnread};
+ghost use Rattle.ldecode.specs.Watching.{EndsShelf, ShelvesOn};
+
+use crate::decode_stack::decode_stack_as_asked;
+use crate::status::{Status, status_by};
+use la_base::NoMemory;
+use la_io::{Sink, Source};
+use shelf_watch::ShelfWatch;
+use stage_crew::Pacer;
+use std::alloc::Global;
+use std::sync::Wait;
+use std::thread::Threads;
+use view_store::ViewWriter;
+use words::Settings;
+
+// Ends the shelf of a decoding with this status, and answers want of memory where there is none to
+// end it. A shelf to which more notes belong isn't ended.
+fn end_shelf<'a, R: Wait>(status: Status, watch: ShelfWatch<'a, R>) -> (&'a mut ViewWriter, Status)
+    ensures same_reference { result.0.ghost_name ≡ (shelf_ref watch.entry).ghost_name }
+    ensures shelf { shelf_of result.0.now ≡ shelf_of (shelf_ref watch.entry).now }
+    ensures ends { EndsShelf status (pending (shelf_ref watch.entry).now)
+        (published (shelf_ref watch.entry).now) result.1 (published result.0.now) }
+{
+    match status {
+        Status::WriteFault | Status::NoMemory => (watch.into_shelf(), status),
+        Status::Done
+        | Status::Words(_)
+        | Status::Stack(_)
+        | Status::Bind(_)
+        | Status::Check(_)
+        | Status::ReadFault
+        | Status::Capture(_) => match watch.finish() {
+            (shelf, Ok(())) => (shelf, status),
+            (shelf, Err(NoMemory)) => (shelf, Status::NoMemory),
+        },
+    }
+}
+
+// Does nothing; but this use of a reference that came back is what ties it, for the borrow checker,
+// to the one that was lent.
+fn goes_back<T>(lent: &mut T)
+    ensures { lent.new ≡ lent.old }
+{}
+
+/// Decodes the capture under the stack that the settings ask for, with a thread for each decoder
+/// where they ask for threads, and adds each note of the listing to a new shelf behind its line.
+pub(crate) fn shelve_stack<R: Threads + Wait + Sync, P: Pacer + Sync, S: Source, K: Sink>(
+    rt: &R,
+    alloc: Global,
+    settings: &Settings,
+    source: &mut S,
+    sink: &mut K,
+    pacer: &P,
+    shelf: &mut ViewWriter,
+) -> Status
+    requires job { settings.now.job ≡ Decode }
+    requires readable { IsReadable Decode settings.now.chains.items }
+    requires shown { IfSome settings.now.show IsShort }
+    requires binary { IfSome settings.now.binary IsShort }
+    requires pending { pending shelf.old ≡ nothing }
+    requires published { published shelf.old ≡ nothing }
+    ensures shelved { ShelvesOn (meaning_of settings.now) (S.left source.old) (S.left source.new)
+        (K.written sink.old) (K.written sink.new) (published shelf.new) result }
+    ensures shelf { shelf_of shelf.new ≡ shelf_of shelf.old }
+    ensures unread { WhereUnread (NamesNoHead (meaning_of settings.now)) result
+        (source.new ≡ source.old) }
+    ensures read { SourceCause (S.faults source.old) (S.faults source.new) result }
+    ensures write { SinkCause (K.faults sink.old) (K.faults sink.new) result }
+{
+    let watch = ShelfWatch::new(rt, shelf);
+    let (ended, watch) = decode_stack_as_asked(rt, alloc, settings, source, sink, pacer, watch);
+    let (shelf, status) = end_shelf(status_by(ended), watch);
+    goes_back(shelf);
+    status
+}

@@ -1,0 +1,285 @@
+// A decoding at which a viewer looks on.
+ghost use Rattle.std.specs.Prelude.{◌≡◌, ◌≤◌, true, false, All, IfSome};
+ghost use Rattle.std.specs.Thread.{IsSync};
+ghost use Rattle.view_store.specs.Listings.{nothing};
+ghost use Rattle.view_store.specs.Views.{pending, published, reader_shelf, shelf_of};
+ghost use Rattle.words.specs.Readable.{IsReadable, IsShort};
+ghost use Rattle.words.specs.Settings.{meaning_of};
+ghost use Rattle.words.specs.declared.kinds.Job.TheVariants.{Decode};
+ghost use Rattle.ldecode.specs.Asking.{NamesNoHead, lists_notes};
+ghost use Rattle.ldecode.specs.Headline.{IsWatched, SinkCause, SourceCause, WhereUnread};
+ghost use Rattle.ldecode.specs.Watching.{ShelvesOn, ViewsOn};
+
+use crate::decode_stack::decode_stack;
+use crate::note_count::NoteCount;
+use crate::outcome::Outcome;
+use crate::shelve_stack::shelve_stack;
+use crate::status::{Status, status_by};
+use decoder_core::Keep;
+use decoder_set::AnyDecoder;
+use la_base::NoMemory;
+use la_io::{Sink, Source};
+use stage_crew::Pacer;
+use std::alloc::Global;
+use std::sync::Wait;
+use std::sync::atomic::{AtomicBool, Ordering};
+use std::thread::{Threads, join_mut};
+use view_store::{ViewReader, ViewWriter, shelf};
+use words::{Job, Settings};
+
+/// Whether a listing of notes is asked for: a whole capture is decoded, and not for binary data.
+pub(crate) fn lists_notes(settings: &Settings) -> bool
+    ensures is { result ≡ lists_notes (meaning_of settings.now) }
+    ensures job { result ≡ true → settings.now.job ≡ Decode }
+{
+    match settings.job {
+        Job::Decode => settings.binary.is_none(),
+        Job::Find | Job::Part | Job::Make => false,
+    }
+}
+
+/// Whether a viewer is asked for, and there are notes for it to see.
+pub(crate) fn is_watched(settings: &Settings) -> bool
+    ensures yes { result ≡ true → IsWatched (meaning_of settings.now) }
+    ensures no { result ≡ false → IsWatched (meaning_of settings.now) → ⊥ }
+    ensures job { result ≡ true → settings.now.job ≡ Decode }
+{
+    settings.watch && lists_notes(settings)
+}
+
+/// Decodes on this one thread, and counts the notes of the listing as a viewer does that sees them
+/// all.
+pub(crate) fn count_stack<S: Source, K: Sink>(
+    alloc: Global,
+    settings: &Settings,
+    source: &mut S,
+    sink: &mut K,
+) -> Outcome
+    requires job { settings.now.job ≡ Decode }
+    requires readable { IsReadable Decode settings.now.chains.items }
+    requires shown { IfSome settings.now.show IsShort }
+    requires binary { IfSome settings.now.binary IsShort }
+    requires watched { IsWatched (meaning_of settings.now) }
+    ensures views { ViewsOn ⟦<AnyDecoder as Keep>⟧.saves (meaning_of settings.now)
+        (S.left source.old) (S.left source.new) (K.written sink.old) (K.written sink.new) result }
+    ensures unread { WhereUnread (NamesNoHead (meaning_of settings.now)) result.status
+        (source.new ≡ source.old) }
+    ensures read { SourceCause (S.faults source.old) (S.faults source.new) result.status }
+    ensures write { SinkCause (K.faults sink.old) (K.faults sink.new) result.status }
+{
+    let (ended, counted) = decode_stack(alloc, settings, source, sink, NoteCount::new());
+    let status = status_by(ended);
+    if !status.is_done() {
+        return Outcome { status, seen: None };
+    }
+    Outcome {
+        status,
+        seen: Some(counted.count()),
+    }
+}
+
+// Asks for all notes until no more come, there is no memory for them, or the run is over.
+fn view<R: Wait>(rt: &R, reader: &mut ViewReader, over: &AtomicBool)
+    ensures { reader_shelf reader.new ≡ reader_shelf reader.old }
+{
+    for _ in rt.forever() {
+        if over.load(Ordering::SeqCst) {
+            return;
+        }
+        match reader.ask(rt, 0, u64::MAX) {
+            Ok(answer) => {
+                if answer.ended {
+                    return;
+                }
+            }
+            Err(NoMemory) => return,
+        }
+    }
+    unreachable!()
+}
+
+// Decodes onto a new shelf, beside a thread in which a viewer asks for what is on it.
+fn shelve_beside<R: Threads + Wait + Sync, P: Pacer + Sync, S: Source, K: Sink>(
+    rt: &R,
+    alloc: Global,
+    settings: &Settings,
+    source: &mut S,
+    sink: &mut K,
+    pacer: &P,
+    writer: &mut ViewWriter,
+    reader: &mut ViewReader,
+) -> Status
+    requires job { settings.now.job ≡ Decode }
+    requires readable { IsReadable Decode settings.now.chains.items }
+    requires shown { IfSome settings.now.show IsShort }
+    requires binary { IfSome settings.now.binary IsShort }
+    requires pending { pending writer.old ≡ nothing }
+    requires published { published writer.old ≡ nothing }
+    ensures shelved { ShelvesOn (meaning_of settings.now) (S.left source.old) (S.left source.new)
+        (K.written sink.old) (K.written sink.new) (published writer.new) result }
+    ensures writer { shelf_of writer.new ≡ shelf_of writer.old }
+    ensures reader { reader_shelf reader.new ≡ reader_shelf reader.old }
+    ensures unread { WhereUnread (NamesNoHead (meaning_of settings.now)) result
+        (source.new ≡ source.old) }
+    ensures read { SourceCause (S.faults source.old) (S.faults source.new) result }
+    ensures write { SinkCause (K.faults sink.old) (K.faults sink.new) result }
+{
+    let over = AtomicBool::new(false);
+    let flag = &over;
+    let (_, status) = join_mut(
+        rt,
+        &mut ||
+            ensures { reader_shelf reader.exit.now ≡ reader_shelf reader.entry.now }
+        { view(rt, reader, flag) },
+        &mut || -> Status
+            requires sync { IsSync R.row × IsSync P.row }
+            requires job { settings.now.job ≡ Decode }
+            requires readable { IsReadable Decode settings.now.chains.items }
+            requires shown { IfSome settings.now.show IsShort }
+            requires binary { IfSome settings.now.binary IsShort }
+            requires new { (pending writer.now ≡ nothing) × (published writer.now ≡ nothing) }
+            ensures { ShelvesOn (meaning_of settings.entry.now) (S.left source.entry.now)
+                (S.left source.exit.now) (K.written sink.entry.now) (K.written sink.exit.now)
+                (published writer.exit.now) result
+                × (shelf_of writer.exit.now ≡ shelf_of writer.entry.now)
+                × WhereUnread (NamesNoHead (meaning_of settings.entry.now)) result
+                (source.exit.now ≡ source.entry.now)
+                × SourceCause (S.faults source.entry.now) (S.faults source.exit.now) result
+                × SinkCause (K.faults sink.entry.now) (K.faults sink.exit.now) result }
+        {
+            let status = shelve_stack(rt, alloc, settings, source, sink, pacer, writer);
+            flag.store(true, Ordering::SeqCst);
+            status
+        },
+    );
+    status
+}
+
+// The same; where the run is done the viewer then learns the end, and asks once more.
+fn view_beside<R: Threads + Wait + Sync, P: Pacer + Sync, S: Source, K: Sink>(
+    rt: &R,
+    alloc: Global,
+    settings: &Settings,
+    source: &mut S,
+    sink: &mut K,
+    pacer: &P,
+    writer: &mut ViewWriter,
+    reader: &mut ViewReader,
+) -> Outcome
+    requires job { settings.now.job ≡ Decode }
+    requires readable { IsReadable Decode settings.now.chains.items }
+    requires shown { IfSome settings.now.show IsShort }
+    requires binary { IfSome settings.now.binary IsShort }
+    requires watched { IsWatched (meaning_of settings.now) }
+    requires pending { pending writer.old ≡ nothing }
+    requires published { published writer.old ≡ nothing }
+    requires own { reader_shelf reader.old ≡ shelf_of writer.old }
+    ensures views { ViewsOn ⟦<AnyDecoder as Keep>⟧.saves (meaning_of settings.now)
+        (S.left source.old) (S.left source.new) (K.written sink.old) (K.written sink.new) result }
+    ensures unread { WhereUnread (NamesNoHead (meaning_of settings.now)) result.status
+        (source.new ≡ source.old) }
+    ensures read { SourceCause (S.faults source.old) (S.faults source.new) result.status }
+    ensures write { SinkCause (K.faults sink.old) (K.faults sink.new) result.status }
+{
+    let status = shelve_beside(rt, alloc, settings, source, sink, pacer, writer, reader);
+    if !status.is_done() {
+        return Outcome { status, seen: None };
+    }
+    reader.learn(writer.tell());
+    match reader.ask(rt, 0, 0) {
+        Ok(answer) => Outcome {
+            status,
+            seen: Some(answer.seen),
+        },
+        Err(NoMemory) => Outcome {
+            status: Status::NoMemory,
+            seen: None,
+        },
+    }
+}
+
+// The same, with the one reader of the shelf.
+fn view_shelf<R: Threads + Wait + Sync, P: Pacer + Sync, S: Source, K: Sink>(
+    rt: &R,
+    alloc: Global,
+    settings: &Settings,
+    source: &mut S,
+    sink: &mut K,
+    pacer: &P,
+    writer: &mut ViewWriter,
+    mut readers: Vec<ViewReader>,
+) -> Outcome
+    requires job { settings.now.job ≡ Decode }
+    requires readable { IsReadable Decode settings.now.chains.items }
+    requires shown { IfSome settings.now.show IsShort }
+    requires binary { IfSome settings.now.binary IsShort }
+    requires watched { IsWatched (meaning_of settings.now) }
+    requires pending { pending writer.old ≡ nothing }
+    requires published { published writer.old ≡ nothing }
+    requires own { All (λ reader. reader_shelf reader ≡ shelf_of writer.old) readers.items }
+    ensures views { ViewsOn ⟦<AnyDecoder as Keep>⟧.saves (meaning_of settings.now)
+        (S.left source.old) (S.left source.new) (K.written sink.old) (K.written sink.new) result }
+    ensures unread { WhereUnread (NamesNoHead (meaning_of settings.now)) result.status
+        (source.new ≡ source.old) }
+    ensures read { SourceCause (S.faults source.old) (S.faults source.new) result.status }
+    ensures write { SinkCause (K.faults sink.old) (K.faults sink.new) result.status }
+{
+    let Some(mut reader) = readers.pop() else {
+        return Outcome {
+            status: Status::NoMemory,
+            seen: None,
+        };
+    };
+    view_beside(
+        rt,
+        alloc,
+        settings,
+        source,
+        sink,
+        pacer,
+        writer,
+        &mut reader,
+    )
+}
+
+/// Decodes with a thread for each decoder where the settings ask for threads, and one more in which
+/// a viewer looks at the listing while it grows.
+pub(crate) fn view_stack<R: Threads + Wait + Sync, P: Pacer + Sync, S: Source, K: Sink>(
+    rt: &R,
+    alloc: Global,
+    settings: &Settings,
+    source: &mut S,
+    sink: &mut K,
+    pacer: &P,
+) -> Outcome
+    requires job { settings.now.job ≡ Decode }
+    requires readable { IsReadable Decode settings.now.chains.items }
+    requires shown { IfSome settings.now.show IsShort }
+    requires binary { IfSome settings.now.binary IsShort }
+    requires watched { IsWatched (meaning_of settings.now) }
+    ensures views { ViewsOn ⟦<AnyDecoder as Keep>⟧.saves (meaning_of settings.now)
+        (S.left source.old) (S.left source.new) (K.written sink.old) (K.written sink.new) result }
+    ensures unread { WhereUnread (NamesNoHead (meaning_of settings.now)) result.status
+        (source.new ≡ source.old) }
+    ensures read { SourceCause (S.faults source.old) (S.faults source.new) result.status }
+    ensures write { SinkCause (K.faults sink.old) (K.faults sink.new) result.status }
+{
+    let Ok((mut writer, readers)) = shelf(rt, alloc, 1) else {
+        return Outcome {
+            status: Status::NoMemory,
+            seen: None,
+        };
+    };
+    let outcome = view_shelf(
+        rt,
+        alloc,
+        settings,
+        source,
+        sink,
+        pacer,
+        &mut writer,
+        readers,
+    );
+    writer.close(rt);
+    outcome
+}

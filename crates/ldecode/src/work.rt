@@ -1,0 +1,125 @@
+// The work that settings ask for, where nobody looks on.
+ghost use Rattle.std.specs.Prelude.{◌≡◌, ◌≤◌, IfSome, length};
+ghost use Rattle.std.specs.String.{string_bytes};
+ghost use Rattle.words.specs.Readable.{IsReadable, IsShort};
+ghost use Rattle.words.specs.Settings.{meaning_of};
+ghost use Rattle.words.specs.declared.kinds.Job.TheVariants.{Decode};
+ghost use Rattle.ldecode.specs.Asking.{NamesNoHead};
+ghost use Rattle.ldecode.specs.Headline.{DoesOn, IsMade, SinkCause, SourceCause, WhereUnread};
+ghost use Rattle.ldecode.specs.Headline.{WorksOn};
+
+use crate::decode_stack::{decode_stack, decode_stack_as_asked};
+use crate::make::make;
+use crate::part::part_stack;
+use crate::search::search;
+use crate::status::{Status, status_by};
+use decoder_core::Keep;
+use decoder_set::AnyDecoder;
+use la_io::{Sink, Source};
+use note_lister::Unwatched;
+use stage_crew::Pacer;
+use std::alloc::Global;
+use std::sync::Wait;
+use std::thread::Threads;
+use words::{Job, Settings};
+
+// Decodes, on this one thread.
+fn decode_here<S: Source, K: Sink>(
+    alloc: Global,
+    settings: &Settings,
+    source: &mut S,
+    sink: &mut K,
+) -> Status
+    requires job { settings.now.job ≡ Decode }
+    requires readable { IsReadable Decode settings.now.chains.items }
+    requires shown { IfSome settings.now.show IsShort }
+    requires binary { IfSome settings.now.binary IsShort }
+    ensures works { WorksOn ⟦<AnyDecoder as Keep>⟧.saves (meaning_of settings.now)
+        (S.left source.old) (S.left source.new) (K.written sink.old) (K.written sink.new) result }
+    ensures unread { WhereUnread (NamesNoHead (meaning_of settings.now)) result
+        (source.new ≡ source.old) }
+    ensures read { SourceCause (S.faults source.old) (S.faults source.new) result }
+    ensures write { SinkCause (K.faults sink.old) (K.faults sink.new) result }
+{
+    let (ended, _) = decode_stack(alloc, settings, source, sink, Unwatched);
+    status_by(ended)
+}
+
+// The same with threads, where the settings ask for them.
+fn decode_aside<R: Threads + Wait + Sync, P: Pacer + Sync, S: Source, K: Sink>(
+    rt: &R,
+    alloc: Global,
+    settings: &Settings,
+    source: &mut S,
+    sink: &mut K,
+    pacer: &P,
+) -> Status
+    requires job { settings.now.job ≡ Decode }
+    requires readable { IsReadable Decode settings.now.chains.items }
+    requires shown { IfSome settings.now.show IsShort }
+    requires binary { IfSome settings.now.binary IsShort }
+    ensures works { WorksOn ⟦<AnyDecoder as Keep>⟧.saves (meaning_of settings.now)
+        (S.left source.old) (S.left source.new) (K.written sink.old) (K.written sink.new) result }
+    ensures unread { WhereUnread (NamesNoHead (meaning_of settings.now)) result
+        (source.new ≡ source.old) }
+    ensures read { SourceCause (S.faults source.old) (S.faults source.new) result }
+    ensures write { SinkCause (K.faults sink.old) (K.faults sink.new) result }
+{
+    let (ended, _) = decode_stack_as_asked(rt, alloc, settings, source, sink, pacer, Unwatched);
+    status_by(ended)
+}
+
+/// Does the work that the settings ask for, on this one thread.
+pub(crate) fn work_here<S: Source, K: Sink>(
+    alloc: Global,
+    settings: &Settings,
+    source: &mut S,
+    sink: &mut K,
+) -> Status
+    requires readable { IsReadable settings.now.job settings.now.chains.items }
+    requires shown { IfSome settings.now.show IsShort }
+    requires binary { IfSome settings.now.binary IsShort }
+    requires from { IfSome settings.now.from (λ text. length (string_bytes text) ≤ 4096) }
+    ensures does { DoesOn ⟦<AnyDecoder as Keep>⟧.saves (meaning_of settings.now)
+        (S.left source.old) (S.left source.new) (K.written sink.old) (K.written sink.new) result }
+    ensures unread { WhereUnread (NamesNoHead (meaning_of settings.now)) result
+        (source.new ≡ source.old) }
+    ensures made { IsMade (meaning_of settings.now) → source.new ≡ source.old }
+    ensures read { SourceCause (S.faults source.old) (S.faults source.new) result }
+    ensures write { SinkCause (K.faults sink.old) (K.faults sink.new) result }
+{
+    match settings.job {
+        Job::Find => search(alloc, settings, source, sink),
+        Job::Decode => decode_here(alloc, settings, source, sink),
+        Job::Part => part_stack(alloc, settings, source, sink),
+        Job::Make => make(alloc, settings.seed, settings.count, sink),
+    }
+}
+
+/// The same with a thread for each decoder, where the settings ask for threads. The pacer says how
+/// much a decoder does in a turn.
+pub(crate) fn work_aside<R: Threads + Wait + Sync, P: Pacer + Sync, S: Source, K: Sink>(
+    rt: &R,
+    alloc: Global,
+    settings: &Settings,
+    source: &mut S,
+    sink: &mut K,
+    pacer: &P,
+) -> Status
+    requires readable { IsReadable settings.now.job settings.now.chains.items }
+    requires shown { IfSome settings.now.show IsShort }
+    requires binary { IfSome settings.now.binary IsShort }
+    requires from { IfSome settings.now.from (λ text. length (string_bytes text) ≤ 4096) }
+    ensures does { DoesOn ⟦<AnyDecoder as Keep>⟧.saves (meaning_of settings.now)
+        (S.left source.old) (S.left source.new) (K.written sink.old) (K.written sink.new) result }
+    ensures unread { WhereUnread (NamesNoHead (meaning_of settings.now)) result
+        (source.new ≡ source.old) }
+    ensures made { IsMade (meaning_of settings.now) → source.new ≡ source.old }
+    ensures read { SourceCause (S.faults source.old) (S.faults source.new) result }
+    ensures write { SinkCause (K.faults sink.old) (K.faults sink.new) result }
+{
+    match settings.job {
+        Job::Decode => decode_aside(rt, alloc, settings, source, sink, pacer),
+        Job::Find | Job::Part | Job::Make => work_here(alloc, settings, source, sink),
+    }
+}
