@@ -13,7 +13,7 @@ use Rattle.wait_cond.specs.declared.faults.ItemFault.{ItemFault}
 use Rattle.stack_spec.specs.declared.faults.BindError.{BindError}
 use Rattle.stack_spec.specs.declared.faults.BindError.TheVariants.{Fault, NoMemory}
 use Rattle.stack_spec.specs.declared.faults.BindFault.{BindFault}
-use Rattle.ldecode.specs.Asking.{EachAsks, bind_all, in_entry, pins_of}
+use Rattle.ldecode.specs.Asking.{EachAsks, bind_all, in_entry, search_pins}
 use Rattle.ldecode.specs.Chosen.{AreTerms, Chooses, ChoosesOne, Chosen}
 
 -- what was bound before what is read
@@ -24,7 +24,7 @@ behind bounds read = then_read read (λ others. Ok (bounds ++ others))
 pub record ChosenSoFar (names : List (List ℕ)) (alternatives : List (List Meaning)) (k : ℕ) (pins : List ℕ) (alts : List Alt) : Type 0 where
   pub bounds : List (List Bound)
   pub reads : bind_all names 0 [] alternatives ≡ behind bounds (bind_all names k pins (drop k alternatives))
-  pub pins_are : pins ≡ pins_of [] bounds
+  pub pins_are : pins ≡ search_pins [] bounds
   pub asks : EachAsks [] bounds alts
 
 behind_nothing : (read : Result (List (List Bound)) BindFault) → read ≡ behind [] read
@@ -35,11 +35,11 @@ behind_more : (bounds : List (List Bound)) (one : List Bound) (read : Result (Li
 behind_more bounds one (Ok others) = ap (λ (l : List (List Bound)). Ok l) (sym (append_assoc bounds (one ∷ []) others))
 behind_more bounds one (Err fault) = refl
 
-pins_of-append : (pins : List ℕ) (bounds : List (List Bound)) (one : List Bound) → pins_of pins (bounds ++ one ∷ []) ≡ pins_after (pins_of pins bounds) one
+pins_of-append : (pins : List ℕ) (bounds : List (List Bound)) (one : List Bound) → search_pins pins (bounds ++ one ∷ []) ≡ pins_after (search_pins pins bounds) one
 pins_of-append pins [] one = refl
 pins_of-append pins (b ∷ bounds) one = pins_of-append (pins_after pins b) bounds one
 
-asks_more : (pins : List ℕ) (bounds : List (List Bound)) (alts : List Alt) (one : List Bound) (alt : Alt) → EachAsks pins bounds alts → Asks (pins_after (pins_of pins bounds) one) one alt → EachAsks pins (bounds ++ one ∷ []) (alts ++ alt ∷ [])
+asks_more : (pins : List ℕ) (bounds : List (List Bound)) (alts : List Alt) (one : List Bound) (alt : Alt) → EachAsks pins bounds alts → Asks (pins_after (search_pins pins bounds) one) one alt → EachAsks pins (bounds ++ one ∷ []) (alts ++ alt ∷ [])
 asks_more pins [] [] one alt each asks = (asks, tt)
 asks_more pins [] (a ∷ alts) one alt each asks = absurd each
 asks_more pins (b ∷ bounds) [] one alt each asks = absurd each
@@ -65,7 +65,7 @@ module _ (names : List (List ℕ)) (alternatives : List (List Meaning)) (k : ℕ
   pub chosen_more : (new : List ℕ) (alt : Alt) → IsBound MOST_PINS names pins new terms alt → ChosenSoFar names alternatives (k + 1) new (alts ++ alt ∷ [])
   chosen_more new alt bound =
       let one = bound.bounds in
-      let pins_now : new ≡ pins_after (pins_of [] s.bounds) one = bound.pins ∙ ap (λ (l : List ℕ). pins_after l one) s.pins_are in
+      let pins_now : new ≡ pins_after (search_pins [] s.bounds) one = bound.pins ∙ ap (λ (l : List ℕ). pins_after l one) s.pins_are in
       record {
         bounds = s.bounds ++ one ∷ [];
         reads = turn ∙ ap (λ (r : Result (List Bound) ItemFault). behind s.bounds (after (in_entry k r))) bound.read

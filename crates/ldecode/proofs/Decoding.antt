@@ -40,11 +40,7 @@ module _ (saves : Saves) (values : Values) (job : values.job ≡ Decode) (left_o
     taken = Consumes-trans left_old left_now left_new is.bytes lists.bytes is.taken lists.taken;
     at_end = lists.at_end;
     decoded = record {
-      form = form_of opened.capture;
-      names = is.names;
-      rate = is.rate;
-      form_is = is.form_is;
-      head = head_later (form_of opened.capture) is.bytes lists.bytes is.told lists.told is.names is.rate lists.later is.head;
+      head = record { form = form_of opened.capture; names = is.names; rate = is.rate; form_is = is.form_is; is = head_later (form_of opened.capture) is.bytes lists.bytes is.told lists.told is.names is.rate lists.later is.head };
       pins = pins_of opened.capture;
       accepted = stack_meaning opened.stack;
       nodes = nodes_on opened.parents.items;
@@ -67,17 +63,13 @@ module _ (values : Values) (Whole Front : Accepted → List (Node Setup) → Lis
   AllOf All = All d.decoded.accepted d.decoded.nodes
 
   module _ (All More : Accepted → List (Node Setup) → List ℕ → Type 0) where
-    unfoldable pub by_says : (last : ListingEnd) → Says d.decoded.form d.decoded.pins (AllOf All) (AllOf More) d.bytes d.told last → DecodesOn values All More left_old left_new last
+    unfoldable pub by_says : (last : ListingEnd) → Says d.decoded.head.form d.decoded.pins (AllOf All) (AllOf More) d.bytes d.told last → DecodesOn values All More left_old left_new last
     by_says last says = record {
       bytes = d.bytes;
       told = d.told;
       taken = d.taken;
       at_end = d.at_end;
       decoded = record {
-        form = d.decoded.form;
-        names = d.decoded.names;
-        rate = d.decoded.rate;
-        form_is = d.decoded.form_is;
         head = d.decoded.head;
         pins = d.decoded.pins;
         accepted = d.decoded.accepted;
@@ -88,41 +80,41 @@ module _ (values : Values) (Whole Front : Accepted → List (Node Setup) → Lis
       };
     }
 
-    pub less_says : ((l : List ℕ) → AllOf Whole l → AllOf All l) → ((l : List ℕ) → AllOf Front l → AllOf More l) → (last : ListingEnd) → Says d.decoded.form d.decoded.pins (AllOf Whole) (AllOf Front) d.bytes d.told last → Says d.decoded.form d.decoded.pins (AllOf All) (AllOf More) d.bytes d.told last
+    pub less_says : ((l : List ℕ) → AllOf Whole l → AllOf All l) → ((l : List ℕ) → AllOf Front l → AllOf More l) → (last : ListingEnd) → Says d.decoded.head.form d.decoded.pins (AllOf Whole) (AllOf Front) d.bytes d.told last → Says d.decoded.head.form d.decoded.pins (AllOf All) (AllOf More) d.bytes d.told last
     less_says all more ends.Done s = (s.0, s.1, all _ s.2)
     less_says all more ends.Read s = (s.0, all _ s.1)
-    less_says all more ends.Write s = front_on d.decoded.form d.decoded.pins (AllOf Front) (AllOf More) more d.bytes d.told s
+    less_says all more ends.Write s = front_on d.decoded.head.form d.decoded.pins (AllOf Front) (AllOf More) more d.bytes d.told s
     less_says all more (ends.Fault fault) s = (s.0, all _ s.1)
-    less_says all more ends.NoMemory s = front_on d.decoded.form d.decoded.pins (AllOf Front) (AllOf More) more d.bytes d.told s
+    less_says all more ends.NoMemory s = front_on d.decoded.head.form d.decoded.pins (AllOf Front) (AllOf More) more d.bytes d.told s
 
     -- whole where it is whole, and a front where it is a front
     unfoldable pub decodes_less : ((a : Accepted) (n : List (Node Setup)) (l : List ℕ) → Whole a n l → All a n l) → ((a : Accepted) (n : List (Node Setup)) (l : List ℕ) → Front a n l → More a n l) → DecodesOn values All More left_old left_new end
     decodes_less all more = by_says end (less_says (all d.decoded.accepted d.decoded.nodes) (more d.decoded.accepted d.decoded.nodes) end d.decoded.says)
 
-    cut_says : ((l : List ℕ) → AllOf Whole l → AllOf More l) → ((l : List ℕ) → AllOf Front l → AllOf More l) → (last : ListingEnd) → Says d.decoded.form d.decoded.pins (AllOf Whole) (AllOf Front) d.bytes d.told last → SettledFront d.decoded.form d.decoded.pins (AllOf More) d.bytes d.told
+    cut_says : ((l : List ℕ) → AllOf Whole l → AllOf More l) → ((l : List ℕ) → AllOf Front l → AllOf More l) → (last : ListingEnd) → Says d.decoded.head.form d.decoded.pins (AllOf Whole) (AllOf Front) d.bytes d.told last → SettledFront d.decoded.head.form d.decoded.pins (AllOf More) d.bytes d.told
     cut_says all more ends.Done s = OfAll (all _ s.2)
     cut_says all more ends.Read s = OfAll (all _ s.1)
-    cut_says all more ends.Write s = front_on d.decoded.form d.decoded.pins (AllOf Front) (AllOf More) more d.bytes d.told s
+    cut_says all more ends.Write s = front_on d.decoded.head.form d.decoded.pins (AllOf Front) (AllOf More) more d.bytes d.told s
     cut_says all more (ends.Fault fault) s = OfAll (all _ s.1)
-    cut_says all more ends.NoMemory s = front_on d.decoded.form d.decoded.pins (AllOf Front) (AllOf More) more d.bytes d.told s
+    cut_says all more ends.NoMemory s = front_on d.decoded.head.form d.decoded.pins (AllOf Front) (AllOf More) more d.bytes d.told s
 
     -- cut short, a front of it whatever it is
     pub decodes_cut : ((a : Accepted) (n : List (Node Setup)) (l : List ℕ) → Whole a n l → More a n l) → ((a : Accepted) (n : List (Node Setup)) (l : List ℕ) → Front a n l → More a n l) → DecodesOn values All More left_old left_new ends.NoMemory
     decodes_cut all more = by_says ends.NoMemory (cut_says (all d.decoded.accepted d.decoded.nodes) (more d.decoded.accepted d.decoded.nodes) end d.decoded.says)
 
-    whole_says : ((l : List ℕ) → AllOf Whole l → AllOf All l) → (last : ListingEnd) → is_whole (status_of last) ≡ true → Says d.decoded.form d.decoded.pins (AllOf Whole) (AllOf Front) d.bytes d.told last → Says d.decoded.form d.decoded.pins (AllOf All) (AllOf More) d.bytes d.told last
+    whole_says : ((l : List ℕ) → AllOf Whole l → AllOf All l) → (last : ListingEnd) → is_whole (status_of last) ≡ true → Says d.decoded.head.form d.decoded.pins (AllOf Whole) (AllOf Front) d.bytes d.told last → Says d.decoded.head.form d.decoded.pins (AllOf All) (AllOf More) d.bytes d.told last
     whole_says all ends.Done whole s = (s.0, s.1, all _ s.2)
     whole_says all ends.Read whole s = (s.0, all _ s.1)
     whole_says all ends.Write whole s = cc
     whole_says all (ends.Fault fault) whole s = (s.0, all _ s.1)
     whole_says all ends.NoMemory whole s = cc
 
-    front_says : ((l : List ℕ) → AllOf Front l → AllOf More l) → (last : ListingEnd) → is_whole (status_of last) ≡ false → Says d.decoded.form d.decoded.pins (AllOf Whole) (AllOf Front) d.bytes d.told last → Says d.decoded.form d.decoded.pins (AllOf All) (AllOf More) d.bytes d.told last
+    front_says : ((l : List ℕ) → AllOf Front l → AllOf More l) → (last : ListingEnd) → is_whole (status_of last) ≡ false → Says d.decoded.head.form d.decoded.pins (AllOf Whole) (AllOf Front) d.bytes d.told last → Says d.decoded.head.form d.decoded.pins (AllOf All) (AllOf More) d.bytes d.told last
     front_says more ends.Done front s = cc
     front_says more ends.Read front s = cc
-    front_says more ends.Write front s = front_on d.decoded.form d.decoded.pins (AllOf Front) (AllOf More) more d.bytes d.told s
+    front_says more ends.Write front s = front_on d.decoded.head.form d.decoded.pins (AllOf Front) (AllOf More) more d.bytes d.told s
     front_says more (ends.Fault fault) front s = cc
-    front_says more ends.NoMemory front s = front_on d.decoded.form d.decoded.pins (AllOf Front) (AllOf More) more d.bytes d.told s
+    front_says more ends.NoMemory front s = front_on d.decoded.head.form d.decoded.pins (AllOf Front) (AllOf More) more d.bytes d.told s
 
     -- a front of it was written
     pub decodes_front : is_whole (status_of end) ≡ false → ((a : Accepted) (n : List (Node Setup)) (l : List ℕ) → Front a n l → More a n l) → DecodesOn values All More left_old left_new end
@@ -139,7 +131,7 @@ works_decoded saves values left_old left_new old new end d = record {
   told = d.told;
   taken = d.taken;
   at_end = d.at_end;
-  works = worked saves values d.bytes d.told old new end (λ is. read_is_cut d.decoded.form d.decoded.pins (IsListed old new d.decoded.accepted d.decoded.nodes) (IsBegun old new d.decoded.accepted d.decoded.nodes) d.bytes d.told end is d.decoded.says) (inr (inl d.decoded));
+  works = worked saves values d.bytes d.told old new end (λ is. read_is_cut d.decoded.head.form d.decoded.pins (IsListed old new d.decoded.accepted d.decoded.nodes) (IsBegun old new d.decoded.accepted d.decoded.nodes) d.bytes d.told end is d.decoded.says) (inr (inl d.decoded));
 }
 
 module _ (values : Values) (saw : List Entry → Type 0) (left_old left_new old new : Option (List ℕ)) where

@@ -102,34 +102,34 @@ module _ (saves : Saves) (values : Values) where
     refused_there : (fault : BindFault) (c : CannotBind values bytes told fault) (other : Form) (names : List (List ℕ)) (rate : Rate) → IsFormOf values other → HasHead other bytes told names rate
         → SearchRefused values names fault ⊎ StackRefused values names rate fault
     refused_there fault c other names rate also head =
-        let same = same_names c.form other c.names names c.rate rate c.form_is also c.head head in
-        subst (λ (n : List (List ℕ)). SearchRefused values n fault ⊎ StackRefused values n rate fault) same.0 (subst (λ (r : Rate). SearchRefused values c.names fault ⊎ StackRefused values c.names r fault) same.1 c.refused)
+        let same = same_names c.head.form other c.head.names names c.head.rate rate c.head.form_is also c.head.is head in
+        subst (λ (n : List (List ℕ)). SearchRefused values n fault ⊎ StackRefused values n rate fault) same.0 (subst (λ (r : Rate). SearchRefused values c.head.names fault ⊎ StackRefused values c.head.names r fault) same.1 c.refused)
 
     pub can_is_judged : CanBind saves values bytes told → IsJudged values
-    can_is_judged c = bound_judged c.names c.rate c.bound
+    can_is_judged c = bound_judged c.head.names c.head.rate c.bound
 
     pub can_or_stack : CanBind saves values bytes told → (fault : StackFault) → HasStackFault values fault → ⊥
     can_or_stack c = judged_stack (can_is_judged c)
 
     pub cannot_or_stack : (refused : BindFault) → CannotBind values bytes told refused → (fault : StackFault) → HasStackFault values fault → ⊥
-    cannot_or_stack refused c = judged_stack (refused_judged c.names c.rate refused c.refused)
+    cannot_or_stack refused c = judged_stack (refused_judged c.head.names c.head.rate refused c.refused)
 
     pub head_or_stack : (head : Head) → HeadIs values bytes told head → (fault : StackFault) → HasStackFault values fault → ⊥
     head_or_stack head h = judged_stack h.judged
 
     pub can_or_cannot : CanBind saves values bytes told → (fault : BindFault) → CannotBind values bytes told fault → ⊥
-    can_or_cannot c fault d = both_bound c.names c.rate fault (all_bound c.names c.rate c.bound) (refused_there fault d c.form c.names c.rate c.form_is c.head)
+    can_or_cannot c fault d = both_bound c.head.names c.head.rate fault (all_bound c.head.names c.head.rate c.bound) (refused_there fault d c.head.form c.head.names c.head.rate c.head.form_is c.head.is)
 
     pub one_refusal : (one other : BindFault) → CannotBind values bytes told one → CannotBind values bytes told other → one ≡ other
-    one_refusal one other c d = both_refused c.names c.rate one other c.refused (refused_there other d c.form c.names c.rate c.form_is c.head)
+    one_refusal one other c d = both_refused c.head.names c.head.rate one other c.refused (refused_there other d c.head.form c.head.names c.head.rate c.head.form_is c.head.is)
 
     -- a head that is no good one
     module _ (head : Head) (h : HeadIs values bytes told head) where
       pub head_or_can : ((names : List (List ℕ)) (num den : ℕ) → head ≡ GoodHead names num den → ⊥) → CanBind saves values bytes told → ⊥
-      head_or_can never c = never c.names c.rate.num c.rate.den (same_head h.form c.form head (GoodHead c.names c.rate.num c.rate.den) h.form_is c.form_is h.head_is c.head)
+      head_or_can never c = never c.head.names c.head.rate.num c.head.rate.den (same_head h.form c.head.form head (GoodHead c.head.names c.head.rate.num c.head.rate.den) h.form_is c.head.form_is h.head_is c.head.is)
 
       pub head_or_cannot : ((names : List (List ℕ)) (num den : ℕ) → head ≡ GoodHead names num den → ⊥) → (fault : BindFault) → CannotBind values bytes told fault → ⊥
-      head_or_cannot never fault c = never c.names c.rate.num c.rate.den (same_head h.form c.form head (GoodHead c.names c.rate.num c.rate.den) h.form_is c.form_is h.head_is c.head)
+      head_or_cannot never fault c = never c.head.names c.head.rate.num c.head.rate.den (same_head h.form c.head.form head (GoodHead c.head.names c.head.rate.num c.head.rate.den) h.form_is c.head.form_is h.head_is c.head.is)
 
       pub head_or_head : (other : Head) → HeadIs values bytes told other → head ≡ other
       head_or_head other k = same_head h.form k.form head other h.form_is k.form_is h.head_is k.head_is
@@ -152,7 +152,7 @@ module _ (saves : Saves) (values : Values) where
     -- an ending is the same whichever channels are chosen
     pub one_ending : (e : Ending) → EndsAs saves values bytes told e → (form : Form) (pins : List ℕ) (how : Ending) → IsFormOf values form → (capture_of form pins bytes told).ending ≡ how → e ≡ how
     one_ending e ends form pins how is ended =
-        sym ends.ends ∙ ap (λ (f : Form). (capture_of f [] bytes told).ending) (one_form values ends.can.form form ends.can.form_is is) ∙ pins_leave_the_ending form [] pins bytes told ∙ ended
+        sym ends.ends ∙ ap (λ (f : Form). (capture_of f [] bytes told).ending) (one_form values ends.can.head.form form ends.can.head.form_is is) ∙ pins_leave_the_ending form [] pins bytes told ∙ ended
 
     -- checkpoints
     module _ (form other : Form) (names others : List (List ℕ)) (rate other_rate : Rate) (is : IsFormOf values form) (also : IsFormOf values other) (head : HasHead form bytes told names rate) (head_too : HasHead other bytes told others other_rate)
@@ -175,7 +175,7 @@ module _ (saves : Saves) (values : Values) where
       one_total n m can can_too =
           let counts : n ≡ m = one_beginning saves (map (λ (i : BoundInstance). i.setup) b.bounds) values.from n m (subst (λ (l : List Setup). CanBegin saves l values.from n) setups_are can) can_too in
           let forms : form ≡ other = one_form values form other is also in
-          λ i. counts i + length (capture_of (forms i) (binding.pins_of (same_bounds i)) bytes told).settled
+          λ i. counts i + length (capture_of (forms i) (binding.stack_pins (same_bounds i)) bytes told).settled
 
     find_or_part : values.job ≡ Find → values.job ≡ Part → ⊥
     find_or_part a b = let both = sym a ∙ b in cc
@@ -186,22 +186,22 @@ module _ (saves : Saves) (values : Values) where
     pub can_or_check : CanBind saves values bytes told → (fault : CheckFault) → CheckRefused saves values bytes told fault → ⊥
     can_or_check c fault r = by c.bound
       where
-        by : AllBound saves values c.names c.rate → ⊥
+        by : AllBound saves values c.head.names c.head.rate → ⊥
         by (inl s) = find_or_part s.searches.job r.refused.job
         by (inr (inl w)) = decode_or_part w.job r.refused.job
-        by (inr (inr p)) = begun_or_refused c.form r.form c.names r.names c.rate r.rate c.form_is r.form_is c.head r.head p.1.stack r.refused.stack p.0 fault p.1.begins r.refused.refused
+        by (inr (inr p)) = begun_or_refused c.head.form r.head.form c.head.names r.head.names c.head.rate r.head.rate c.head.form_is r.head.form_is c.head.is r.head.is p.1.stack r.refused.stack p.0 fault p.1.begins r.refused.refused
 
     pub one_check : (one other : CheckFault) → CheckRefused saves values bytes told one → CheckRefused saves values bytes told other → one ≡ other
-    one_check one other a b = one_fault a.form b.form a.names b.names a.rate b.rate a.form_is b.form_is a.head b.head a.refused.stack b.refused.stack one other a.refused.refused b.refused.refused
+    one_check one other a b = one_fault a.head.form b.head.form a.head.names b.head.names a.head.rate b.head.rate a.head.form_is b.head.form_is a.head.is b.head.is a.refused.stack b.refused.stack one other a.refused.refused b.refused.refused
 
     pub check_or_stack : (fault : CheckFault) → CheckRefused saves values bytes told fault → (other : StackFault) → HasStackFault values other → ⊥
     check_or_stack fault r = judged_stack (inr (r.refused.stack.accepted, r.refused.stack.stacks))
 
     pub check_or_cannot : (fault : CheckFault) → CheckRefused saves values bytes told fault → (other : BindFault) → CannotBind values bytes told other → ⊥
-    check_or_cannot fault r other d = both_bound r.names r.rate other (inr r.refused.stack) (refused_there other d r.form r.names r.rate r.form_is r.head)
+    check_or_cannot fault r other d = both_bound r.head.names r.head.rate other (inr r.refused.stack) (refused_there other d r.head.form r.head.names r.head.rate r.head.form_is r.head.is)
 
     head_or_check : (head : Head) → HeadIs values bytes told head → ((names : List (List ℕ)) (num den : ℕ) → head ≡ GoodHead names num den → ⊥) → (fault : CheckFault) → CheckRefused saves values bytes told fault → ⊥
-    head_or_check head h never fault r = never r.names r.rate.num r.rate.den (same_head h.form r.form head (GoodHead r.names r.rate.num r.rate.den) h.form_is r.form_is h.head_is r.head)
+    head_or_check head h never fault r = never r.head.names r.head.rate.num r.head.rate.den (same_head h.form r.head.form head (GoodHead r.head.names r.head.rate.num r.head.rate.den) h.form_is r.head.form_is h.head_is r.head.is)
 
     pub bad_or_check : (bad : CaptureFault) → HeadIs values bytes told (Bad bad) → (fault : CheckFault) → CheckRefused saves values bytes told fault → ⊥
     bad_or_check bad h = head_or_check (Bad bad) h (λ names num den e. cc)
@@ -211,15 +211,15 @@ module _ (saves : Saves) (values : Values) where
 
     -- samples that go past their bound don't stay within it
     pub past_can : GoesPast saves values bytes told → CanBind saves values bytes told
-    past_can g = record { form = g.form; names = g.names; rate = g.rate; form_is = g.form_is; head = g.head; bound = inr (inr (g.earlier, g.part)) }
+    past_can g = record { head = g.head; bound = inr (inr (g.earlier, g.part)) }
 
-    pub within_or_past : (c : CanBind saves values bytes told) → StaysWithin c.bound c.form bytes told → GoesPast saves values bytes told → ⊥
+    pub within_or_past : (c : CanBind saves values bytes told) → StaysWithin c.bound c.head.form bytes told → GoesPast saves values bytes told → ⊥
     within_or_past c within g = by c.bound within
       where
-        by : (b : AllBound saves values c.names c.rate) → StaysWithin b c.form bytes told → ⊥
+        by : (b : AllBound saves values c.head.names c.head.rate) → StaysWithin b c.head.form bytes told → ⊥
         by (inl s) w = find_or_part s.searches.job g.part.job
         by (inr (inl whole)) w = decode_or_part whole.job g.part.job
         by (inr (inr p)) w =
-            let same = one_total c.form g.form c.names g.names c.rate g.rate c.form_is g.form_is c.head g.head p.1.stack g.part.stack p.0 g.earlier p.1.begins g.part.begins in
+            let same = one_total c.head.form g.head.form c.head.names g.head.names c.head.rate g.head.rate c.head.form_is g.head.form_is c.head.is g.head.is p.1.stack g.part.stack p.0 g.earlier p.1.begins g.part.begins in
             let past = g.past in
             omega (arith, w, same, past)

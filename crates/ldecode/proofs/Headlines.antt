@@ -18,7 +18,7 @@ use Rattle.check_point.specs.declared.faults.CheckFault.{CheckFault}
 use Rattle.la_io.specs.declared.fault.CaptureFault.TheVariants.{Past}
 use Rattle.stack_spec.specs.Binding as binding
 use Rattle.ldecode.specs.Asking.{CanBind, CannotBind, CheckRefused, EndsAs, GoesPast, HasFault, HasStack, HasStackFault, HeadIs, IsFormOf, IsJudged, NamesNoHead}
-use Rattle.ldecode.specs.Headline.{DidFail, Does, Good, IsLine, IsMade, Makes, Notified, OrNoMemory, Parted, Promises, Runs, Saw, SinkCause, SourceCause, Stream, Tells, WhereUnread, Worked, Works}
+use Rattle.ldecode.specs.Headline.{DidFail, Does, Good, IsLine, IsMade, Makes, Notified, OrNoMemory, Parted, Promises, RunTells, Saw, SinkCause, SourceCause, Stream, Tells, WhereUnread, Worked, Works}
 use Rattle.ldecode.specs.declared.status.Status.{Status}
 use Rattle.ldecode.specs.declared.status.Status.TheVariants.{Bind, Capture, Check, Done, NoMemory, ReadFault, Stack, Words, WriteFault}
 use Rattle.ldecode.specs.Notices.{line_of, notice_of}
@@ -38,13 +38,13 @@ module _ (saves : Saves) (values : Values) where
   stack_not_made fault s made = subst HasStack made s.job
 
   cannot_not_made : (bytes : List ℕ) (told : Told) (fault : BindFault) → CannotBind values bytes told fault → IsMade values → ⊥
-  cannot_not_made bytes told fault c made = judged_not_made (refused_judged saves values c.names c.rate fault c.refused) made
+  cannot_not_made bytes told fault c made = judged_not_made (refused_judged saves values c.head.names c.head.rate fault c.refused) made
 
   check_not_made : (bytes : List ℕ) (told : Told) (fault : CheckFault) → CheckRefused saves values bytes told fault → IsMade values → ⊥
   check_not_made bytes told fault r made = let both = sym r.refused.job ∙ made in cc
 
   ends_not_made : (bytes : List ℕ) (told : Told) (ending : Ending) → EndsAs saves values bytes told ending → IsMade values → ⊥
-  ends_not_made bytes told ending e made = judged_not_made (bound_judged saves values e.can.names e.can.rate e.can.bound) made
+  ends_not_made bytes told ending e made = judged_not_made (bound_judged saves values e.can.head.names e.can.head.rate e.can.bound) made
 
   fault_not_made : (bytes : List ℕ) (told : Told) (fault : CaptureFault) → HasFault saves values bytes told fault → IsMade values → ⊥
   fault_not_made bytes told fault (inl h) made = judged_not_made h.judged made
@@ -54,20 +54,16 @@ module _ (saves : Saves) (values : Values) where
 module _ (saves : Saves) (values : Values) (bytes : List ℕ) (told : Told) (old new : Option (List ℕ)) where
   -- what work is done for is bound to a good head
   worked_can : (e : ListingEnd) → Worked saves values bytes told old new e → CanBind saves values bytes told
-  worked_can e (inl s) = record { form = s.form; names = s.names; rate = s.rate; form_is = s.form_is; head = s.head; bound = inl s.asks.search }
-  worked_can e (inr (inl d)) = record { form = d.form; names = d.names; rate = d.rate; form_is = d.form_is; head = d.head; bound = inr (inl (record { job = d.job; stack = d.asks.stack })) }
-  worked_can e (inr (inr p)) = record { form = p.form; names = p.names; rate = p.rate; form_is = p.form_is; head = p.head; bound = inr (inr (p.count, record { job = p.job; stack = p.asks.stack; begins = p.begins })) }
+  worked_can e (inl s) = record { head = s.head; bound = inl s.asks.search }
+  worked_can e (inr (inl d)) = record { head = d.head; bound = inr (inl (record { job = d.job; stack = d.asks.stack })) }
+  worked_can e (inr (inr p)) = record { head = p.head; bound = inr (inr (p.count, record { job = p.job; stack = p.asks.stack; begins = p.begins })) }
 
   -- the pins of a part are those of its stack
-  as_bound : (e : ListingEnd) (p : Parted saves values bytes told old new e) → p.count + length (capture_of p.form p.pins bytes told).settled ≡ p.count + length (capture_of p.form (binding.pins_of p.asks.stack.bounds) bytes told).settled
-  as_bound e p = ap (λ (pins : List ℕ). p.count + length (capture_of p.form pins bytes told).settled) p.asks.pins_are
+  as_bound : (e : ListingEnd) (p : Parted saves values bytes told old new e) → p.count + length (capture_of p.head.form p.pins bytes told).settled ≡ p.count + length (capture_of p.head.form (binding.stack_pins p.asks.stack.bounds) bytes told).settled
+  as_bound e p = ap (λ (pins : List ℕ). p.count + length (capture_of p.head.form pins bytes told).settled) p.asks.pins_are
 
-  parted_past : (e : ListingEnd) (p : Parted saves values bytes told old new e) → most_samples < p.count + length (capture_of p.form p.pins bytes told).settled → GoesPast saves values bytes told
+  parted_past : (e : ListingEnd) (p : Parted saves values bytes told old new e) → most_samples < p.count + length (capture_of p.head.form p.pins bytes told).settled → GoesPast saves values bytes told
   parted_past e p past = record {
-    form = p.form;
-    names = p.names;
-    rate = p.rate;
-    form_is = p.form_is;
     head = p.head;
     earlier = p.count;
     part = record { job = p.job; stack = p.asks.stack; begins = p.begins };
@@ -75,7 +71,7 @@ module _ (saves : Saves) (values : Values) (bytes : List ℕ) (told : Told) (old
   }
 
   -- work that is done behind a part's bound is that of a part
-  parted_within : (e : ListingEnd) (p : Parted saves values bytes told old new e) → p.count + length (capture_of p.form p.pins bytes told).settled ≤ most_samples → GoesPast saves values bytes told → ⊥
+  parted_within : (e : ListingEnd) (p : Parted saves values bytes told old new e) → p.count + length (capture_of p.head.form p.pins bytes told).settled ≤ most_samples → GoesPast saves values bytes told → ⊥
   unfolding worked_can
   parted_within e p within g = within_or_past saves values bytes told (worked_can e (inr (inr p))) (subst (λ (n : ℕ). n ≤ most_samples) (as_bound e p) within) g
 
@@ -89,13 +85,13 @@ module _ (saves : Saves) (values : Values) (bytes : List ℕ) (told : Told) (old
   fault_is_past fault (inr (inl d)) g = absurd (let both = sym d.job ∙ g.part.job in cc)
   fault_is_past fault (inr (inr p)) g = by p.ends
     where
-      by : ((fault ≡ Past) × (most_samples < p.count + length (capture_of p.form p.pins bytes told).settled)) ⊎ (((capture_of p.form p.pins bytes told).ending ≡ Faulty fault) × (p.count + length (capture_of p.form p.pins bytes told).settled ≤ most_samples)) → fault ≡ Past
+      by : ((fault ≡ Past) × (most_samples < p.count + length (capture_of p.head.form p.pins bytes told).settled)) ⊎ (((capture_of p.head.form p.pins bytes told).ending ≡ Faulty fault) × (p.count + length (capture_of p.head.form p.pins bytes told).settled ≤ most_samples)) → fault ≡ Past
       by (inl past) = past.0
       by (inr within) = absurd (parted_within (end.Fault fault) p within.1 g)
 
   -- and so isn't a made capture
   worked_not_made : (e : ListingEnd) → Worked saves values bytes told old new e → IsMade values → ⊥
-  worked_not_made e w made = let c = worked_can e w in judged_not_made saves values (bound_judged saves values c.names c.rate c.bound) made
+  worked_not_made e w made = let c = worked_can e w in judged_not_made saves values (bound_judged saves values c.head.names c.head.rate c.bound) made
 
   works_not_made : (status : Status) → Works saves values bytes told old new status → IsMade values → status ≡ NoMemory
   works_not_made Done w made = absurd (worked_not_made end.Done w made)
@@ -127,18 +123,18 @@ module _ (saves : Saves) (values : Values) (bytes : List ℕ) (told : Told) (old
 
   -- how the bytes end of work that is done, and of work that met a fault
   ends_clean : (e : Ending) → Worked saves values bytes told old new end.Done → EndsAs saves values bytes told e → e ≡ Clean
-  ends_clean e (inl s) ends = one_ending saves values bytes told e ends s.form s.pins Clean s.form_is s.says.1
-  ends_clean e (inr (inl d)) ends = one_ending saves values bytes told e ends d.form d.pins Clean d.form_is d.says.1
-  ends_clean e (inr (inr p)) ends = one_ending saves values bytes told e ends p.form p.pins Clean p.form_is p.ends.1
+  ends_clean e (inl s) ends = one_ending saves values bytes told e ends s.head.form s.pins Clean s.head.form_is s.says.1
+  ends_clean e (inr (inl d)) ends = one_ending saves values bytes told e ends d.head.form d.pins Clean d.head.form_is d.says.1
+  ends_clean e (inr (inr p)) ends = one_ending saves values bytes told e ends p.head.form p.pins Clean p.head.form_is p.ends.1
 
   ends_faulty : (e : Ending) (fault : CaptureFault) → Worked saves values bytes told old new (end.Fault fault) → EndsAs saves values bytes told e → e ≡ Faulty fault
-  ends_faulty e fault (inl s) ends = one_ending saves values bytes told e ends s.form s.pins (Faulty fault) s.form_is s.says.0
-  ends_faulty e fault (inr (inl d)) ends = one_ending saves values bytes told e ends d.form d.pins (Faulty fault) d.form_is d.says.0
+  ends_faulty e fault (inl s) ends = one_ending saves values bytes told e ends s.head.form s.pins (Faulty fault) s.head.form_is s.says.0
+  ends_faulty e fault (inr (inl d)) ends = one_ending saves values bytes told e ends d.head.form d.pins (Faulty fault) d.head.form_is d.says.0
   ends_faulty e fault (inr (inr p)) ends = by p.ends
     where
-      by : ((fault ≡ Past) × (most_samples < p.count + length (capture_of p.form p.pins bytes told).settled)) ⊎ (((capture_of p.form p.pins bytes told).ending ≡ Faulty fault) × (p.count + length (capture_of p.form p.pins bytes told).settled ≤ most_samples)) → e ≡ Faulty fault
+      by : ((fault ≡ Past) × (most_samples < p.count + length (capture_of p.head.form p.pins bytes told).settled)) ⊎ (((capture_of p.head.form p.pins bytes told).ending ≡ Faulty fault) × (p.count + length (capture_of p.head.form p.pins bytes told).settled ≤ most_samples)) → e ≡ Faulty fault
       by (inl past) = absurd (within_or_past saves values bytes told ends.can ends.within (parted_past (end.Fault fault) p past.1))
-      by (inr within) = one_ending saves values bytes told e ends p.form p.pins (Faulty fault) p.form_is within.0
+      by (inr within) = one_ending saves values bytes told e ends p.head.form p.pins (Faulty fault) p.head.form_is within.0
 
   works_stack : (status : Status) → Works saves values bytes told old new status → (fault : StackFault) → HasStackFault values fault → OrNoMemory (Stack fault) status
   works_stack Done w fault s = absurd (can_or_stack saves values bytes told (worked_can end.Done w) fault s)
@@ -222,40 +218,28 @@ module _ (saves : Saves) (values : Values) where
   whole_cannot : (bytes rest : List ℕ) (told : Told) → (told ≡ AtEnd → rest ≡ []) → (fault : BindFault) → CannotBind values bytes told fault → CannotBind values (bytes ++ rest) AtEnd fault
   whole_cannot bytes rest AtEnd none fault c = subst (λ (l : List ℕ). CannotBind values l AtEnd fault) (sym (append-nil bytes) ∙ ap (λ (l : List ℕ). bytes ++ l) (sym (none refl))) c
   whole_cannot bytes rest Cut none fault c = record {
-    form = c.form;
-    names = c.names;
-    rate = c.rate;
-    form_is = c.form_is;
-    head = head_stays.good c.form [] bytes rest AtEnd c.names c.rate.num c.rate.den c.head;
+    head = record { form = c.head.form; names = c.head.names; rate = c.head.rate; form_is = c.head.form_is; is = head_stays.good c.head.form [] bytes rest AtEnd c.head.names c.head.rate.num c.head.rate.den c.head.is };
     refused = c.refused;
   }
 
   whole_check : (bytes rest : List ℕ) (told : Told) → (told ≡ AtEnd → rest ≡ []) → (fault : CheckFault) → CheckRefused saves values bytes told fault → CheckRefused saves values (bytes ++ rest) AtEnd fault
   whole_check bytes rest AtEnd none fault c = subst (λ (l : List ℕ). CheckRefused saves values l AtEnd fault) (sym (append-nil bytes) ∙ ap (λ (l : List ℕ). bytes ++ l) (sym (none refl))) c
   whole_check bytes rest Cut none fault c = record {
-    form = c.form;
-    names = c.names;
-    rate = c.rate;
-    form_is = c.form_is;
-    head = head_stays.good c.form [] bytes rest AtEnd c.names c.rate.num c.rate.den c.head;
+    head = record { form = c.head.form; names = c.head.names; rate = c.head.rate; form_is = c.head.form_is; is = head_stays.good c.head.form [] bytes rest AtEnd c.head.names c.head.rate.num c.head.rate.den c.head.is };
     refused = c.refused;
   }
 
   -- more bytes settle no fewer samples
-  whole_past : (bytes rest : List ℕ) (told : Told) → (told ≡ AtEnd → rest ≡ []) → (g : GoesPast saves values bytes told) → IsForm g.form → GoesPast saves values (bytes ++ rest) AtEnd
+  whole_past : (bytes rest : List ℕ) (told : Told) → (told ≡ AtEnd → rest ≡ []) → (g : GoesPast saves values bytes told) → IsForm g.head.form → GoesPast saves values (bytes ++ rest) AtEnd
   whole_past bytes rest AtEnd none g fits = subst (λ (l : List ℕ). GoesPast saves values l AtEnd) (sym (append-nil bytes) ∙ ap (λ (l : List ℕ). bytes ++ l) (sym (none refl))) g
   whole_past bytes rest Cut none g fits =
-      let pins = binding.pins_of g.part.stack.bounds in
-      let more = longer_extends g.form pins bytes rest AtEnd fits in
+      let pins = binding.stack_pins g.part.stack.bounds in
+      let more = longer_extends g.head.form pins bytes rest AtEnd fits in
       record {
-        form = g.form;
-        names = g.names;
-        rate = g.rate;
-        form_is = g.form_is;
-        head = head_stays.good g.form [] bytes rest AtEnd g.names g.rate.num g.rate.den g.head;
+        head = record { form = g.head.form; names = g.head.names; rate = g.head.rate; form_is = g.head.form_is; is = head_stays.good g.head.form [] bytes rest AtEnd g.head.names g.head.rate.num g.head.rate.den g.head.is };
         earlier = g.earlier;
         part = g.part;
-        past = let past = g.past in let longer = ap length more.1 ∙ length-append (capture_of g.form pins bytes Cut).settled more.0 in omega (arith, past, longer);
+        past = let past = g.past in let longer = ap length more.1 ∙ length-append (capture_of g.head.form pins bytes Cut).settled more.0 in omega (arith, past, longer);
       }
 
   whole_bad : (bytes rest : List ℕ) (told : Told) → (told ≡ AtEnd → rest ≡ []) → (fault : CaptureFault) → HeadIs values bytes told (Bad fault) → HeadIs values (bytes ++ rest) AtEnd (Bad fault)
@@ -288,13 +272,13 @@ module _ (saves : Saves) (values : Values) where
           cc
 
       by : Worked saves values bytes told old new (end.Fault other) → OrNoMemory Done (Capture other)
-      by (inl s) = wrong s.form s.pins s.form_is s.says.0
-      by (inr (inl d)) = wrong d.form d.pins d.form_is d.says.0
+      by (inl s) = wrong s.head.form s.pins s.head.form_is s.says.0
+      by (inr (inl d)) = wrong d.head.form d.pins d.head.form_is d.says.0
       by (inr (inr p)) = by_part p.ends
         where
-          by_part : ((other ≡ Past) × (most_samples < p.count + length (capture_of p.form p.pins bytes told).settled)) ⊎ (((capture_of p.form p.pins bytes told).ending ≡ Faulty other) × (p.count + length (capture_of p.form p.pins bytes told).settled ≤ most_samples)) → OrNoMemory Done (Capture other)
+          by_part : ((other ≡ Past) × (most_samples < p.count + length (capture_of p.head.form p.pins bytes told).settled)) ⊎ (((capture_of p.head.form p.pins bytes told).ending ≡ Faulty other) × (p.count + length (capture_of p.head.form p.pins bytes told).settled ≤ most_samples)) → OrNoMemory Done (Capture other)
           by_part (inl past) = absurd (within_or_past saves values (bytes ++ rest) AtEnd e.can e.within (whole_past bytes rest told none (parted_past saves values bytes told old new (end.Fault other) p past.1) p.opens))
-          by_part (inr within) = wrong p.form p.pins p.form_is within.0
+          by_part (inr within) = wrong p.head.form p.pins p.head.form_is within.0
   works_complete bytes rest told none old new source sink no_read no_write (Capture other) (inr b) r k e = absurd (bad_or_can saves values (bytes ++ rest) AtEnd other (whole_bad bytes rest told none other b.0) e.can)
   works_complete bytes rest told none old new source sink no_read no_write WriteFault w r k e = absurd (no_write k.1)
   works_complete bytes rest told none old new source sink no_read no_write NoMemory w r k e = inr refl
@@ -317,7 +301,7 @@ left_over : (left bytes : List ℕ) (told : Told) (new : Option (List ℕ)) → 
 left_over left bytes told None taken at_end = absurd taken
 left_over left bytes told (Some rest) taken at_end = (rest, taken, at_end)
 
-module _ (saves : Saves) (words : List Text) (source sink notices : Stream) (same : Type 0) (status : Status) (runs : Runs saves words source.old source.new sink.old sink.new status)
+module _ (saves : Saves) (words : List Text) (source sink notices : Stream) (same : Type 0) (status : Status) (runs : RunTells saves words source.old source.new sink.old sink.new status)
     (read : SourceCause source.failed_old source.failed_new status) (write : SinkCause sink.failed_old sink.failed_new status) where
   -- what of good words makes a status makes it
   exactly : (P : Values → Type 0) (expected : Status) → ((values : Values) → Works saves values runs.bytes runs.told sink.old sink.new status → P values → OrNoMemory expected status) → ((values : Values) → P values → IsMade values → ⊥) → Good words P → OrNoMemory expected status

@@ -5,12 +5,12 @@ use Rattle.la_io.specs.Capture.{Told, Cut}
 use Rattle.la_io.specs.Grown.{appends_nothing}
 use Rattle.words.specs.Lexer.{Text}
 use Rattle.words.specs.Settings.{Values, settings_of}
-use Rattle.words.specs.Given.{fault_in}
+use Rattle.words.specs.Given.{word_fault_in}
 use Rattle.words.specs.declared.kinds.WordsError.{WordsError}
 use Rattle.words.specs.declared.kinds.WordsError.TheVariants as error
 use Rattle.view_store.specs.Listings.{Listing, nothing}
 use Rattle.ldecode.specs.Asking.{NamesNoHead, lists_notes}
-use Rattle.ldecode.specs.Headline.{Does, DoesOn, Good, IsMade, IsWatched, Runs, Saw, Tells, WhereUnread, WorksOn}
+use Rattle.ldecode.specs.Headline.{Does, DoesOn, Good, IsMade, IsWatched, RunTells, Saw, Tells, WhereUnread, WorksOn}
 use Rattle.ldecode.specs.Making.{MadeBy}
 use Rattle.ldecode.specs.Notices.{status_at_words}
 use Rattle.ldecode.specs.Parting.{Saves}
@@ -30,11 +30,11 @@ does_make saves values made left old new status m = record { bytes = []; told = 
 
 module _ (saves : Saves) (words : List Text) where
   -- the words have a fault, or there was no memory to read them
-  words_tell : (why : WordsError) → IfSome (fault_in why) (λ fault. settings_of words ≡ Err fault) → (old : Option (List ℕ)) → Tells saves words [] Cut old old (status_at_words why)
+  words_tell : (why : WordsError) → IfSome (word_fault_in why) (λ fault. settings_of words ≡ Err fault) → (old : Option (List ℕ)) → Tells saves words [] Cut old old (status_at_words why)
   words_tell (error.Fault fault) is old = (is, refl, appends_nothing old)
   words_tell error.NoMemory is old = inr (appends_nothing old)
 
-  words_refused : (why : WordsError) → IfSome (fault_in why) (λ fault. settings_of words ≡ Err fault) → (left old : Option (List ℕ)) → Runs saves words left left old old (status_at_words why)
+  words_refused : (why : WordsError) → IfSome (word_fault_in why) (λ fault. settings_of words ≡ Err fault) → (left old : Option (List ℕ)) → RunTells saves words left left old old (status_at_words why)
   words_refused why is left old = record { bytes = []; told = Cut; taken = Consumes-nil left; at_end = λ e. cc; tells = words_tell why is old }
 
   not_done : (why : WordsError) → status_at_words why ≡ Done → ⊥
@@ -42,19 +42,19 @@ module _ (saves : Saves) (words : List Text) where
   not_done error.NoMemory is = cc
 
   -- no viewer saw any
-  pub refused_viewed : (why : WordsError) → IfSome (fault_in why) (λ fault. settings_of words ≡ Err fault) → (left old : Option (List ℕ)) (status : Status) → status ≡ status_at_words why → RunsViewed saves words left left old old (record { status = status; seen = None })
+  pub refused_viewed : (why : WordsError) → IfSome (word_fault_in why) (λ fault. settings_of words ≡ Err fault) → (left old : Option (List ℕ)) (status : Status) → status ≡ status_at_words why → RunsViewed saves words left left old old (record { status = status; seen = None })
   refused_viewed why is left old status same = record {
-    runs = subst (Runs saves words left left old old) (sym same) (words_refused why is left old);
+    runs = subst (RunTells saves words left left old old) (sym same) (words_refused why is left old);
     saw = λ done g. not_done why (sym same ∙ done);
   }
 
   -- and a new shelf has none
-  pub refused_shelved : (why : WordsError) → IfSome (fault_in why) (λ fault. settings_of words ≡ Err fault) → (left old : Option (List ℕ)) (shelf : Listing) → shelf ≡ nothing → (status : Status) → status ≡ status_at_words why → RunsShelved saves words left left old old shelf status
+  pub refused_shelved : (why : WordsError) → IfSome (word_fault_in why) (λ fault. settings_of words ≡ Err fault) → (left old : Option (List ℕ)) (shelf : Listing) → shelf ≡ nothing → (status : Status) → status ≡ status_at_words why → RunsShelved saves words left left old old shelf status
   unfolding words_refused
   refused_shelved why is left old shelf none status same =
       subst (RunsShelved saves words left left old old shelf) (sym same) (record { runs = words_refused why is left old; on_shelf = λ values good lists. none_shelved why is values good })
     where
-      none_shelved : (why : WordsError) → IfSome (fault_in why) (λ fault. settings_of words ≡ Err fault) → (values : Values) → settings_of words ≡ Ok values → IsShelved values [] Cut old old shelf (status_at_words why)
+      none_shelved : (why : WordsError) → IfSome (word_fault_in why) (λ fault. settings_of words ≡ Err fault) → (values : Values) → settings_of words ≡ Ok values → IsShelved values [] Cut old old shelf (status_at_words why)
       none_shelved (error.Fault fault) is values good = let both = sym is ∙ good in cc
       none_shelved error.NoMemory is values good = inr (tt, appends_nothing old, none)
 
@@ -79,7 +79,7 @@ module _ (saves : Saves) (words : List Text) where
     does_tells bytes told old new NoMemory d = inl (values, good, d)
 
     -- what is said of good words is said of these
-    pub runs_of : (left_old left_new old new : Option (List ℕ)) (status : Status) → DoesOn saves values left_old left_new old new status → Runs saves words left_old left_new old new status
+    pub runs_of : (left_old left_new old new : Option (List ℕ)) (status : Status) → DoesOn saves values left_old left_new old new status → RunTells saves words left_old left_new old new status
     runs_of left_old left_new old new status d = record {
       bytes = d.bytes;
       told = d.told;

@@ -47,7 +47,7 @@ module _ (saw : List Entry → Type 0) (old new : Option (List ℕ)) (a : Accept
 -- something was seen of a decoding that ended, and of one that couldn't begin nothing
 pub some_seen : (P : Type 0) (values : Values) (saw : List Entry → Type 0) (left_old left_new old new : Option (List ℕ)) (ended : Result ListingEnd Status)
     → IfOk ended (DecodesOn values (IsSeen saw old new) (IsSeenFront saw old new) left_old left_new) → IfErr ended (λ status. P × saw []) → (entries : List Entry) × saw entries
-some_seen P values saw left_old left_new old new (Ok end) d none = some_says saw old new d.decoded.accepted d.decoded.nodes d.decoded.form d.decoded.pins d.bytes d.told end d.decoded.says
+some_seen P values saw left_old left_new old new (Ok end) d none = some_says saw old new d.decoded.accepted d.decoded.nodes d.decoded.head.form d.decoded.pins d.bytes d.told end d.decoded.says
 some_seen P values saw left_old left_new old new (Err status) d none = ([], none.1)
 
 module _ (values : Values) (lent now : MutBor ViewWriter) (left_old left_new old new : Option (List ℕ)) (shelf : Listing) where

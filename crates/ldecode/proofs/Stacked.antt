@@ -45,7 +45,7 @@ pub one_stack : (values : Values) (some other : Accepted) → Stacks values some
 one_stack values some other a b = let both = sym a.stack ∙ b.stack in cc
 
 module _ (values : Values) (names : List (List ℕ)) (rate : Rate) (accepted : Accepted) (stacks : Stacks values accepted) where
-  pub stack_asks : (pins : List ℕ) (bounds : List BoundInstance) → bound_of MOST_PINS names rate accepted.instances ≡ Ok bounds → pins ≡ Rattle.stack_spec.specs.Binding.pins_of bounds
+  pub stack_asks : (pins : List ℕ) (bounds : List BoundInstance) → bound_of MOST_PINS names rate accepted.instances ≡ Ok bounds → pins ≡ Rattle.stack_spec.specs.Binding.stack_pins bounds
       → AsksStack values names rate pins accepted (nodes_of accepted.instances bounds)
   stack_asks pins bounds bound pins_are = record {
     stack = record { accepted = accepted; stacks = stacks; bounds = bounds; bound = bound };
@@ -55,7 +55,7 @@ module _ (values : Values) (names : List (List ℕ)) (rate : Rate) (accepted : A
   }
 
   -- with these setups
-  pub asked_setups : (pins : List ℕ) (bounds : List BoundInstance) (bound : bound_of MOST_PINS names rate accepted.instances ≡ Ok bounds) (pins_are : pins ≡ Rattle.stack_spec.specs.Binding.pins_of bounds) → setups_in (stack_asks pins bounds bound pins_are).stack ≡ map (λ (b : BoundInstance). b.setup) bounds
+  pub asked_setups : (pins : List ℕ) (bounds : List BoundInstance) (bound : bound_of MOST_PINS names rate accepted.instances ≡ Ok bounds) (pins_are : pins ≡ Rattle.stack_spec.specs.Binding.stack_pins bounds) → setups_in (stack_asks pins bounds bound pins_are).stack ≡ map (λ (b : BoundInstance). b.setup) bounds
   unfolding stack_asks
   asked_setups pins bounds bound pins_are = refl
 

@@ -80,10 +80,6 @@ module _ (saves : Saves) (values : Values) (left_old left_new old new : Option (
 
       many_decoded : (bytes : List ℕ) (told : Told) → DecodedAs values (IsShown old new shelf) (IsShownFront old new shelf) bytes told ends.Done → HasNotes values bytes told count
       many_decoded bytes told d = record {
-        form = d.form;
-        names = d.names;
-        rate = d.rate;
-        form_is = d.form_is;
         head = d.head;
         pins = d.pins;
         accepted = d.accepted;

@@ -156,7 +156,7 @@ module _ (values : Values) (form : Form) (named : IsFormOf values form) (judged 
       told = opens.opened.0;
       taken = opens.consumed;
       at_end = opens.opened.1;
-      refuses = record { form = form; names = names_of capture; rate = rate_of capture; form_is = named; head = opens.opened.3; refused = refused };
+      refuses = record { head = record { form = form; names = names_of capture; rate = rate_of capture; form_is = named; is = opens.opened.3 }; refused = refused };
     }
 
     -- there was no memory to bind
@@ -181,7 +181,7 @@ module _ (saves : Saves) (values : Values) (form : Form) (named : IsFormOf value
       told = opens.opened.0;
       taken = opens.consumed;
       at_end = opens.opened.1;
-      works = (record { form = form; names = names_of capture; rate = rate_of capture; form_is = named; head = head_of; refused = refused }, appends_nothing old);
+      works = (record { head = record { form = form; names = names_of capture; rate = rate_of capture; form_is = named; is = head_of }; refused = refused }, appends_nothing old);
     }
 
     module _ (now : Capture) (pins : List ℕ) (form_stays : capture_form now ≡ form) (pins_are : pins_of now ≡ pins) (left_new new : Option (List ℕ)) where
@@ -201,7 +201,7 @@ module _ (saves : Saves) (values : Values) (form : Form) (named : IsFormOf value
             told = l.told;
             taken = Consumes-trans left_old left_mid left_new opens.bytes l.bytes opens.consumed l.taken;
             at_end = l.at_end;
-            works = worked saves values (opens.bytes ++ l.bytes) l.told old new end (λ is. read_is_cut form pins (λ samples. WholeListing samples alts old new) (λ samples. ListingFront samples alts old new) (opens.bytes ++ l.bytes) l.told end is l.says) (inl (record { form = form; names = names_of capture; rate = rate_of capture; form_is = named; head = head_on l.bytes l.told l.later; pins = pins; alts = alts; asks = asks; says = l.says }));
+            works = worked saves values (opens.bytes ++ l.bytes) l.told old new end (λ is. read_is_cut form pins (λ samples. WholeListing samples alts old new) (λ samples. ListingFront samples alts old new) (opens.bytes ++ l.bytes) l.told end is l.says) (inl (record { head = record { form = form; names = names_of capture; rate = rate_of capture; form_is = named; is = head_on l.bytes l.told l.later }; pins = pins; alts = alts; asks = asks; says = l.says }));
           }
 
       -- the decoding of a part came to its end
@@ -215,7 +215,7 @@ module _ (saves : Saves) (values : Values) (form : Form) (named : IsFormOf value
             taken = Consumes-trans left_old left_mid left_new opens.bytes l.bytes opens.consumed l.taken;
             at_end = l.at_end;
             works = worked saves values (opens.bytes ++ l.bytes) l.told old new end (part_is_cut form pins count (opens.bytes ++ l.bytes) l.told end l.ends)
-                (inr (inr (record { form = form; names = names_of capture; rate = rate_of capture; form_is = named; opens = fits; head = head_on l.bytes l.told l.later; pins = pins; accepted = accepted; nodes = nodes; job = job; asks = asks; count = count; begins = begins; ends = l.ends; says = l.says })));
+                (inr (inr (record { head = record { form = form; names = names_of capture; rate = rate_of capture; form_is = named; is = head_on l.bytes l.told l.later }; opens = fits; pins = pins; accepted = accepted; nodes = nodes; job = job; asks = asks; count = count; begins = begins; ends = l.ends; says = l.says })));
           }
 
 -- there was no memory before anything was read

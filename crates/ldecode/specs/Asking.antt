@@ -76,9 +76,9 @@ bind_all names entry pins (terms ∷ more) =
     (λ others. Ok (bounds ∷ others)))
 
 -- the pins of all alternatives
-abbrev pub pins_of : List ℕ → List (List Bound) → List ℕ
-pins_of pins [] = pins
-pins_of pins (bounds ∷ more) = pins_of (pins_after pins bounds) more
+abbrev pub search_pins : List ℕ → List (List Bound) → List ℕ
+search_pins pins [] = pins
+search_pins pins (bounds ∷ more) = search_pins (pins_after pins bounds) more
 
 -- each alternative asks its terms of the pins up to and with its own; those of later ones stand
 -- behind them
@@ -150,16 +150,21 @@ pub record StackBound (values : Values) (names : List (List ℕ)) (rate : Rate) 
   pub bounds : List BoundInstance
   pub bound : bound_of MOST_PINS names rate accepted.instances ≡ Ok bounds
 
--- the head of these bytes is good, and a channel isn't there, is one too many, or the rate is too
--- low
-pub record CannotBind (values : Values) (bytes : List ℕ) (told : Told)
-    (fault : BindFault) : Type 0 where
+-- the head of these bytes is good, in the form that the values name, with these names of channels
+-- and this rate
+pub record ReadHead (values : Values) (bytes : List ℕ) (told : Told) : Type 0 where
   pub form : Form
   pub names : List (List ℕ)
   pub rate : Rate
   pub form_is : IsFormOf values form
-  pub head : HasHead form bytes told names rate
-  pub refused : SearchRefused values names fault ⊎ StackRefused values names rate fault
+  pub is : HasHead form bytes told names rate
+
+-- the head of these bytes is good, and a channel isn't there, is one too many, or the rate is too
+-- low
+pub record CannotBind (values : Values) (bytes : List ℕ) (told : Told)
+    (fault : BindFault) : Type 0 where
+  pub head : ReadHead values bytes told
+  pub refused : SearchRefused values head.names fault ⊎ StackRefused values head.names head.rate fault
 
 -- a whole capture is decoded under a stack that can be bound
 pub record WholeBound (values : Values) (names : List (List ℕ)) (rate : Rate) : Type 0 where
@@ -193,28 +198,20 @@ AllBound saves values names rate = SearchBound values names ⊎ WholeBound value
 -- the head of these bytes is good, all is bound, and a checkpoint is refused
 pub record CheckRefused (saves : Saves) (values : Values) (bytes : List ℕ) (told : Told)
     (fault : CheckFault) : Type 0 where
-  pub form : Form
-  pub names : List (List ℕ)
-  pub rate : Rate
-  pub form_is : IsFormOf values form
-  pub head : HasHead form bytes told names rate
-  pub refused : PartRefused saves values names rate fault
+  pub head : ReadHead values bytes told
+  pub refused : PartRefused saves values head.names head.rate fault
 
 -- the head of these bytes is good, and all is bound
 pub record CanBind (saves : Saves) (values : Values) (bytes : List ℕ) (told : Told)
     : Type 0 where
-  pub form : Form
-  pub names : List (List ℕ)
-  pub rate : Rate
-  pub form_is : IsFormOf values form
-  pub head : HasHead form bytes told names rate
-  pub bound : AllBound saves values names rate
+  pub head : ReadHead values bytes told
+  pub bound : AllBound saves values head.names head.rate
 
 -- how many samples there are of a part and before it, together
 abbrev pub part_samples : {values : Values} {names : List (List ℕ)} {rate : Rate}
     → StackBound values names rate → ℕ → Form → List ℕ → Told → ℕ
 part_samples stack earlier form bytes told =
-    earlier + length (capture_of form (binding.pins_of stack.bounds) bytes told).settled
+    earlier + length (capture_of form (binding.stack_pins stack.bounds) bytes told).settled
 
 -- the samples of a part don't go past the most that parts may have; of other jobs nothing is asked
 abbrev pub StaysWithin : {saves : Saves} {values : Values} {names : List (List ℕ)} {rate : Rate}
@@ -229,20 +226,16 @@ StaysWithin (inr (inr (earlier, part))) form bytes told =
 pub record EndsAs (saves : Saves) (values : Values) (bytes : List ℕ) (told : Told)
     (ending : Ending) : Type 0 where
   pub can : CanBind saves values bytes told
-  pub ends : (capture_of can.form [] bytes told).ending ≡ ending
-  pub within : StaysWithin can.bound can.form bytes told
+  pub ends : (capture_of can.head.form [] bytes told).ending ≡ ending
+  pub within : StaysWithin can.bound can.head.form bytes told
 
 -- the bytes have a good head to which all is bound, and the samples of a part go past their bound
 pub record GoesPast (saves : Saves) (values : Values) (bytes : List ℕ) (told : Told)
     : Type 0 where
-  pub form : Form
-  pub names : List (List ℕ)
-  pub rate : Rate
-  pub form_is : IsFormOf values form
-  pub head : HasHead form bytes told names rate
+  pub head : ReadHead values bytes told
   pub earlier : ℕ
-  pub part : PartBound saves values names rate earlier
-  pub past : most_samples < part_samples part.stack earlier form bytes told
+  pub part : PartBound saves values head.names head.rate earlier
+  pub past : most_samples < part_samples part.stack earlier head.form bytes told
 
 -- the head of these bytes is this one
 pub record HeadIs (values : Values) (bytes : List ℕ) (told : Told) (head : Head) : Type 0 where
@@ -262,7 +255,7 @@ HasFault saves values bytes told fault =
 pub record AsksFor (values : Values) (names : List (List ℕ)) (pins : List ℕ)
     (alts : List Alt) : Type 0 where
   pub search : SearchBound values names
-  pub pins_are : pins ≡ pins_of [] search.bounds
+  pub pins_are : pins ≡ search_pins [] search.bounds
   pub asks : EachAsks [] search.bounds alts
 
 -- the decoders of instances that are bound
@@ -277,5 +270,5 @@ pub record AsksStack (values : Values) (names : List (List ℕ)) (rate : Rate) (
     (accepted : Accepted) (nodes : List (Node Setup)) : Type 0 where
   pub stack : StackBound values names rate
   pub accepted_is : accepted ≡ stack.accepted
-  pub pins_are : pins ≡ binding.pins_of stack.bounds
+  pub pins_are : pins ≡ binding.stack_pins stack.bounds
   pub nodes_are : nodes ≡ nodes_of stack.accepted.instances stack.bounds

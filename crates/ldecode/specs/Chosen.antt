@@ -10,7 +10,7 @@ use Rattle.wait_cond.specs.Words.{Meaning}
 use Rattle.wait_cond.specs.declared.alt.Alt.{Alt}
 use Rattle.stack_spec.specs.declared.faults.BindError.{BindError}
 use Rattle.stack_spec.specs.declared.faults.BindError.TheVariants.{Fault, NoMemory}
-use Rattle.ldecode.specs.Asking.{EachAsks, bind_all, in_entry, pins_of}
+use Rattle.ldecode.specs.Asking.{EachAsks, bind_all, in_entry, search_pins}
 use Rattle.ldecode.specs.declared.alternatives.Wanted.{Wanted}
 
 -- these are the terms of the alternatives
@@ -31,7 +31,7 @@ pub record Chosen (names : List (List ℕ)) (alternatives : List (List Meaning))
     (alts : List Alt) : Type 0 where
   pub bounds : List (List Bound)
   pub bound : bind_all names 0 [] alternatives ≡ Ok bounds
-  pub pins_are : pins ≡ pins_of [] bounds
+  pub pins_are : pins ≡ search_pins [] bounds
   pub asks : EachAsks [] bounds alts
 
 -- what an answer means, where these are the alternatives

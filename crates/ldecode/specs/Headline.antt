@@ -1,9 +1,14 @@
 -- What a run does: the status that its words, its capture and its failures give, and what is
 -- written with it.
+--
+-- The promise is at the end, `Promises` and `Headline`; what it says by the status is `Tells`, of a
+-- decoding `DecodedAs`. To be read with it, in this order: what good words ask for (`Asking`), what
+-- a listing is (`Decoding`, and `Listing` of decode_job), how the bytes of a capture settle samples
+-- (`Captures` and `Listings` of capture_any), parts and their checkpoints (`Parting`, `Parts`), made
+-- captures (`Making`), the lines that tell of a run (`Notices`), and what viewers see (`Watching`).
 use Rattle.std.specs.Prelude.{ℕ, ◌≡◌, ◌≤◌, ◌⊎◌, true, List, [], Option, Some, None, Ok, Err}
 use Rattle.std.specs.Prelude.{length}
 use Rattle.std.specs.Io.KnownBytes.{Appends, Consumes}
-use Rattle.la_base.specs.declared.samples.Rate.{Rate}
 use Rattle.la_io.specs.Capture.{Told, AtEnd, Cut, Bad, Unread, Clean}
 use Rattle.la_io.specs.Causes.{AppendsFront, Rose}
 use Rattle.la_io.specs.declared.fault.CaptureFault.{CaptureFault}
@@ -11,7 +16,6 @@ use Rattle.capture_any.specs.Captures.{IsForm, ToldAt}
 use Rattle.capture_any.specs.Listings.{Fails, Says}
 use Rattle.capture_any.specs.declared.end.ListingEnd.{ListingEnd}
 use Rattle.capture_any.specs.declared.end.ListingEnd.TheVariants as end
-use Rattle.capture_any.specs.declared.form.Form.{Form}
 use Rattle.find_job.specs.Finding.{WholeListing, ListingFront}
 use Rattle.wait_cond.specs.declared.alt.Alt.{Alt}
 use Rattle.words.specs.Lexer.{Text}
@@ -25,7 +29,7 @@ use Rattle.stack_spec.specs.declared.faults.StackFault.{StackFault}
 use Rattle.decoder_core.specs.Trees.{Node}
 use Rattle.decoder_set.specs.declared.setup.Setup.{Setup}
 use Rattle.ldecode.specs.Asking.{AsksFor, AsksStack, CannotBind, CheckRefused, EndsAs, HasFault}
-use Rattle.ldecode.specs.Asking.{HasHead, HasStackFault, HeadIs, IsFormOf, NamesNoHead, setups_in}
+use Rattle.ldecode.specs.Asking.{HasStackFault, HeadIs, NamesNoHead, ReadHead, setups_in}
 use Rattle.ldecode.specs.Asking.{lists_notes}
 use Rattle.ldecode.specs.Decoding.{decode_listing, decode_notes}
 use Rattle.ldecode.specs.Making.{MadeBy}
@@ -56,32 +60,24 @@ DidFail s = Rose s.failed_old s.failed_new
 -- the search that the values ask for came to this end
 pub record Searched (values : Values) (bytes : List ℕ) (told : Told) (old new : Option (List ℕ))
     (end : ListingEnd) : Type 0 where
-  pub form : Form
-  pub names : List (List ℕ)
-  pub rate : Rate
-  pub form_is : IsFormOf values form
-  pub head : HasHead form bytes told names rate
+  pub head : ReadHead values bytes told
   pub pins : List ℕ
   pub alts : List Alt
-  pub asks : AsksFor values names pins alts
-  pub says : Says form pins (λ samples. WholeListing samples alts old new)
+  pub asks : AsksFor values head.names pins alts
+  pub says : Says head.form pins (λ samples. WholeListing samples alts old new)
       (λ samples. ListingFront samples alts old new) bytes told end
 
 -- the decoding of a whole capture that the values ask for came to this end, and this holds of its
 -- stack and of the samples: `Whole` of all of them, or `Front` of those that some bytes settle
 pub record DecodedAs (values : Values) (Whole Front : Accepted → List (Node Setup) → List ℕ → Type 0)
     (bytes : List ℕ) (told : Told) (end : ListingEnd) : Type 0 where
-  pub form : Form
-  pub names : List (List ℕ)
-  pub rate : Rate
-  pub form_is : IsFormOf values form
-  pub head : HasHead form bytes told names rate
+  pub head : ReadHead values bytes told
   pub pins : List ℕ
   pub accepted : Accepted
   pub nodes : List (Node Setup)
   pub job : values.job ≡ Decode
-  pub asks : AsksStack values names rate pins accepted nodes
-  pub says : Says form pins (Whole accepted nodes) (Front accepted nodes) bytes told end
+  pub asks : AsksStack values head.names head.rate pins accepted nodes
+  pub says : Says head.form pins (Whole accepted nodes) (Front accepted nodes) bytes told end
 
 -- the listing of a stack was written, or a front of it
 abbrev pub IsListed : Option (List ℕ) → Option (List ℕ) → Accepted → List (Node Setup) → List ℕ
@@ -104,22 +100,18 @@ Decoded values bytes told old new end =
 -- samples; nothing else depends on these
 pub record Parted (saves : Saves) (values : Values) (bytes : List ℕ) (told : Told)
     (old new : Option (List ℕ)) (end : ListingEnd) : Type 0 where
-  pub form : Form
-  pub names : List (List ℕ)
-  pub rate : Rate
-  pub form_is : IsFormOf values form
-  pub opens : IsForm form
-  pub head : HasHead form bytes told names rate
+  pub head : ReadHead values bytes told
+  pub opens : IsForm head.form
   pub pins : List ℕ
   pub accepted : Accepted
   pub nodes : List (Node Setup)
   pub job : values.job ≡ Part
-  pub asks : AsksStack values names rate pins accepted nodes
+  pub asks : AsksStack values head.names head.rate pins accepted nodes
   pub count : ℕ
   pub begins : CanBegin saves (setups_in asks.stack) values.from count
-  pub ends : PartEnds form pins count bytes told end
+  pub ends : PartEnds head.form pins count bytes told end
   pub says : (earlier : List ℕ) → CameBefore saves nodes values.from earlier
-      → PartWrites (part_listing accepted nodes) (IsCheckAt saves nodes) earlier old new form pins
+      → PartWrites (part_listing accepted nodes) (IsCheckAt saves nodes) earlier old new head.form pins
       bytes told end
 
 -- the work that the values ask for came to this end
@@ -245,7 +237,7 @@ Tells saves words bytes told old new NoMemory =
 
 -- a run took these bytes of its source, whose end it was told or not, and its status says what it
 -- says of them
-pub record Runs (saves : Saves) (words : List Text)
+pub record RunTells (saves : Saves) (words : List Text)
     (left_old left_new old new : Option (List ℕ)) (status : Status) : Type 0 where
   pub bytes : List ℕ
   pub told : Told

@@ -18,7 +18,7 @@ use Rattle.view_store.specs.Listings.{Listing, nothing}
 use Rattle.shelf_watch.specs.Shelves.{IsFrontOf, ended_with, pairs_of}
 use Rattle.ldecode.specs.Asking.{lists_notes}
 use Rattle.ldecode.specs.Decoding.{decode_listing, decode_notes}
-use Rattle.ldecode.specs.Headline.{DecodedAs, HasNotes, IsWatched, Promises, Refuses, Runs}
+use Rattle.ldecode.specs.Headline.{DecodedAs, HasNotes, IsWatched, Promises, Refuses, RunTells}
 use Rattle.ldecode.specs.Headline.{Saw, Stream, WorksOn}
 use Rattle.ldecode.specs.Notices.{notice_of, status_of}
 use Rattle.ldecode.specs.Parting.{Saves}
@@ -116,7 +116,7 @@ IsOnShelf words bytes told old new shelf status =
 pub record RunsShelved (saves : Saves) (words : List Text)
     (left_old left_new old new : Option (List ℕ)) (shelf : Listing) (status : Status)
     : Type 0 where
-  pub runs : Runs saves words left_old left_new old new status
+  pub runs : RunTells saves words left_old left_new old new status
   pub on_shelf : IsOnShelf words runs.bytes runs.told old new shelf status
 
 -- the promise of a run over a new shelf. It tells its status alone
@@ -142,5 +142,5 @@ pub record ViewsOn (saves : Saves) (values : Values) (left_old left_new old new 
 -- a whole run, with how many notes a viewer saw of it
 pub record RunsViewed (saves : Saves) (words : List Text)
     (left_old left_new old new : Option (List ℕ)) (outcome : Outcome) : Type 0 where
-  pub runs : Runs saves words left_old left_new old new outcome.status
+  pub runs : RunTells saves words left_old left_new old new outcome.status
   pub saw : Saw words runs.bytes runs.told outcome.status outcome.seen

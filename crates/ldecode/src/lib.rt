@@ -21,9 +21,13 @@ mod whole;
 mod work;
 
 pub use annot_merge::Merge;
+pub use check_point::{CheckFault, CheckWhy};
+pub use la_io::CaptureFault;
 pub use laws::made_captures_are_read_back;
 pub use note_lister::{ListStop, Lister};
+pub use stack_spec::{BindFault, StackFault, StackWhy};
 pub use stage_crew::{Pacer, PlainPacer};
 pub use status::{Status, exit_code};
+pub use wait_cond::BindWhy;
 pub use whole::{run, run_here, run_watched};
 pub use words::{Format, Job, Settings, WordFault, WordWhy, WordsError, read_words};

@@ -33,11 +33,11 @@ pub record RunEnds (saves : Saves) (words : List (List ℕ)) (source sink notice
 
 -- what is asked for is done; `same` and `quiet` say that the source and the notices are just as
 -- they were
-abbrev pub Does : Saves → Request → (List ℕ → Type 0) → List ℕ → List (List ℕ) → Stream → Stream
+abbrev pub ProgramDoes : Saves → Request → (List ℕ → Type 0) → List ℕ → List (List ℕ) → Stream → Stream
     → Stream → Type 0 → Type 0 → ℕ → Type 0
-Does saves Help IsHelp version words source sink notices same quiet code =
+ProgramDoes saves Help IsHelp version words source sink notices same quiet code =
     MadeWritten IsHelp sink code × same × quiet
-Does saves Version IsHelp version words source sink notices same quiet code =
+ProgramDoes saves Version IsHelp version words source sink notices same quiet code =
     TextWritten version sink code × same × quiet
-Does saves Run IsHelp version words source sink notices same quiet code =
+ProgramDoes saves Run IsHelp version words source sink notices same quiet code =
     RunEnds saves words source sink notices same code

@@ -5,7 +5,7 @@ ghost use Rattle.decoder_set.specs.declared.table.TheConstants.{KINDS};
 ghost use Rattle.words.specs.declared.options.TheConstants.{OPTIONS};
 ghost use Rattle.ldecode.specs.Headline.{stream};
 ghost use Rattle.ldecode_program.specs.Help.{IsHelp};
-ghost use Rattle.ldecode_program.specs.Programs.{Does, MadeWritten, TextWritten};
+ghost use Rattle.ldecode_program.specs.Programs.{ProgramDoes, MadeWritten, TextWritten};
 ghost use Rattle.ldecode_program.specs.Requests.{requested};
 ghost use Rattle.ldecode_program.specs.declared.help.TheConstants.{CLOSING, DECODERS, USAGE};
 ghost use Rattle.ldecode_program.specs.declared.help.TheConstants.{VERSION};
@@ -53,7 +53,7 @@ pub fn program<R: Threads + Wait + Sync, S: Source, K: Sink, E: Sink, P: Pacer +
     notices: &mut E,
     pacer: &P,
 ) -> u8
-    ensures { Does ⟦<AnyDecoder as Keep>⟧.saves (requested (map string_bytes words.now))
+    ensures { ProgramDoes ⟦<AnyDecoder as Keep>⟧.saves (requested (map string_bytes words.now))
         (IsHelp USAGE.now DECODERS.now CLOSING.now OPTIONS KINDS) VERSION.now
         (map string_bytes words.now)
         (stream S.left S.faults source.old source.new) (stream K.written K.faults sink.old sink.new)

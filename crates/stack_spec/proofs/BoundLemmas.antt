@@ -18,7 +18,7 @@ use Rattle.decoder_set.specs.declared.setup.Setup.{Setup}
 use Rattle.wait_cond.specs.Binding.{is_pin, first_uses}
 use Rattle.wait_cond.specs.declared.faults.BindWhy.TheVariants as why
 use Rattle.stack_spec.specs.declared.faults.BindFault.{BindFault}
-use Rattle.stack_spec.specs.Binding.{RowBound, channels, with_channels, values_of, BoundInstance, pins_of, setup_of, fault, opened_at, rows_bound, instance_bound, bound_at, bound_of}
+use Rattle.stack_spec.specs.Binding.{RowBound, channels, with_channels, values_of, BoundInstance, stack_pins, setup_of, bind_fault, opened_at, rows_bound, instance_bound, bound_at, bound_of}
 use Rattle.stack_spec.specs.BindSteps.{BindsRows, BindsInstance, IsBound}
 use Rattle.stack_spec.specs.declared.bound.Bound.{Bound}
 use Rattle.stack_spec.specs.Instances.{Instance}
@@ -36,9 +36,9 @@ module _ (most : ℕ) (names : List (List ℕ)) (rate : Rate) (pins : List ℕ) 
   same_speed = ap (λ (l : List (Option ℕ)). too_slow instance.kind l rate) b.values_are
 
   bound_by : (slow : Bool) → too_slow instance.kind values.given rate ≡ slow
-      → instance_bound most names rate pins entry instance ≡ (if slow then fault entry 0 why.Rate else Ok (record { setup = setup_of rate instance b.rows; uses = channels b.rows }))
+      → instance_bound most names rate pins entry instance ≡ (if slow then bind_fault entry 0 why.Rate else Ok (record { setup = setup_of rate instance b.rows; uses = channels b.rows }))
   bound_by slow is = ap (λ (r : Result (List RowBound) BindFault). then_read r (opened_at rate entry instance)) b.reads
-      ∙ ap (λ (t : Bool). if◌then◌else◌ {A = Result BoundInstance BindFault} t (fault entry 0 why.Rate) (Ok (record { setup = setup_of rate instance b.rows; uses = channels b.rows }))) (sym same_speed ∙ is)
+      ∙ ap (λ (t : Bool). if◌then◌else◌ {A = Result BoundInstance BindFault} t (bind_fault entry 0 why.Rate) (Ok (record { setup = setup_of rate instance b.rows; uses = channels b.rows }))) (sym same_speed ∙ is)
 
   -- a decoder that was opened
   pub bound_ok : (decoder : AnyDecoder) → Opens most instance.kind values rate (Ok decoder) → BindsInstance (instance_bound most names rate pins entry instance) pins new decoder
@@ -51,7 +51,7 @@ module _ (most : ℕ) (names : List (List ℕ)) (rate : Rate) (pins : List ℕ) 
   }
 
   -- a decoder that can't be opened
-  pub bound_slow : (reason : OptFault) → Opens most instance.kind values rate (Err reason) → instance_bound most names rate pins entry instance ≡ fault entry 0 why.Rate
+  pub bound_slow : (reason : OptFault) → Opens most instance.kind values rate (Err reason) → instance_bound most names rate pins entry instance ≡ bind_fault entry 0 why.Rate
   bound_slow reason o = bound_by true (slow most instance.kind values.given rate reason range o)
 
 -- the pins of channels in two parts
@@ -64,8 +64,8 @@ with_channels-append pins (x ∷ xs) ys = by (is_pin pins x) (with_channels-appe
     by true old new = old
     by false old new = sym (append_assoc pins (x ∷ []) (first_uses (pins ++ x ∷ []) (xs ++ ys))) ∙ new ∙ ap (λ (l : List ℕ). with_channels l ys) (append_assoc pins (x ∷ []) (first_uses (pins ++ x ∷ []) xs))
 
-pins_of-push : (read : List BoundInstance) (instance : BoundInstance) → pins_of (read ++ instance ∷ []) ≡ with_channels (pins_of read) instance.uses
-pins_of-push read instance = ap (with_channels []) (flat_map-append (λ i. i.uses) read (instance ∷ []) ∙ ap (λ (l : List ℕ). flat_map (λ i. i.uses) read ++ l) (append-nil instance.uses))
+stack_pins-push : (read : List BoundInstance) (instance : BoundInstance) → stack_pins (read ++ instance ∷ []) ≡ with_channels (stack_pins read) instance.uses
+stack_pins-push read instance = ap (with_channels []) (flat_map-append (λ i. i.uses) read (instance ∷ []) ∙ ap (λ (l : List ℕ). flat_map (λ i. i.uses) read ++ l) (append-nil instance.uses))
     ∙ with_channels-append [] (flat_map (λ i. i.uses) read) instance.uses
 
 enumerate_at : {X : Type 0} (n : ℕ) (xs : List X) (k : ℕ) (d : ℕ × X) (x : X) → k < length xs → x ≡ get_or xs k x → get_or (enumerate_from n xs) k d ≡ (n + k, x)
@@ -94,7 +94,7 @@ options_right before (y ∷ ys) (suc k) x all within is = options_right (before 
 pub record BoundSoFar (most : ℕ) (names : List (List ℕ)) (rate : Rate) (instances : List Instance) (k : ℕ) (pins : List ℕ) (machines : List AnyDecoder) (parents : List (Option ℕ)) : Type 0 where
   pub read : List BoundInstance
   pub reads : bound_of most names rate instances ≡ read_parts (bound_at most names rate) read (drop k (enumerate_from 0 instances))
-  pub pins_are : pins ≡ pins_of read
+  pub pins_are : pins ≡ stack_pins read
   pub setups : map opening.setup_of machines ≡ map (λ instance. instance.setup) read
   pub consumed : All (λ decoder. HasConsumed decoder []) machines
   pub parents_are : parents ≡ map (λ instance. instance.parent) (take k instances)
@@ -116,7 +116,7 @@ nothing_bound most names rate instances = record {
 kind_kept : (most : ℕ) (names : List (List ℕ)) (rate : Rate) (pins : List ℕ) (entry : ℕ) (instance : Instance) (b : BoundInstance) → instance_bound most names rate pins entry instance ≡ Ok b → b.setup.kind ≡ instance.kind
 kind_kept most names rate pins entry instance b e = by (rows_bound most names pins entry instance) e
   where
-    opened : (rows : List RowBound) (slow : Bool) → (if slow then fault entry 0 why.Rate else Ok (record { setup = setup_of rate instance rows; uses = channels rows })) ≡ Ok b → b.setup.kind ≡ instance.kind
+    opened : (rows : List RowBound) (slow : Bool) → (if slow then bind_fault entry 0 why.Rate else Ok (record { setup = setup_of rate instance rows; uses = channels rows })) ≡ Ok b → b.setup.kind ≡ instance.kind
     opened rows true e = cc
     opened rows false e = let same : record { setup = setup_of rate instance rows; uses = channels rows } ≡ b = cc in ap (λ (x : BoundInstance). x.setup.kind) (sym same)
 
@@ -140,7 +140,7 @@ module _ (most : ℕ) (names : List (List ℕ)) (rate : Rate) (instances : List 
   bound_more new decoder b = record {
     read = s.read ++ b.instance ∷ [];
     reads = turn ∙ ap (λ (r : Result BoundInstance BindFault). then_read r (λ b. read_parts (bound_at most names rate) (s.read ++ b ∷ []) (drop (k + 1) (enumerate_from 0 instances)))) b.reads;
-    pins_are = b.pins ∙ ap (λ (l : List ℕ). with_channels l b.instance.uses) s.pins_are ∙ sym (pins_of-push s.read b.instance);
+    pins_are = b.pins ∙ ap (λ (l : List ℕ). with_channels l b.instance.uses) s.pins_are ∙ sym (stack_pins-push s.read b.instance);
     setups = map-push opening.setup_of machines decoder ∙ (λ i. s.setups i ++ b.setup i ∷ []) ∙ sym (map-push (λ instance. instance.setup) s.read b.instance);
     consumed = All-push (λ decoder. HasConsumed decoder []) machines decoder s.consumed b.consumed;
     parents_are = ap (λ (l : List (Option ℕ)). l ++ instance.parent ∷ []) s.parents_are ∙ sym (map-push (λ instance. instance.parent) (take k instances) instance) ∙ ap (map (λ instance. instance.parent)) (sym (take_one instances k instance within is));

@@ -18,7 +18,7 @@ use Rattle.stack_spec.specs.declared.faults.StackWhy.{StackWhy}
 use Rattle.stack_spec.specs.declared.faults.StackWhy.TheVariants as why
 use Rattle.stack_spec.specs.Chains.{Link, news, last_place, kind_text, instance_by, placed_by, kind_at, instance_at, added_at, earlier_at, is_dash, part_at, link_at, all_of, chain_at, instances_of}
 use Rattle.stack_spec.specs.Instances.{Instance, Given, name_of, place_named, stands_on, unless_full, why_not}
-use Rattle.stack_spec.specs.Options.{fault, options_at}
+use Rattle.stack_spec.specs.Options.{stack_fault, options_at}
 use Rattle.stack_spec.specs.Sound.{options_fit, parent_fits, is_right, right_from, is_sound}
 use Rattle.stack_spec.proofs.LinkLemmas.{flat_map-append, last_place-push}
 use Rattle.stack_spec.proofs.OptionLemmas.{read_keeps, both, join, options_read_fit}

@@ -10,7 +10,7 @@ use Rattle.decoder_set.specs.Kinds.{Text, class_of}
 use Rattle.stack_spec.specs.declared.faults.StackFault.{StackFault}
 use Rattle.stack_spec.specs.declared.faults.StackWhy.TheVariants as why
 use Rattle.stack_spec.specs.Instances.{Instance, place_named}
-use Rattle.stack_spec.specs.Options.{is_colon, fault}
+use Rattle.stack_spec.specs.Options.{is_colon, stack_fault}
 use Rattle.stack_spec.specs.Chains.{instances_of}
 
 -- a stack: its instances; the places of those that are shown, none for all; the instance and class
@@ -27,7 +27,7 @@ is_shown (Some places) instance = list_any (λ place. place == instance) places
 
 -- what a name stands for, or Unknown at its place
 abbrev pub known : {X : Type 0} → ℕ → ℕ → Option X → Result X StackFault
-known word at None = fault word at why.Unknown
+known word at None = stack_fault word at why.Unknown
 known word at (Some x) = Ok x
 
 -- one name of those to be shown

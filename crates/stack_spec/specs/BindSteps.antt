@@ -13,7 +13,7 @@ use Rattle.stack_spec.specs.declared.faults.BindError.TheVariants as error
 use Rattle.stack_spec.specs.declared.faults.BindFault.{BindFault}
 use Rattle.stack_spec.specs.declared.bound.Bound.{Bound}
 use Rattle.stack_spec.specs.Binding.{RowBound, Absent, Plain, On, channels, with_channels, value_of}
-use Rattle.stack_spec.specs.Binding.{values_of, BoundInstance, pins_of, bound_of}
+use Rattle.stack_spec.specs.Binding.{values_of, BoundInstance, stack_pins, bound_of}
 use Rattle.stack_spec.specs.Instances.{Instance}
 
 -- pins of a capture with so many channels: each once, no more than `most`
@@ -71,9 +71,9 @@ InstanceStep read old new (Ok decoder) = BindsInstance read old new decoder
 InstanceStep read old new (Err fault) = read ≡ Err fault
 
 -- the fault that an error tells; want of memory tells none
-abbrev pub fault_in : BindError → Option BindFault
-fault_in (error.Fault fault) = Some fault
-fault_in error.NoMemory = None
+abbrev pub bind_fault_in : BindError → Option BindFault
+bind_fault_in (error.Fault fault) = Some fault
+bind_fault_in error.NoMemory = None
 
 -- decoders of these setups that have consumed nothing, on these pins and parents
 pub record IsBound (most : ℕ) (names : List (List ℕ)) (rate : Rate) (instances : List Instance)
@@ -83,10 +83,10 @@ pub record IsBound (most : ℕ) (names : List (List ℕ)) (rate : Rate) (instanc
   pub setups : map setup_in bound.machines.items ≡ map (λ instance. instance.setup) read
   pub consumed : All (λ decoder. HasConsumed decoder []) bound.machines.items
   pub parents : bound.parents.items ≡ map (λ instance. instance.parent) instances
-  pub pins : bound.pins.items ≡ pins_of read
+  pub pins : bound.pins.items ≡ stack_pins read
 
 -- what an answer means: the stack is bound, or its first fault
 abbrev pub Binds : ℕ → List (List ℕ) → Rate → List Instance → Result Bound BindError → Type 0
 Binds most names rate instances (Ok bound) = IsBound most names rate instances bound
 Binds most names rate instances (Err error) =
-    IfSome (fault_in error) (λ fault. bound_of most names rate instances ≡ Err fault)
+    IfSome (bind_fault_in error) (λ fault. bound_of most names rate instances ≡ Err fault)

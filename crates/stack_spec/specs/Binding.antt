@@ -33,13 +33,13 @@ abbrev pub with_channels : List ℕ → List ℕ → List ℕ
 with_channels pins channels = pins ++ first_uses pins channels
 
 -- a fault of an instance at a row
-abbrev pub fault : {X : Type 0} → ℕ → ℕ → BindWhy → Result X BindFault
-fault entry item why = Err (record { entry = entry; item = item; why = why })
+abbrev pub bind_fault : {X : Type 0} → ℕ → ℕ → BindWhy → Result X BindFault
+bind_fault entry item why = Err (record { entry = entry; item = item; why = why })
 
 -- what was judged, with its fault at a row of an instance
 abbrev pub at_item : {X : Type 0} → ℕ → ℕ → Result X BindWhy → Result X BindFault
 at_item entry item (Ok x) = Ok x
-at_item entry item (Err why) = fault entry item why
+at_item entry item (Err why) = bind_fault entry item why
 
 -- the bit of a channel: its place among the pins, or the next one behind them
 abbrev pub bit_of : List ℕ → ℕ → ℕ
@@ -91,8 +91,8 @@ pub record BoundInstance : Type 0 where
   pub uses : List ℕ
 
 -- the pins of instances: all channels, each once, in the order of their first use
-abbrev pub pins_of : List BoundInstance → List ℕ
-pins_of instances = with_channels [] (flat_map (λ instance. instance.uses) instances)
+abbrev pub stack_pins : List BoundInstance → List ℕ
+stack_pins instances = with_channels [] (flat_map (λ instance. instance.uses) instances)
 
 -- the setup of an instance whose rows are bound
 abbrev pub setup_of : Rate → Instance → List RowBound → Setup
@@ -102,7 +102,7 @@ setup_of rate instance rows =
 -- an instance whose rows are bound: Rate where the rate is too low for it
 abbrev pub opened_at : Rate → ℕ → Instance → List RowBound → Result BoundInstance BindFault
 opened_at rate entry instance rows =
-    if too_slow instance.kind (values_of rows) rate then fault entry 0 why.Rate
+    if too_slow instance.kind (values_of rows) rate then bind_fault entry 0 why.Rate
     else Ok (record { setup = setup_of rate instance rows; uses = channels rows })
 
 -- the rows of an instance behind these pins
@@ -119,7 +119,7 @@ instance_bound most names rate pins entry instance =
 -- an instance with its number, behind those before it
 abbrev pub bound_at : ℕ → List (List ℕ) → Rate → List BoundInstance → ℕ × Instance
     → Result BoundInstance BindFault
-bound_at most names rate before part = instance_bound most names rate (pins_of before) part.0 part.1
+bound_at most names rate before part = instance_bound most names rate (stack_pins before) part.0 part.1
 
 -- all instances in their order, or the first fault
 abbrev pub bound_of : ℕ → List (List ℕ) → Rate → List Instance

@@ -12,7 +12,7 @@ use Rattle.stack_spec.specs.declared.faults.StackFault.{StackFault}
 use Rattle.stack_spec.specs.declared.faults.StackWhy.{StackWhy}
 use Rattle.stack_spec.specs.declared.faults.StackWhy.TheVariants as why
 use Rattle.stack_spec.specs.Instances.{Instance, Given, place_named, next_number, why_not}
-use Rattle.stack_spec.specs.Options.{is_colon, fault, options_at}
+use Rattle.stack_spec.specs.Options.{is_colon, stack_fault, options_at}
 
 -- what a part of a chain names: the place of an instance in the stack, and the instance where it is
 -- a new one
@@ -42,7 +42,7 @@ instance_by before parent kind options =
 -- an instance of a kind: why it can't stand here, else its options
 abbrev pub placed_by : List Instance → Option ℕ → Kind → ℕ → Placed → Option StackWhy
     → Result Instance StackFault
-placed_by before parent kind word part (Some why) = fault word part.0 why
+placed_by before parent kind word part (Some why) = stack_fault word part.0 why
 placed_by before parent kind word part None =
     then_read (options_at (kind_row kind).options (kind_row kind).groups word part)
     (λ options. Ok (instance_by before parent kind options))
@@ -50,7 +50,7 @@ placed_by before parent kind word part None =
 -- an instance of the kind that was found, if one was
 abbrev pub kind_at : List Instance → Option ℕ → ℕ → Placed → Option Kind
     → Result Instance StackFault
-kind_at before parent word part None = fault word part.0 why.Unknown
+kind_at before parent word part None = stack_fault word part.0 why.Unknown
 kind_at before parent word part (Some kind) =
     placed_by before parent kind word part (why_not before parent kind)
 
@@ -66,7 +66,7 @@ added_at before parent word part =
 
 -- an earlier instance as a link, if there is one
 abbrev pub earlier_at : ℕ → Placed → Option ℕ → Result Link StackFault
-earlier_at word part None = fault word part.0 why.NoParent
+earlier_at word part None = stack_fault word part.0 why.NoParent
 earlier_at word part (Some place) = Ok (record { place = place; new = [] })
 
 -- a hyphen

@@ -64,14 +64,14 @@ abbrev pub given_at : List Given → ℕ → Option Value
 given_at options row = option_map (λ given. given.value) (find (λ given. given.row == row) options)
 
 -- the number among what is given
-abbrev pub number_in : Option Value → Option ℕ
-number_in None = None
-number_in (Some (Channel reference)) = None
-number_in (Some (Number number)) = Some number
+abbrev pub number_in_value : Option Value → Option ℕ
+number_in_value None = None
+number_in_value (Some (Channel reference)) = None
+number_in_value (Some (Number number)) = Some number
 
 -- the number that the option of a row has: the one that is given, else its usual one
 abbrev pub number_given : List OptionRow → List Given → ℕ → ℕ
-number_given rows options row = number_by (slice_get rows row) (number_in (given_at options row))
+number_given rows options row = number_by (slice_get rows row) (number_in_value (given_at options row))
 
 -- options have the numbers that are asked for
 abbrev pub has_numbers : List OptionRow → List Given → List Asked → Bool

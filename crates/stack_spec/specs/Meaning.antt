@@ -34,9 +34,9 @@ instance_of instance =
     }
 
 -- the fault that an error tells; want of memory tells none
-abbrev pub fault_in : StackError → Option StackFault
-fault_in (error.Fault fault) = Some fault
-fault_in error.NoMemory = None
+abbrev pub stack_fault_in : StackError → Option StackFault
+stack_fault_in (error.Fault fault) = Some fault
+stack_fault_in error.NoMemory = None
 
 -- the reason that a refusal tells; want of memory tells none
 abbrev pub why_in : Refused → Option StackWhy

@@ -26,13 +26,13 @@ abbrev pub is_colon : ℕ → Bool
 is_colon byte = byte == 58
 
 -- a fault at a place of a word
-abbrev pub fault : {X : Type 0} → ℕ → ℕ → StackWhy → Result X StackFault
-fault word at why = Err (record { word = word; at = at; why = why })
+abbrev pub stack_fault : {X : Type 0} → ℕ → ℕ → StackWhy → Result X StackFault
+stack_fault word at why = Err (record { word = word; at = at; why = why })
 
 -- what was judged, with its fault at a place of a word
 abbrev pub at_place : {X : Type 0} → ℕ → ℕ → Result X StackWhy → Result X StackFault
 at_place word at (Ok x) = Ok x
-at_place word at (Err why) = fault word at why
+at_place word at (Err why) = stack_fault word at why
 
 -- a number in its range, or why it is none
 abbrev pub numeric : Result ℕ NumberWhy → Result Value StackWhy
@@ -119,7 +119,7 @@ is_missing rows groups given =
 abbrev pub unless_missing : List OptionRow → List (List ℕ) → ℕ → ℕ → List Given
     → Result (List Given) StackFault
 unless_missing rows groups word at given =
-    if is_missing rows groups given then fault word at why.Missing else Ok given
+    if is_missing rows groups given then stack_fault word at why.Missing else Ok given
 
 -- the options of an instance that begins at a place, in their order, none of which is missing; or
 -- the first fault

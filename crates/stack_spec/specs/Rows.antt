@@ -6,7 +6,7 @@ use Rattle.text_parts.specs.Chains.{WordText}
 use Rattle.decoder_set.specs.declared.kinds.Kind.TheVariants.{I2c}
 use Rattle.stack_spec.specs.declared.faults.StackWhy.TheVariants as why
 use Rattle.stack_spec.specs.Instances.{Instance, Channel}
-use Rattle.stack_spec.specs.Options.{fault}
+use Rattle.stack_spec.specs.Options.{stack_fault}
 use Rattle.stack_spec.specs.Accepting.{stack_of}
 
 abbrev word : ℕ → List ℕ → WordText
@@ -35,35 +35,35 @@ pub two_buses_and_a_name :
 unfolding digits
 two_buses_and_a_name = refl
 
-pub missing : stack_of (word 3 (codes "i2c:scl=D0") ∷ []) None None ≡ fault 3 0 why.Missing
+pub missing : stack_of (word 3 (codes "i2c:scl=D0") ∷ []) None None ≡ stack_fault 3 0 why.Missing
 missing = refl
 
 pub no_second_instance_on_the_first : stack_of
-    (word 0 (codes "i2c:scl=D0:sda=D1,i2c:x") ∷ []) None None ≡ fault 0 18 why.Mismatch
+    (word 0 (codes "i2c:scl=D0:sda=D1,i2c:x") ∷ []) None None ≡ stack_fault 0 18 why.Mismatch
 no_second_instance_on_the_first = refl
 
 pub no_bytes_on_a_line_of_seven_bits : stack_of
-    (word 0 (codes "uart:rx=D0:bits=7,midi") ∷ []) None None ≡ fault 0 18 why.Mismatch
+    (word 0 (codes "uart:rx=D0:bits=7,midi") ∷ []) None None ≡ stack_fault 0 18 why.Mismatch
 no_bytes_on_a_line_of_seven_bits = refl
 
 pub an_empty_instance : stack_of (word 0 (codes "i2c:scl=D0:sda=D1,") ∷ []) None None
-    ≡ fault 0 18 why.Unknown
+    ≡ stack_fault 0 18 why.Unknown
 an_empty_instance = refl
 
 pub a_name_that_is_not_there : stack_of
     (word 0 (codes "i2c:scl=D0:sda=D1") ∷ word 1 (codes "i2c-2") ∷ []) None None
-    ≡ fault 1 0 why.NoParent
+    ≡ stack_fault 1 0 why.NoParent
 unfolding digits
 a_name_that_is_not_there = refl
 
 pub an_option_twice : stack_of (word 0 (codes "i2c:scl=D0:scl=D1") ∷ []) None None
-    ≡ fault 0 11 why.Repeat
+    ≡ stack_fault 0 11 why.Repeat
 an_option_twice = refl
 
-pub an_empty_option : stack_of (word 0 (codes "i2c:") ∷ []) None None ≡ fault 0 4 why.Value
+pub an_empty_option : stack_of (word 0 (codes "i2c:") ∷ []) None None ≡ stack_fault 0 4 why.Value
 an_empty_option = refl
 
 pub a_class_without_a_name : stack_of (word 0 (codes "i2c:scl=D0:sda=D1") ∷ []) None
-    (Some (word 4 (codes "i2c-1"))) ≡ fault 4 5 why.Unknown
+    (Some (word 4 (codes "i2c-1"))) ≡ stack_fault 4 5 why.Unknown
 unfolding digits
 a_class_without_a_name = refl

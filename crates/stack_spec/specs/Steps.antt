@@ -2,7 +2,7 @@
 use Rattle.std.specs.Prelude.{ℕ, ◌≡◌, List, ◌++◌, Result, Ok, Err, IfSome}
 use Rattle.stack_spec.specs.Chains.{Link}
 use Rattle.stack_spec.specs.Instances.{Instance}
-use Rattle.stack_spec.specs.Meaning.{fault_in}
+use Rattle.stack_spec.specs.Meaning.{stack_fault_in}
 use Rattle.stack_spec.specs.declared.faults.StackError.{StackError}
 use Rattle.stack_spec.specs.declared.faults.StackFault.{StackFault}
 
@@ -17,7 +17,7 @@ pub record Links (read : Result Link StackFault) (old new : List Instance)
 abbrev pub PartStep : Result Link StackFault → List Instance → List Instance → Result ℕ StackError
     → Type 0
 PartStep read old new (Ok place) = Links read old new place
-PartStep read old new (Err error) = IfSome (fault_in error) (λ fault. read ≡ Err fault)
+PartStep read old new (Err error) = IfSome (stack_fault_in error) (λ fault. read ≡ Err fault)
 
 -- a chain was read: its new instances joined those before
 pub record Joins (read : Result (List Instance) StackFault) (old new : List Instance) : Type 0 where
@@ -29,4 +29,4 @@ pub record Joins (read : Result (List Instance) StackFault) (old new : List Inst
 abbrev pub ChainStep : Result (List Instance) StackFault → List Instance → List Instance
     → Result (Unit {0}) StackError → Type 0
 ChainStep read old new (Ok done) = Joins read old new
-ChainStep read old new (Err error) = IfSome (fault_in error) (λ fault. read ≡ Err fault)
+ChainStep read old new (Err error) = IfSome (stack_fault_in error) (λ fault. read ≡ Err fault)

@@ -6,7 +6,7 @@ ghost use Rattle.text_parts.specs.Chains.{chain_of};
 ghost use Rattle.text_parts.specs.Reading.{Gives};
 ghost use Rattle.stack_spec.specs.Chains.{added_at, chain_by, head_at, is_dash, instance_at};
 ghost use Rattle.stack_spec.specs.Chains.{instances_of, kind_text, part_at};
-ghost use Rattle.stack_spec.specs.Meaning.{fault_in, instance_of};
+ghost use Rattle.stack_spec.specs.Meaning.{stack_fault_in, instance_of};
 ghost use Rattle.stack_spec.specs.Steps.{ChainStep, PartStep};
 
 use crate::errors::fault;
@@ -48,7 +48,7 @@ fn read_instance(
     requires place { at + length text.now + 1 < 2 ^ 32 }
     requires few { length before.now ≤ 24 }
     ensures gives { Gives instance_of
-        fault_in (instance_at (map instance_of before.now) parent word (at, text.now)) result }
+        stack_fault_in (instance_at (map instance_of before.now) parent word (at, text.now)) result }
     ensures room { OnOk result (length before.now < 24) }
 {
     let Some(kind) = kind_of(kind_text(text).as_bytes()) else {
@@ -171,7 +171,7 @@ fn read_chain(
 pub fn read_chains(alloc: Global, chains: &[ChainWord]) -> Result<Vec<Instance>, StackError>
     requires { All (λ chain. length (string_bytes chain.text) ≤ 4096) chains.now }
     ensures gives { Gives
-        (λ v. map instance_of v.items) fault_in (instances_of (map chain_of chains.now)) result }
+        (λ v. map instance_of v.items) stack_fault_in (instances_of (map chain_of chains.now)) result }
     ensures few { IfOk result (λ v. vec_len v ≤ 24) }
 {
     let mut instances = Vec::new(alloc);

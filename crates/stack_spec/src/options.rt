@@ -10,7 +10,7 @@ ghost use Rattle.stack_spec.specs.Instances.{given_at};
 ghost use Rattle.stack_spec.specs.Options.{is_missing, needs, numeric, option_list, option_at};
 ghost use Rattle.stack_spec.specs.Options.{option_named, option_of, options_at, options_behind};
 ghost use Rattle.stack_spec.specs.Options.{read_channel, row_at, value_of};
-ghost use Rattle.stack_spec.specs.Meaning.{fault_in, given_of, meaning_of, why_in};
+ghost use Rattle.stack_spec.specs.Meaning.{stack_fault_in, given_of, meaning_of, why_in};
 
 use crate::errors::{fault, refusal};
 use crate::instance::{GivenOption, GivenValue, Refused};
@@ -153,7 +153,7 @@ fn read_option(
     text: &str,
 ) -> Result<GivenOption, StackError>
     ensures { Gives given_of
-        fault_in (option_at (map opt_row rows.now) word (map given_of before.now) (at, text.now))
+        stack_fault_in (option_at (map opt_row rows.now) word (map given_of before.now) (at, text.now))
         result }
 {
     match read_named(alloc, rows, before, text) {
@@ -172,7 +172,7 @@ fn read_list(
 ) -> Result<Vec<GivenOption>, StackError>
     requires { at + length text.now + 1 < 2 ^ 32 }
     ensures { Gives (λ v. map given_of v.items)
-        fault_in (option_list (map opt_row rows.now) word at text.now) result }
+        stack_fault_in (option_list (map opt_row rows.now) word at text.now) result }
 {
     let mut options = Vec::new(alloc);
     let mut at = at;
@@ -200,7 +200,7 @@ fn read_behind(
 ) -> Result<Vec<GivenOption>, StackError>
     requires { at + length text.now + 1 < 2 ^ 32 }
     ensures { Gives (λ v. map given_of v.items)
-        fault_in (options_behind (map opt_row rows.now) word at text.now) result }
+        stack_fault_in (options_behind (map opt_row rows.now) word at text.now) result }
 {
     match text.split_once(':') {
         Some((kind, options)) => read_list(alloc, rows, word, place_behind(at, kind), options),
@@ -267,7 +267,7 @@ pub fn read_options(
 ) -> Result<Vec<GivenOption>, StackError>
     requires { at + length text.now + 1 < 2 ^ 32 }
     ensures { Gives (λ v. map given_of v.items)
-        fault_in (options_at (map opt_row rows.now) (map (λ group. group.now) groups.now) word
+        stack_fault_in (options_at (map opt_row rows.now) (map (λ group. group.now) groups.now) word
         (at, text.now)) result }
 {
     match read_behind(alloc, rows, word, at, text) {

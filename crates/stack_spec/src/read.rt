@@ -6,7 +6,7 @@ ghost use Rattle.std.specs.String.{string_bytes};
 ghost use Rattle.text_parts.specs.Chains.{chain_of};
 ghost use Rattle.text_parts.specs.Reading.{Gives};
 ghost use Rattle.stack_spec.specs.Accepting.{is_shown, stack_of};
-ghost use Rattle.stack_spec.specs.Meaning.{fault_in};
+ghost use Rattle.stack_spec.specs.Meaning.{stack_fault_in};
 ghost use Rattle.stack_spec.specs.Sound.{IsForest};
 ghost use Rattle.stack_spec.specs.Stacks.{instances_in, stack_meaning};
 
@@ -30,7 +30,7 @@ pub fn read_stack(
     requires show { IfSome show (λ chain. length (string_bytes chain.now.text) ≤ 4096) }
     requires binary { IfSome binary (λ chain. length (string_bytes chain.now.text) ≤ 4096) }
     ensures gives { Gives stack_meaning
-        fault_in (stack_of (map chain_of chains.now)
+        stack_fault_in (stack_of (map chain_of chains.now)
         (option_map (λ chain. chain_of chain.now) show.entry)
         (option_map (λ chain. chain_of chain.now) binary.entry)) result }
     ensures forest { IfOk result (λ stack. IsForest (instances_in stack)) }

@@ -7,7 +7,7 @@ ghost use Rattle.text_parts.specs.Chains.{chain_of};
 ghost use Rattle.text_parts.specs.Reading.{Gives};
 ghost use Rattle.stack_spec.specs.Accepting.{binary_of, class_in, class_of_name, names_of};
 ghost use Rattle.stack_spec.specs.Accepting.{shown_at, shown_of};
-ghost use Rattle.stack_spec.specs.Meaning.{fault_in, instance_of};
+ghost use Rattle.stack_spec.specs.Meaning.{stack_fault_in, instance_of};
 ghost use Rattle.stack_spec.specs.Options.{is_colon};
 
 use crate::errors::fault;
@@ -22,7 +22,7 @@ use text_parts::{ChainWord, place_behind};
 fn read_name(instances: &[Instance], word: u32, at: u32, name: &str) -> Result<u32, StackError>
     requires { length instances.now ≤ 24 }
     ensures { Gives (λ place. place)
-        fault_in (shown_at (map instance_of instances.now) word [] (at, name.now)) result }
+        stack_fault_in (shown_at (map instance_of instances.now) word [] (at, name.now)) result }
 {
     match place_named(instances, name.as_bytes()) {
         Some(place) => Ok(place),
@@ -40,7 +40,7 @@ fn read_names(
     requires few { length instances.now ≤ 24 }
     requires short { length text.now ≤ 4096 }
     ensures { Gives
-        (λ v. v.items) fault_in (names_of (map instance_of instances.now) word text.now) result }
+        (λ v. v.items) stack_fault_in (names_of (map instance_of instances.now) word text.now) result }
 {
     let mut places = Vec::new(alloc);
     let mut at: u32 = 0;
@@ -67,7 +67,7 @@ pub fn read_shown(
     requires few { length instances.now ≤ 24 }
     requires short { IfSome show (λ chain. length (string_bytes chain.now.text) ≤ 4096) }
     ensures { Gives (option_map (λ v. v.items))
-        fault_in (shown_of (map instance_of instances.now)
+        stack_fault_in (shown_of (map instance_of instances.now)
         (option_map (λ chain. chain_of chain.now) show.entry)) result }
 {
     match show {
@@ -111,7 +111,7 @@ fn read_class(instances: &[Instance], word: u32, text: &str) -> Result<(u32, u16
     requires few { length instances.now ≤ 24 }
     requires short { length text.now ≤ 4096 }
     ensures gives { Gives (λ p. (p.0, p.1))
-        fault_in (class_of_name (map instance_of instances.now) word text.now) result }
+        stack_fault_in (class_of_name (map instance_of instances.now) word text.now) result }
     ensures within { IfOk result (λ p. p.0 < length instances.now) }
 {
     let (name, class) = cut(text);
@@ -133,7 +133,7 @@ pub fn read_binary(
     requires few { length instances.now ≤ 24 }
     requires short { IfSome binary (λ chain. length (string_bytes chain.now.text) ≤ 4096) }
     ensures gives { Gives (option_map (λ p. (p.0, p.1)))
-        fault_in (binary_of (map instance_of instances.now)
+        stack_fault_in (binary_of (map instance_of instances.now)
         (option_map (λ chain. chain_of chain.now) binary.entry)) result }
     ensures within { IfOk result (λ b. IfSome b (λ p. p.0 < length instances.now)) }
 {

@@ -1,7 +1,7 @@
 // What instances stand on.
 ghost use Rattle.std.specs.Prelude.{◌≡◌, ◌<◌, None, Some, map, option_map, slice_get, length};
 ghost use Rattle.decoder_set.specs.Kinds.{opt_row};
-ghost use Rattle.stack_spec.specs.Instances.{has_numbers, number_given, number_in, stands_on};
+ghost use Rattle.stack_spec.specs.Instances.{has_numbers, number_given, number_in_value, stands_on};
 ghost use Rattle.stack_spec.specs.Instances.{why_not};
 ghost use Rattle.stack_spec.specs.Meaning.{given_of, instance_of, meaning_of};
 
@@ -16,7 +16,7 @@ const MOST_INSTANCES: usize = 24;
 
 // The number among what is given.
 fn number_in(value: Option<&GivenValue>) -> Option<u64>
-    ensures { result ≡ number_in (option_map (λ v. meaning_of v.now) value.entry) }
+    ensures { result ≡ number_in_value (option_map (λ v. meaning_of v.now) value.entry) }
 {
     match value {
         Some(GivenValue::Number(number)) => Some(*number),

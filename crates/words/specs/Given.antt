@@ -11,6 +11,6 @@ abbrev pub used_of : Given → Used
 used_of given = record { name = given.name; word = given.word; text = given.text.now }
 
 -- the fault that an error tells; want of memory tells none
-abbrev pub fault_in : WordsError → Option WordFault
-fault_in (error.Fault fault) = Some fault
-fault_in error.NoMemory = None
+abbrev pub word_fault_in : WordsError → Option WordFault
+word_fault_in (error.Fault fault) = Some fault
+word_fault_in error.NoMemory = None

@@ -10,19 +10,19 @@ use Rattle.words.specs.declared.options.Name.TheVariants.{Count, From, Watch}
 
 -- the values that an option takes: one of some texts, a number from the first to the second, a
 -- rate, or any text
-pub data Kind : Type 0 where
-  OneOf : List Text → Kind
-  Number : ℕ → ℕ → Kind
-  Ratio : Kind
-  Free : Kind
+pub data ValueKind : Type 0 where
+  OneOf : List Text → ValueKind
+  Number : ℕ → ℕ → ValueKind
+  Ratio : ValueKind
+  Free : ValueKind
 
 -- an option that takes numbers
-abbrev pub IsNumber : Kind → Type 0
+abbrev pub IsNumber : ValueKind → Type 0
 IsNumber (Number least most) = Unit {0}
 IsNumber takes = ⊥
 
 -- a number that such an option may be given
-abbrev pub IsWithin : Kind → ℕ → Type 0
+abbrev pub IsWithin : ValueKind → ℕ → Type 0
 IsWithin (Number least most) number = (least ≤ number) × (number ≤ most)
 IsWithin takes number = ⊥
 
@@ -30,7 +30,7 @@ IsWithin takes number = ⊥
 -- isn't given, if one does
 pub record Row : Type 0 where
   pub name : Text
-  pub takes : Kind
+  pub takes : ValueKind
   pub usual : Option Text
 
 -- the table of options

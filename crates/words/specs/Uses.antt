@@ -9,7 +9,7 @@ use Rattle.text_parts.specs.Numbers.{number_in}
 use Rattle.text_parts.specs.declared.numbers.NumberWhy.{NumberWhy}
 use Rattle.text_parts.specs.declared.numbers.NumberWhy.TheVariants as number
 use Rattle.words.specs.Lexer.{Text, begins_option, long_of}
-use Rattle.words.specs.Options.{Kind, OneOf, Number, Ratio, Free, name_of, row}
+use Rattle.words.specs.Options.{ValueKind, OneOf, Number, Ratio, Free, name_of, row}
 use Rattle.words.specs.Rates.{rate_in}
 use Rattle.words.specs.declared.options.Name.{Name}
 use Rattle.words.specs.declared.kinds.WordWhy.{WordWhy}
@@ -68,13 +68,13 @@ abbrev pub is_given : Name → List Used → Bool
 is_given name uses = list_any (λ u. is_of name u.name) uses
 
 -- a fault of a word, at its first byte
-abbrev pub fault : {X : Type 0} → ℕ → WordWhy → Result X WordFault
-fault number why = Err (record { word = number; at = 0; why = why })
+abbrev pub word_fault : {X : Type 0} → ℕ → WordWhy → Result X WordFault
+word_fault number why = Err (record { word = number; at = 0; why = why })
 
 -- the fault, if there is one
 abbrev pub or_fault : {X : Type 0} → ℕ → Option WordWhy → Result X WordFault → Result X WordFault
 or_fault number None good = good
-or_fault number (Some why) good = fault number why
+or_fault number (Some why) good = word_fault number why
 
 -- the rules for every word
 abbrev pub why_word : ℕ → Text → Option WordWhy
@@ -90,7 +90,7 @@ why_number (Err number.Value) = Some why.Value
 why_number (Err number.Range) = Some why.Range
 
 -- the rules for a value, by what its option takes
-abbrev pub why_value : Kind → Text → Option WordWhy
+abbrev pub why_value : ValueKind → Text → Option WordWhy
 why_value (OneOf choices) value =
     if list_any (λ choice. bytes_eq choice value) choices then None else Some why.Value
 why_value (Number least most) value = why_number (number_in least most value)
@@ -106,21 +106,21 @@ judged name number value =
 -- the value of an option, behind its `=` or in the next word
 abbrev pub value_at : Name → ℕ → Option Text → Option Text → Result Used WordFault
 value_at name number (Some value) next =
-    if length value == 0 then fault number why.Empty else judged name number value
-value_at name number None None = fault number why.NoValue
+    if length value == 0 then word_fault number why.Empty else judged name number value
+value_at name number None None = word_fault number why.NoValue
 value_at name number None (Some next) =
     or_fault (number + 1) (why_word (number + 1) next) (judged name (number + 1) next)
 
 -- the option that a word names, if it wasn't given before
 abbrev pub named_at : List Used → Part → Option Name → Option Text → Result Used WordFault
-named_at before part None value = fault part.number why.Unknown
+named_at before part None value = word_fault part.number why.Unknown
 named_at before part (Some name) value =
-    if is_given name before then fault part.number why.Repeat
+    if is_given name before then word_fault part.number why.Repeat
     else value_at name part.number value part.next
 
 -- a word that begins with a hyphen
 abbrev pub option_at : List Used → Part → Option (Text × Option Text) → Result Used WordFault
-option_at before part None = fault part.number why.Unknown
+option_at before part None = word_fault part.number why.Unknown
 option_at before part (Some p) = named_at before part (name_of p.0) p.1
 
 -- one part, behind those before it

@@ -5,7 +5,7 @@ ghost use Rattle.clap.specs.Words.{found_of, rows_of};
 ghost use Rattle.text_parts.specs.Chains.{chain_of};
 ghost use Rattle.text_parts.specs.Reading.{Gives};
 ghost use Rattle.words.specs.App.{rows_of_uses};
-ghost use Rattle.words.specs.Given.{fault_in, used_of};
+ghost use Rattle.words.specs.Given.{word_fault_in, used_of};
 ghost use Rattle.words.specs.Readable.{IsReadable, IsShort};
 ghost use Rattle.words.specs.Settings.{AreGood, settings_of, meaning_of, value_of, values_of};
 ghost use Rattle.words.specs.Settings.{word_text};
@@ -90,7 +90,7 @@ fn settings(alloc: Global, matches: &ArgMatches, uses: &[Given]) -> Result<Setti
 /// rules for each word and its value come first, then how many chains or alternatives there are,
 /// then the alternatives themselves. `NoMemory` comes only for want of memory.
 pub fn read_words(alloc: Global, words: &[String]) -> Result<Settings, WordsError>
-    ensures gives { Gives meaning_of fault_in (settings_of (map string_bytes words.now)) result }
+    ensures gives { Gives meaning_of word_fault_in (settings_of (map string_bytes words.now)) result }
     ensures readable { IfOk result (λ settings. IsReadable settings.job settings.chains.items) }
     ensures shown { IfOk result (λ settings. IfSome settings.show IsShort) }
     ensures binary { IfOk result (λ settings. IfSome settings.binary IsShort) }

@@ -2,7 +2,7 @@
 ghost use Rattle.std.specs.Prelude.{◌≡◌, ◌<◌, ◌≤◌, ◌+◌, option_map, map, length, Some, OnOk};
 ghost use Rattle.std.specs.String.{string_bytes};
 ghost use Rattle.text_parts.specs.Reading.{Gives};
-ghost use Rattle.words.specs.Given.{used_of, fault_in};
+ghost use Rattle.words.specs.Given.{used_of, word_fault_in};
 ghost use Rattle.words.specs.Uses.{waits_for, takes_next, value_behind, uses_of};
 
 use crate::WordsError;
@@ -38,7 +38,7 @@ fn value_behind<'a>(word: &str, behind: &'a [String]) -> (Option<&'a str>, &'a [
 pub fn read_uses<'a>(alloc: Global, words: &'a [String]) -> Result<Vec<Given<'a>>, WordsError>
     ensures few { OnOk result (length words.entry.now ≤ 257) }
     ensures reads { Gives
-        (λ v. map used_of v.items) fault_in (uses_of (map string_bytes words.entry.now)) result }
+        (λ v. map used_of v.items) word_fault_in (uses_of (map string_bytes words.entry.now)) result }
 {
     let mut uses = Vec::new(alloc);
     let mut number: u32 = 0;

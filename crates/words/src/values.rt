@@ -6,7 +6,7 @@ ghost use Rattle.text_parts.specs.Reading.{Gives};
 ghost use Rattle.text_parts.specs.Numbers.{number_after};
 ghost use Rattle.words.specs.Options.{IsNumber, IsWithin, Ratio, row};
 ghost use Rattle.words.specs.Rates.{den_in, most_den, most_num, numbers_of, rate_in, rate_written};
-ghost use Rattle.words.specs.Rows.{kind_of};
+ghost use Rattle.words.specs.Rows.{value_kind_of};
 ghost use Rattle.words.specs.Settings.{csv_named, format_named, is_yes, job_named};
 ghost use Rattle.words.specs.Uses.{why_value};
 
@@ -59,7 +59,7 @@ fn rate_in(text: &str) -> Result<Rate, NumberWhy>
 
 /// What is wrong with the value of an option.
 pub fn why_value(takes: Takes, value: &str) -> Option<WordWhy>
-    ensures { result ≡ why_value (kind_of takes) value.now }
+    ensures { result ≡ why_value (value_kind_of takes) value.now }
 {
     match takes {
         Takes::OneOf(choices) => {

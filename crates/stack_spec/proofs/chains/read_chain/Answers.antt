@@ -6,7 +6,7 @@ use Rattle.std.proofs.lemmas.List.{append-nil, length_push}
 use Rattle.std.proofs.lemmas.Iterator.Splits.{YieldsList-from_str_split}
 use Rattle.std.proofs.lemmas.Iterator.Consumers.{YieldsList-turn, YieldsList-end}
 use Rattle.text_parts.proofs.ReadLemmas.{width_split, width_more}
-use Rattle.stack_spec.specs.Meaning.{fault_in, instance_of}
+use Rattle.stack_spec.specs.Meaning.{stack_fault_in, instance_of}
 use Rattle.stack_spec.proofs.LinkLemmas.{chain_more, chain_stops, chain_ends}
 use Rattle.stack_spec.proofs.chains.read_chain.Goals as goal
 
@@ -23,7 +23,7 @@ pub returns-in-Err-clause-step : goal.returns-in-Err-clause-step
 returns-in-Err-clause-step c =
     let parts = slice_split (λ b. b == 44) c.args.text.now in
     let t = YieldsList-turn (YieldsList-from_str_split 44 c.args.text.now (lit< tt) (cc) (cc) (cc)) c.loop-part.yielded _ c.loop-part.yielded_by _ _ c.in-Some.part c.in-Some.is c.next.ensures.steps in
-    IfSome_then (fault_in c.in-Err.error) c.in-Err.ensures.step (λ fault e. chain_stops (map instance_of c.args.instances.now.items) c.args.word parts (length c.loop-part.yielded) c.loop-part.at (map instance_of c.loop-part.instances.items) c.loop-part.parent
+    IfSome_then (stack_fault_in c.in-Err.error) c.in-Err.ensures.step (λ fault e. chain_stops (map instance_of c.args.instances.now.items) c.args.word parts (length c.loop-part.yielded) c.loop-part.at (map instance_of c.loop-part.instances.items) c.loop-part.parent
     c.loop-part.invariant.so_far c.in-Some.part.now t.0 t.1 fault e)
 
 pub loop-part-preserved : goal.loop-part-preserved

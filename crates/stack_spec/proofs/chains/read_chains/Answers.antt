@@ -4,7 +4,7 @@ use Rattle.std.proofs.lemmas.List.{length-map}
 use Rattle.text_parts.specs.Chains.{chain_of}
 use Rattle.stack_spec.specs.Chains.{chain_by}
 use Rattle.stack_spec.specs.Instances.{Instance}
-use Rattle.stack_spec.specs.Meaning.{fault_in, instance_of}
+use Rattle.stack_spec.specs.Meaning.{stack_fault_in, instance_of}
 use Rattle.stack_spec.specs.Steps.{Joins}
 use Rattle.stack_spec.specs.declared.faults.StackFault.{StackFault}
 use Rattle.stack_spec.proofs.LinkLemmas.{chains_more, chains_stop, map_at}
@@ -18,7 +18,7 @@ returns-in-Err-clause-gives c =
     let before = map instance_of c.loop-chain.instances.items in
     let within : k < length (map chain_of chains) = omega (arith, c.loop-chain-test.true, length-map chains chain_of) in
     let own : chain_by before (chain_of chain) ≡ chain_by before (record { word = chain.word; text = c.as_str.result.now }) = ap (λ (t : List ℕ). chain_by before (record { word = chain.word; text = t })) (sym c.as_str.ensures.value) in
-    IfSome_then (fault_in c.in-Err.error) c.in-Err.ensures.step (λ fault e. chains_stop (map chain_of chains) k before c.loop-chain.invariant.so_far (chain_of chain) within (map_at chain_of chains k chain c.loop-chain-test.true c.chain-item.is) fault (own ∙ e))
+    IfSome_then (stack_fault_in c.in-Err.error) c.in-Err.ensures.step (λ fault e. chains_stop (map chain_of chains) k before c.loop-chain.invariant.so_far (chain_of chain) within (map_at chain_of chains k chain c.loop-chain-test.true c.chain-item.is) fault (own ∙ e))
 
 pub loop-chain-preserved : goal.loop-chain-preserved
 loop-chain-preserved c =

@@ -5,7 +5,7 @@ use Rattle.std.proofs.lemmas.Iterator.Splits.{YieldsList-from_str_split}
 use Rattle.std.proofs.lemmas.Iterator.Consumers.{YieldsList-turn, YieldsList-end}
 use Rattle.text_parts.proofs.ReadLemmas.{read_more, read_stops, read_ends, width_split, width_more, map-push}
 use Rattle.decoder_set.specs.Kinds.{opt_row}
-use Rattle.stack_spec.specs.Meaning.{given_of, fault_in}
+use Rattle.stack_spec.specs.Meaning.{given_of, stack_fault_in}
 use Rattle.std.specs.Option.{IfSome}
 use Rattle.std.proofs.lemmas.Option.{IfSome_then}
 use Rattle.stack_spec.specs.Options.{is_colon, option_at}
@@ -25,8 +25,8 @@ returns-in-Err c =
     let before = map given_of c.loop-option.options.items in
     let parts = slice_split is_colon c.args.text.now in
     let t = YieldsList-turn (YieldsList-from_str_split 58 c.args.text.now (lit< tt) (cc) (cc) (cc)) c.loop-option.yielded _ c.loop-option.yielded_by _ _ c.in-Some.option c.in-Some.is c.next.ensures.steps in
-    let bad : IfSome (fault_in c.in-Err.error) (λ fault. option_at rows c.args.word before (c.loop-option.at, c.in-Some.option.now) ≡ Err fault) = search rules in
-    IfSome_then (fault_in c.in-Err.error) bad (λ fault e. c.loop-option.invariant.reads
+    let bad : IfSome (stack_fault_in c.in-Err.error) (λ fault. option_at rows c.args.word before (c.loop-option.at, c.in-Some.option.now) ≡ Err fault) = search rules in
+    IfSome_then (stack_fault_in c.in-Err.error) bad (λ fault e. c.loop-option.invariant.reads
     ∙ read_stops (option_at rows c.args.word) before c.loop-option.at parts (length c.loop-option.yielded) c.in-Some.option.now fault t.0 t.1 e)
 
 pub place_behind-at-requires : goal.place_behind-at-requires

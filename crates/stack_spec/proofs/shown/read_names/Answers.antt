@@ -8,7 +8,7 @@ use Rattle.std.proofs.lemmas.Iterator.Splits.{YieldsList-from_str_split}
 use Rattle.std.proofs.lemmas.Iterator.Consumers.{YieldsList-turn, YieldsList-end}
 use Rattle.text_parts.proofs.ReadLemmas.{read_more, read_stops, read_ends, width_split, width_more}
 use Rattle.stack_spec.specs.Accepting.{shown_at}
-use Rattle.stack_spec.specs.Meaning.{fault_in, instance_of}
+use Rattle.stack_spec.specs.Meaning.{stack_fault_in, instance_of}
 use Rattle.stack_spec.proofs.shown.read_names.Goals as goal
 
 pub loop-name-init : goal.loop-name-init
@@ -24,8 +24,8 @@ returns-in-Err c =
     let judge = shown_at (map instance_of c.args.instances.now) c.args.word in
     let parts = slice_split (λ b. b == 44) c.args.text.now in
     let t = YieldsList-turn (YieldsList-from_str_split 44 c.args.text.now (lit< tt) (cc) (cc) (cc)) c.loop-name.yielded _ c.loop-name.yielded_by _ _ c.in-Some.name c.in-Some.is c.next.ensures.steps in
-    let bad : IfSome (fault_in c.in-Err.error) (λ fault. judge c.loop-name.places.items (c.loop-name.at, c.in-Some.name.now) ≡ Err fault) = search rules in
-    IfSome_then (fault_in c.in-Err.error) bad (λ fault e. c.loop-name.invariant.reads
+    let bad : IfSome (stack_fault_in c.in-Err.error) (λ fault. judge c.loop-name.places.items (c.loop-name.at, c.in-Some.name.now) ≡ Err fault) = search rules in
+    IfSome_then (stack_fault_in c.in-Err.error) bad (λ fault e. c.loop-name.invariant.reads
     ∙ read_stops judge c.loop-name.places.items c.loop-name.at parts (length c.loop-name.yielded) c.in-Some.name.now fault t.0 t.1 e)
 
 pub loop-name-preserved : goal.loop-name-preserved
