@@ -58,6 +58,7 @@ def captures(folder):
         ways = ["--threads", threads]
         yield [*ways, BUS], raw
         yield [*ways, BUS + ",eeprom24", BUS, "uart:rx=D2"], raw
+        yield [*ways, "--watch", "yes", BUS], raw
         yield [*ways, "--format", "vcd", "i2c:scl=scl:sda=sda"], dump
         yield [*ways, "--format", "csv", "--csv", "times", "i2c:scl=Channel 0:sda=Channel 1"], table
     yield ["--job", "find", "--format", "vcd", "scl=r"], dump
