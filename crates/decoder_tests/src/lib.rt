@@ -1,9 +1,11 @@
-//! Tests of the decoders and of what stands below them through their public calls: what no contract
-//! says, and values from outside.
+//! Tests of the decoders, of what stands below them, and of checkpoints, through their public calls:
+//! what no contract says, and values from outside.
 #![tactic(auto)]
 
 #[cfg(test)]
 mod channels;
+#[cfg(test)]
+mod check_words;
 #[cfg(test)]
 mod cuts;
 #[cfg(test)]
@@ -17,7 +19,11 @@ mod moving;
 #[cfg(test)]
 mod outputs;
 #[cfg(test)]
+mod plain;
+#[cfg(test)]
 mod rates;
+#[cfg(test)]
+mod serial;
 #[cfg(test)]
 mod waits;
 #[cfg(test)]

@@ -1,5 +1,5 @@
-//! Tests of captures, words and stacks through their public calls, and of whole runs that are no rows of
-//! `run_rows`: what no contract says, and values from outside.
+//! Tests of captures, words, stacks and shelves through their public calls, and of whole runs that are no
+//! rows of `run_rows`: what no contract says, and values from outside.
 #![tactic(auto)]
 
 #[cfg(test)]
@@ -38,5 +38,7 @@ mod tables;
 mod threads;
 #[cfg(test)]
 mod tokens;
+#[cfg(test)]
+mod views;
 #[cfg(test)]
 mod wide;

@@ -5,6 +5,3 @@
 mod shelf_watch;
 
 pub use shelf_watch::ShelfWatch;
-
-#[cfg(test)]
-mod tests;

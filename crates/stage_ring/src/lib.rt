@@ -6,6 +6,3 @@ mod laws;
 
 pub use ends::{Rx, Tx, link, settle};
 pub use laws::{all_pass_through, ends_are_send, passes_through};
-
-#[cfg(test)]
-mod tests;

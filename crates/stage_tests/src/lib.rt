@@ -9,6 +9,8 @@ mod bus;
 #[cfg(test)]
 mod line;
 #[cfg(test)]
+mod links;
+#[cfg(test)]
 mod threads;
 #[cfg(test)]
 mod trees;

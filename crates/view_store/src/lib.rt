@@ -12,6 +12,3 @@ mod views;
 
 pub use added::Added;
 pub use views::{Answer, Told, ViewReader, ViewWriter, shelf};
-
-#[cfg(test)]
-mod tests;

@@ -1,13 +1,14 @@
+// A shelf through its public calls: what a reader is answered, and beside a writer.
 ghost use Rattle.std.specs.Prelude.{◌≡◌, false};
 ghost use Rattle.std.specs.Thread.{IsSync};
 ghost use Rattle.view_store.specs.Views.{pending, reader_shelf, shelf_of};
 
-use crate::{Answer, ViewReader, ViewWriter, shelf};
 use la_base::{NoMemory, Note};
 use std::alloc::{AllocError, Global};
 use std::sync::Wait;
 use std::test::Fail;
 use std::thread::{Threads, join_mut};
+use view_store::{Answer, ViewReader, ViewWriter, shelf};
 
 fn note_at(start: u64) -> Note {
     Note {

@@ -1,5 +1,5 @@
 // Messages of Modbus RTU from frames of a serial line.
-use crate::feeding::{RATE, outputs_of};
+use crate::serial::feeding::{RATE, outputs_of};
 use dec_modbus::{Modbus, ModbusOpts, text};
 use decoder_core::{Follower, Machine, OptFault, Outs};
 use la_base::{Feed, Out, Packet, PacketKind, Rate, Wire};

@@ -1,6 +1,6 @@
 // Decoders beside plain programs: the outputs of made traffic.
-use crate::feeding::{RATE, outputs_of, outputs_of_samples};
-use crate::traffic::Traffic;
+use crate::serial::feeding::{RATE, outputs_of, outputs_of_samples};
+use crate::serial::traffic::Traffic;
 use dec_midi::{Midi, MidiOpts};
 use dec_modbus::{Modbus, ModbusOpts};
 use dec_onewire::{OwLink, OwLinkOpts, OwNet, OwNetOpts};

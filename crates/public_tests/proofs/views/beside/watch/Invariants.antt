@@ -1,6 +1,6 @@
 use Rattle.std.proofs.Common.{◌≡◌}
 use Rattle.view_store.specs.Views.{reader_shelf}
-use Rattle.view_tests.proofs.beside.watch.Given as goal
+use Rattle.public_tests.proofs.views.beside.watch.Given as goal
 
 abbrev pub invariant-loop : goal.invariant-loop
 invariant-loop g l =

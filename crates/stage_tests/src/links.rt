@@ -1,5 +1,5 @@
 // Each call of a link with ample room and at its limits, both ends in one thread.
-use super::*;
+use stage_ring::{all_pass_through, ends_are_send, link, passes_through, settle};
 use std::test::Fail;
 
 #[test]

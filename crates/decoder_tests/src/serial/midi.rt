@@ -1,5 +1,5 @@
 // MIDI: what it says of bytes that were worked by hand, and where what is still to come starts.
-use crate::feeding::{RATE, outputs_of};
+use crate::serial::feeding::{RATE, outputs_of};
 use dec_midi::{Midi, MidiOpts, rows_hold, text};
 use decoder_core::{Follower, Machine, Outs};
 use la_base::{Feed, Out, Packet, PacketKind, Run, Wire};

@@ -1,14 +1,15 @@
+// What looks on as notes are listed adds them to a shelf.
 ghost use Rattle.std.specs.Prelude.{◌≡◌, ◌≤◌, IfOk, length};
 ghost use Rattle.std.specs.String.{string_bytes};
 ghost use Rattle.stack_spec.specs.Stacks.{instances_in};
 ghost use Rattle.view_store.specs.Listings.{nothing};
 ghost use Rattle.view_store.specs.Views.{pending, published};
 
-use crate::ShelfWatch;
 use la_base::{Mark, NoMemory, Note};
 use la_io::{MarkTake, MemSink};
 use note_lister::{ListStop, Lister, Watch};
 use note_order::Entry;
+use shelf_watch::ShelfWatch;
 use stack_spec::{ChainWord, Stack, read_stack};
 use std::alloc::Global;
 use std::sync::Wait;
