@@ -20,7 +20,6 @@ ROUNDS = 5
 BUS = "i2c:scl=D0:sda=D1"
 LOADS = [
     ("one bus", [BUS]),
-    ("one bus, ring 4096", ["--ring", "4096", BUS]),
     ("three buses", [BUS, "i2c:scl=D3:sda=D4", "i2c:scl=D5:sda=D6"]),
     ("a bus with three devices", [BUS + ",eeprom24", BUS + ",ds1307", BUS + ",lm75"]),
     ("a bus and a serial line", [BUS, "uart:rx=D2:baud=100000"]),

@@ -11,3 +11,4 @@ mod Coming
 mod Limits
 mod Parted
 mod Parting
+mod Sending

@@ -69,7 +69,7 @@ fn list_here<S: Source, K: Sink, W: Watch, M: Machine + Drop>(
 fn list_in_threads<
     R: Threads + Wait + Sync,
     P: Pacer + Sync,
-    S: Source,
+    S: Source + Send,
     K: Sink,
     W: Watch,
     M: Machine + Send + Drop,
@@ -164,7 +164,7 @@ pub fn decode<S: Source, K: Sink, W: Watch, M: Machine + Drop>(
 pub fn decode_in_threads<
     R: Threads + Wait + Sync,
     P: Pacer + Sync,
-    S: Source,
+    S: Source + Send,
     K: Sink,
     W: Watch,
     M: Machine + Send + Drop,

@@ -68,7 +68,7 @@ pub struct InThreads<'a, R, P> {
 impl<R: Threads + Wait + Sync, P: Pacer + Sync> InThreads<'_, R, P> {
     /// Runs the tree to the end of the feed, or until the one that takes the marks has stopped.
     /// After `NoMemory` nothing was read and no mark was taken.
-    pub(crate) fn run<M: Machine + Send + Drop, F: RunFeed, G: MarkTake>(
+    pub(crate) fn run<M: Machine + Send + Drop, F: RunFeed + Send, G: MarkTake>(
         &self,
         machines: Vec<M>,
         parents: &[Option<u32>],

@@ -73,7 +73,13 @@ pub(crate) fn decode_stack<S: Source, K: Sink, W: Watch>(
 
 // The same with a thread for each decoder, and rings of as many slots as the settings say. The
 // pacer says how much a decoder does in a turn.
-fn decode_stack_in_threads<R: Threads + Wait + Sync, P: Pacer + Sync, S: Source, K: Sink, W: Watch>(
+fn decode_stack_in_threads<
+    R: Threads + Wait + Sync,
+    P: Pacer + Sync,
+    S: Source + Send,
+    K: Sink,
+    W: Watch,
+>(
     rt: &R,
     alloc: Global,
     settings: &Settings,
@@ -133,7 +139,7 @@ fn decode_stack_in_threads<R: Threads + Wait + Sync, P: Pacer + Sync, S: Source,
 pub(crate) fn decode_stack_as_asked<
     R: Threads + Wait + Sync,
     P: Pacer + Sync,
-    S: Source,
+    S: Source + Send,
     K: Sink,
     W: Watch,
 >(

@@ -53,7 +53,7 @@ fn goes_back<T>(lent: &mut T)
 
 /// Decodes the capture under the stack that the settings ask for, with a thread for each decoder
 /// where they ask for threads, and adds each note of the listing to a new shelf behind its line.
-pub(crate) fn shelve_stack<R: Threads + Wait + Sync, P: Pacer + Sync, S: Source, K: Sink>(
+pub(crate) fn shelve_stack<R: Threads + Wait + Sync, P: Pacer + Sync, S: Source + Send, K: Sink>(
     rt: &R,
     alloc: Global,
     settings: &Settings,

@@ -99,7 +99,7 @@ fn view<R: Wait>(rt: &R, reader: &mut ViewReader, over: &AtomicBool)
 }
 
 // Decodes onto a new shelf, beside a thread in which a viewer asks for what is on it.
-fn shelve_beside<R: Threads + Wait + Sync, P: Pacer + Sync, S: Source, K: Sink>(
+fn shelve_beside<R: Threads + Wait + Sync, P: Pacer + Sync, S: Source + Send, K: Sink>(
     rt: &R,
     alloc: Global,
     settings: &Settings,
@@ -156,7 +156,7 @@ fn shelve_beside<R: Threads + Wait + Sync, P: Pacer + Sync, S: Source, K: Sink>(
 }
 
 // The same; where the run is done the viewer then learns the end, and asks once more.
-fn view_beside<R: Threads + Wait + Sync, P: Pacer + Sync, S: Source, K: Sink>(
+fn view_beside<R: Threads + Wait + Sync, P: Pacer + Sync, S: Source + Send, K: Sink>(
     rt: &R,
     alloc: Global,
     settings: &Settings,
@@ -199,7 +199,7 @@ fn view_beside<R: Threads + Wait + Sync, P: Pacer + Sync, S: Source, K: Sink>(
 }
 
 // The same, with the one reader of the shelf.
-fn view_shelf<R: Threads + Wait + Sync, P: Pacer + Sync, S: Source, K: Sink>(
+fn view_shelf<R: Threads + Wait + Sync, P: Pacer + Sync, S: Source + Send, K: Sink>(
     rt: &R,
     alloc: Global,
     settings: &Settings,
@@ -244,7 +244,7 @@ fn view_shelf<R: Threads + Wait + Sync, P: Pacer + Sync, S: Source, K: Sink>(
 
 /// Decodes with a thread for each decoder where the settings ask for threads, and one more in which
 /// a viewer looks at the listing while it grows.
-pub(crate) fn view_stack<R: Threads + Wait + Sync, P: Pacer + Sync, S: Source, K: Sink>(
+pub(crate) fn view_stack<R: Threads + Wait + Sync, P: Pacer + Sync, S: Source + Send, K: Sink>(
     rt: &R,
     alloc: Global,
     settings: &Settings,

@@ -69,7 +69,7 @@ fn run_words<S: Source, K: Sink>(
 }
 
 // The same with threads, where the words ask for them, and with a viewer in a thread of its own.
-fn run_words_in_threads<R: Threads + Wait + Sync, S: Source, K: Sink, P: Pacer + Sync>(
+fn run_words_in_threads<R: Threads + Wait + Sync, S: Source + Send, K: Sink, P: Pacer + Sync>(
     rt: &R,
     alloc: Global,
     words: &[String],
@@ -107,7 +107,7 @@ fn run_words_in_threads<R: Threads + Wait + Sync, S: Source, K: Sink, P: Pacer +
 }
 
 // The same onto a new shelf, where the words ask for a listing of notes.
-fn shelve_words<R: Threads + Wait + Sync, S: Source, K: Sink, P: Pacer + Sync>(
+fn shelve_words<R: Threads + Wait + Sync, S: Source + Send, K: Sink, P: Pacer + Sync>(
     rt: &R,
     alloc: Global,
     words: &[String],
@@ -187,7 +187,7 @@ pub fn run_here<S: Source, K: Sink, E: Sink>(
 /// Where the words ask for threads and for a viewer of a listing, that viewer looks at the notes
 /// from a thread of its own while the listing grows, and once more when the run is done: so the
 /// notices get how many notes it saw. Where it has no memory for that, the status is `NoMemory`.
-pub fn run<R: Threads + Wait + Sync, S: Source, K: Sink, E: Sink, P: Pacer + Sync>(
+pub fn run<R: Threads + Wait + Sync, S: Source + Send, K: Sink, E: Sink, P: Pacer + Sync>(
     rt: &R,
     alloc: Global,
     words: &[String],
@@ -214,7 +214,7 @@ pub fn run<R: Threads + Wait + Sync, S: Source, K: Sink, E: Sink, P: Pacer + Syn
 /// other status it has none, and is ended. Where the words have a fault, or ask for no listing of
 /// notes (another job, or binary data), it is left as it was. A shelf that finds no memory makes
 /// the status `NoMemory`. The run may wait for a reader that is inside an `ask`.
-pub fn run_watched<R: Threads + Wait + Sync, S: Source, K: Sink, E: Sink, P: Pacer + Sync>(
+pub fn run_watched<R: Threads + Wait + Sync, S: Source + Send, K: Sink, E: Sink, P: Pacer + Sync>(
     rt: &R,
     alloc: Global,
     words: &[String],

@@ -46,7 +46,7 @@ fn decode_here<S: Source, K: Sink>(
 }
 
 // The same with threads, where the settings ask for them.
-fn decode_aside<R: Threads + Wait + Sync, P: Pacer + Sync, S: Source, K: Sink>(
+fn decode_aside<R: Threads + Wait + Sync, P: Pacer + Sync, S: Source + Send, K: Sink>(
     rt: &R,
     alloc: Global,
     settings: &Settings,
@@ -98,7 +98,7 @@ pub(crate) fn work_here<S: Source, K: Sink>(
 
 /// The same with a thread for each decoder, where the settings ask for threads. The pacer says how
 /// much a decoder does in a turn.
-pub(crate) fn work_aside<R: Threads + Wait + Sync, P: Pacer + Sync, S: Source, K: Sink>(
+pub(crate) fn work_aside<R: Threads + Wait + Sync, P: Pacer + Sync, S: Source + Send, K: Sink>(
     rt: &R,
     alloc: Global,
     settings: &Settings,

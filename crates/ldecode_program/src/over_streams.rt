@@ -44,7 +44,7 @@ fn tell_help<K: Sink>(alloc: Global, sink: &mut K) -> u8
 /// Does what the words ask for, and answers the exit status of the program: the help or the version
 /// on the sink, where the first word asks for it, with the status of a run that wrote it; else a
 /// run of the words over these streams.
-pub fn program<R: Threads + Wait + Sync, S: Source, K: Sink, E: Sink, P: Pacer + Sync>(
+pub fn program<R: Threads + Wait + Sync, S: Source + Send, K: Sink, E: Sink, P: Pacer + Sync>(
     rt: &R,
     alloc: Global,
     words: &[String],

@@ -1,5 +1,5 @@
 -- Small facts on tests and lists.
-use Rattle.std.proofs.Common.{◌≡◌, ℕ, zero, suc, ◌≤◌, Bool, true, false, List, [], ◌∷◌, length, drop, arith, refl, sym, ◌∙◌}
+use Rattle.std.proofs.Common.{◌≡◌, ℕ, zero, suc, ◌≤◌, Bool, true, false, List, [], ◌∷◌, ◌++◌, length, drop, arith, refl, sym, ◌∙◌}
 
 pub not_true : {b : Bool} → b ≡ false → b ≡ true → ⊥
 not_true is other = contra (sym other ∙ is)
@@ -17,3 +17,11 @@ gone (x ∷ xs) (suc k) all = gone xs k (omega (arith, all))
 pub not_before : (before now : Bool) → (before ≡ true → now ≡ true) → now ≡ false → before ≡ false
 not_before true now stays still = absurd (not_true still (stays refl))
 not_before false now stays still = refl
+
+-- a front of nothing is nothing
+pub front_none : {X : Type 0} (xs ys : List X) → xs ++ ys ≡ [] → xs ≡ []
+front_none {X} [] ys is = refl
+front_none {X} (x ∷ xs) ys is = absurd (contra is)
+  where
+    contra : x ∷ (xs ++ ys) ≡ [] → ⊥
+    contra e = cc

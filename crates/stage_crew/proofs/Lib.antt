@@ -5,3 +5,4 @@ pub mod Taking
 pub mod Gathering
 pub mod Pumping
 pub mod Driving
+pub mod Reading

@@ -1,6 +1,6 @@
 -- Runs that were put into the row and handed out.
 use Rattle.std.proofs.Common.{◌≡◌, ◌<◌, ◌≤◌, ◌+◌, ◌-◌, ℕ, Bool, true, false, not, List, [], ◌∷◌, ◌++◌, map, length, take, drop, get_or, set, refl, sym, ◌∙◌, ap, subst, arith, append_assoc, take-append-drop}
-use Rattle.std.specs.Prelude.{nat_eq}
+use Rattle.std.specs.Prelude.{nat_eq, ◌&&◌}
 use Rattle.std.specs.List.{All}
 use Rattle.std.proofs.lemmas.Bool.Decides.{nat_tests}
 use Rattle.std.proofs.lemmas.List.Elements.{All-push, All-same}
@@ -15,7 +15,7 @@ use Rattle.stage_run.specs.Inputs.{feeds_in, stretch_of, telling, told_behind, u
 use Rattle.stage_run.specs.declared.input.Stretch.{Stretch}
 use Rattle.stage_run.proofs.Telling.{feeds_in-append, plain_feeds, tell_feeds, tell_told, told-append}
 use Rattle.stage_crew.specs.Fans.{Fans}
-use Rattle.stage_crew.specs.Pumping.{InPlace, IsFree, Pumped, Pumps, end_if}
+use Rattle.stage_crew.specs.Pumping.{InPlace, IsFree, Pumped, Pumps, PumpsOn, end_if, is_sent}
 use Rattle.stage_crew.specs.declared.fan.Handed.{Handed}
 use Rattle.stage_crew.specs.declared.pump.Pump.{Pump}
 use Rattle.stage_crew.proofs.Common.{gone, not_true}
@@ -205,8 +205,8 @@ ended_then true o2 e1 e2 had keeps asks is = (keeps refl).1 ∙ had refl
 ended_then false o2 e1 e2 had keeps asks is = asks refl is
 
 -- one step behind others
-pub pumps_then : {A O : Type 0} (f : FeedGhosts A O) {a b c : A} {p q r : Pump} {s0 s1 s2 : List (List Stretch)} → Pumps f a b p q s0 s1 → Pumps f b c q r s1 s2 → Pumps f a c p r s0 s2
-pumps_then f {a} {b} {c} {p} {q} {r} {s2 = s2} x y = record {
+pumps_both : {A O : Type 0} (f : FeedGhosts A O) {a b c : A} {p q r : Pump} {s0 s1 s2 : List (List Stretch)} → Pumps f a b p q s0 s1 → Pumps f b c q r s1 s2 → Pumps f a c p r s0 s2
+pumps_both f {a} {b} {c} {p} {q} {r} {s2 = s2} x y = record {
   more = x.more ++ y.more;
   gave = λ earlier had. subst (f.gave c) (append_assoc earlier x.more y.more) (y.gave (earlier ++ x.more) (x.gave earlier had));
   pumped = λ lists had. subst (λ (l : List (List Run)). Pumped l (f.held c) r s2) (append_assoc lists x.more y.more) (y.pumped (lists ++ x.more) (x.pumped lists had));
@@ -215,3 +215,30 @@ pumps_then f {a} {b} {c} {p} {q} {r} {s2 = s2} x y = record {
   over = λ is. let o = x.over is in let n = y.over o.0 in (n.0, n.1 ∙ o.1);
   at_end = λ still. ended_then q.over r.over (f.at_end b) (f.at_end c) (x.at_end still) y.over y.at_end;
 }
+
+pub pumps_then : {A O : Type 0} (f : FeedGhosts A O) {a b c : A} {p q r : Pump} {s0 s1 s2 : List (List Stretch)} → PumpsOn f a b p q s0 s1 → PumpsOn f b c q r s1 s2 → PumpsOn f a c p r s0 s2
+pumps_then f x y place = let first = x place in pumps_both f first (y first.in_place)
+
+-- a pump that is over has told the end, and handed out all of its row
+pub sent_all : (pump : Pump) → is_sent pump ≡ true → (pump.said ≡ true) × (pump.row ≡ []) × (pump.handed.child ≡ 0)
+sent_all pump is = by pump.said (nat_eq (length pump.row) 0) (nat_eq pump.handed.child 0) refl refl refl is
+  where
+    none : (l : List Stretch) → nat_eq (length l) 0 ≡ true → l ≡ []
+    none [] e = refl
+    none (x ∷ l) e = absurd (contra e)
+      where
+        contra : nat_eq (length (x ∷ l)) 0 ≡ true → ⊥
+        contra e = let differ : length (x ∷ l) ≡ 0 = grind (arith, nat_tests, e) in omega (arith, differ)
+
+    zero_is : (n : ℕ) → nat_eq n 0 ≡ true → n ≡ 0
+    zero_is n e = let same : n ≡ 0 = grind (arith, nat_tests, e) in same
+
+    by : (a b c : Bool) → a ≡ pump.said → b ≡ nat_eq (length pump.row) 0 → c ≡ nat_eq pump.handed.child 0 → (a && b && c) ≡ true → (pump.said ≡ true) × (pump.row ≡ []) × (pump.handed.child ≡ 0)
+    by true true true x y z all = (sym x, none pump.row (sym y), zero_is pump.handed.child (sym z))
+    by true true false x y z all = absurd (not_true refl all)
+    by true false true x y z all = absurd (not_true refl all)
+    by true false false x y z all = absurd (not_true refl all)
+    by false true true x y z all = absurd (not_true refl all)
+    by false true false x y z all = absurd (not_true refl all)
+    by false false true x y z all = absurd (not_true refl all)
+    by false false false x y z all = absurd (not_true refl all)

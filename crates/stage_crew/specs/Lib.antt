@@ -6,3 +6,4 @@ pub mod Driving
 pub mod Pumping
 pub mod Gathering
 pub mod Keeping
+pub mod Reading

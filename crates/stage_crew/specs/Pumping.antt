@@ -1,5 +1,6 @@
 -- How far the runs of a feed were sent to the roots.
 use Rattle.std.specs.Prelude.{◌≡◌, ◌≤◌, Bool, true, false, List, [], ◌∷◌, ◌++◌, map, drop, length}
+use Rattle.std.specs.Prelude.{◌&&◌, nat_eq}
 use Rattle.la_base.specs.declared.samples.Run.{Run}
 use Rattle.la_base.specs.declared.wires.Feed.TheVariants.{Run as RunFeed}
 use Rattle.la_io.specs.Feeds.{together}
@@ -29,6 +30,10 @@ pub record InPlace (held : List Run) (pump : Pump) : Type 0 where
   pub at : pump.at ≤ length held
   pub said : pump.said ≡ true → pump.over ≡ true
 
+-- whether the end was sent to each root
+abbrev pub is_sent : Pump → Bool
+is_sent pump = pump.said && nat_eq (length pump.row) 0 && nat_eq pump.handed.child 0
+
 -- all of the row was handed out, and the end wasn't put there yet
 pub record IsFree (pump : Pump) : Type 0 where
   pub said : pump.said ≡ false
@@ -48,3 +53,8 @@ module _ {A O : Type 0} (f : FeedGhosts A O) where
     pub origin : f.origin new ≡ f.origin old
     pub over : pump_old.over ≡ true → (pump_new.over ≡ true) × (f.at_end new ≡ f.at_end old)
     pub at_end : pump_old.over ≡ false → pump_new.over ≡ true → f.at_end new ≡ true
+
+  -- the same of a pump that is in place
+  abbrev pub PumpsOn : A → A → Pump → Pump → List (List Stretch) → List (List Stretch) → Type 0
+  PumpsOn old new pump_old pump_new sents_old sents_new =
+      InPlace (f.held old) pump_old → Pumps old new pump_old pump_new sents_old sents_new

@@ -1,20 +1,20 @@
-// One worker for each stage.
-ghost use Rattle.std.specs.Prelude.{◌≡◌, ◌≤◌, ◌+◌, ◌++◌, List, vec_len, vec_capacity, length};
-ghost use Rattle.std.specs.Prelude.{IfOk, IfErr};
+// One worker for the reader, and one for each stage.
+ghost use Rattle.std.specs.Prelude.{◌≡◌, ◌≤◌, ◌<◌, ◌+◌, ◌++◌, [], List, ℕ, Some, map, slice_get};
+ghost use Rattle.std.specs.Prelude.{vec_len, vec_capacity, IfOk, IfErr};
+ghost use Rattle.la_base.specs.declared.wires.Mark.{Mark as MarkIs};
+ghost use Rattle.stage_ring.specs.Link.{received, rx_link, sent, tx_link};
 ghost use Rattle.stage_crew.specs.Crew.{Each, Ends};
-ghost use Rattle.stage_crew.specs.Driving.{Fresh};
-ghost use Rattle.stage_crew.specs.Keeping.{Drives};
+ghost use Rattle.stage_crew.specs.Keeping.{Collects};
 
 use crate::driver::drive;
 use crate::pacer::Pacer;
-use crate::sign::Sign;
+use crate::sign::{Board, Sign};
 use crate::turns::{Turns, turns_go_on};
 use crate::worker::{Back, run_out, work};
 use decoder_core::RunEnd;
 use la_base::Mark;
-use la_io::{MarkTake, RunFeed};
+use la_io::MarkTake;
 use stage_ring::{Rx, Tx};
-use stage_run::Stretch;
 use std::snapshot::Snapshot;
 use std::sync::Wait;
 use std::thread::{PromisedHandle, Scope, Threads};
@@ -50,9 +50,9 @@ pub(crate) fn frame<
     's,
     E,
     R: Threads + Wait + Sync,
+    D: Turns,
     S: Turns + Send + Drop + 's,
     P: Pacer + Sync,
-    F: RunFeed,
     G: MarkTake,
 >(
     scope: &'s Scope<'s, E>,
@@ -60,20 +60,26 @@ pub(crate) fn frame<
     todo: Vec<S>,
     done: &mut Vec<S>,
     own: &mut Vec<S>,
-    feeds: &mut Vec<Tx<Stretch>>,
+    readers: &mut Vec<D>,
     marks: &mut Vec<Rx<Mark>>,
-    signs: &'s [Sign],
+    stop: &mut Tx<bool>,
+    board: &'s Board,
     pacer: &'s P,
-    feed: &mut F,
     take: &mut G,
 ) -> RunEnd
     requires room { (vec_len done.old + vec_len todo ≤ vec_capacity done.old)
         × (vec_len own.old + vec_len todo ≤ vec_capacity own.old) }
-    requires few { (vec_len todo ≤ length signs.now) × (length signs.now ≤ 24) }
+    requires few { (vec_len todo ≤ vec_len board.now.signs) × (vec_len board.now.signs ≤ 24) }
     requires marks { (vec_len marks.old ≡ G.instances take.old) × (vec_len marks.old ≤ 24) }
-    requires fresh { Fresh feeds.old.items marks.old.items }
-    ensures drives { Drives F.RunFeed G.MarkTake feed.old feed.new take.old take.new result
-        feeds.old.items feeds.new.items marks.old.items marks.new.items }
+    requires fresh { (k : ℕ) (m : List MarkIs)
+        → slice_get (map received marks.old.items) k ≡ Some m → m ≡ [] }
+    requires untold { sent stop.old ≡ [] }
+    ensures collects { Collects G.MarkTake take.old take.new result
+        (map received marks.new.items) (sent stop.new) }
+    ensures links { (map rx_link marks.new.items ≡ map rx_link marks.old.items)
+        × (tx_link stop.new ≡ tx_link stop.old) }
+    ensures readers { Each D.goes_on readers.old.items readers.new.items }
+    ensures readers_len { vec_len readers.new ≡ vec_len readers.old }
     ensures own { Each S.goes_on own.old.items own.new.items }
     ensures own_len { vec_len own.new ≡ vec_len own.old }
     ensures done { (made : List _) × (done.new.items ≡ done.old.items ++ made)
@@ -83,22 +89,22 @@ pub(crate) fn frame<
 {
     let mut todo = todo;
     let Some(stage) = todo.pop() else {
-        return drive(rt, feed, take, feeds, marks, own, signs);
+        return drive(rt, take, marks, stop, readers, own, board);
     };
     turns_go_on::<S>();
     let number = todo.len() as u32;
-    let sign = &signs[todo.len()];
+    let sign = &board.signs[todo.len()];
     let (back, end) = match start(scope, rt, stage, number, sign, pacer) {
         Ok(child) => {
             let end = frame(
-                scope, rt, todo, done, own, feeds, marks, signs, pacer, feed, take,
+                scope, rt, todo, done, own, readers, marks, stop, board, pacer, take,
             );
             (child.join(rt), end)
         }
         Err(stage) => {
             own.push_reserved(stage);
             let end = frame(
-                scope, rt, todo, done, own, feeds, marks, signs, pacer, feed, take,
+                scope, rt, todo, done, own, readers, marks, stop, board, pacer, take,
             );
             let Some(stage) = own.pop() else {
                 unreachable!();
@@ -108,4 +114,70 @@ pub(crate) fn frame<
     };
     done.push_reserved(run_out(rt, back, number, sign, pacer));
     end
+}
+
+/// Starts a worker for the reader, and runs the stages and the driver beside it. Gives the reader
+/// back, over, and the stages likewise. Where no thread can be started for the reader, the driver
+/// takes turns of it.
+pub(crate) fn lead<
+    's,
+    E,
+    R: Threads + Wait + Sync,
+    D: Turns + Send + Drop + 's,
+    S: Turns + Send + Drop + 's,
+    P: Pacer + Sync,
+    G: MarkTake,
+>(
+    scope: &'s Scope<'s, E>,
+    rt: &'s R,
+    reader: D,
+    readers: &mut Vec<D>,
+    todo: Vec<S>,
+    done: &mut Vec<S>,
+    own: &mut Vec<S>,
+    marks: &mut Vec<Rx<Mark>>,
+    stop: &mut Tx<bool>,
+    board: &'s Board,
+    pacer: &'s P,
+    take: &mut G,
+) -> (D, RunEnd)
+    requires reader { (vec_len readers.old < vec_capacity readers.old)
+        × (vec_len readers.old ≡ 0) }
+    requires room { (vec_len done.old + vec_len todo ≤ vec_capacity done.old)
+        × (vec_len own.old + vec_len todo ≤ vec_capacity own.old) }
+    requires few { (vec_len todo ≤ vec_len board.now.signs) × (vec_len board.now.signs ≤ 24) }
+    requires marks { (vec_len marks.old ≡ G.instances take.old) × (vec_len marks.old ≤ 24) }
+    requires fresh { (k : ℕ) (m : List MarkIs)
+        → slice_get (map received marks.old.items) k ≡ Some m → m ≡ [] }
+    requires untold { sent stop.old ≡ [] }
+    ensures collects { Collects G.MarkTake take.old take.new result.1
+        (map received marks.new.items) (sent stop.new) }
+    ensures links { (map rx_link marks.new.items ≡ map rx_link marks.old.items)
+        × (tx_link stop.new ≡ tx_link stop.old) }
+    ensures reader { Ends D.goes_on D.over reader result.0 }
+    ensures done { (made : List _) × (done.new.items ≡ done.old.items ++ made)
+        × Each (Ends S.goes_on S.over) todo.items made }
+{
+    turns_go_on::<D>();
+    let sign = &board.reader;
+    let plain = &board.plain;
+    let (back, end) = match start(scope, rt, reader, 0, sign, plain) {
+        Ok(child) => {
+            let end = frame(
+                scope, rt, todo, done, own, readers, marks, stop, board, pacer, take,
+            );
+            (child.join(rt), end)
+        }
+        Err(reader) => {
+            readers.push_reserved(reader);
+            let end = frame(
+                scope, rt, todo, done, own, readers, marks, stop, board, pacer, take,
+            );
+            let Some(reader) = readers.pop() else {
+                unreachable!();
+            };
+            (reader, end)
+        }
+    };
+    (run_out(rt, back, 0, sign, plain), end)
 }

@@ -1,14 +1,17 @@
-//! Stages, each in a thread of its own, beside a driver that feeds the roots and gathers the marks.
+//! Stages, each in a thread of its own, beside a reader that feeds the roots and a driver that gathers
+//! the marks.
 #![tactic(auto)]
 
 mod driver;
 mod fan;
 mod frames;
+mod gate;
 mod gatherer;
 mod marks;
 mod pacer;
 mod patience;
 mod pump;
+mod reader;
 mod row;
 mod scope;
 mod sign;

@@ -5,26 +5,37 @@ use std::sync::Wait;
 use std::thread::Parker;
 use std::time::Duration;
 
-// How often one yields more before it sleeps.
-const YIELDS: u32 = 200;
+// How often one yields more before it sleeps. More of that takes cores from those that have work.
+const YIELDS: u32 = 8;
 
-// How long one sleeps at a time, in microseconds.
+// The same where a feed is read that may have to wait: there it is read anew only once all are idle,
+// so that a piece of it takes as long as the slowest of them sleeps.
+const ALERT_YIELDS: u32 = 200;
+
+// How long one sleeps at first, in microseconds, and at most.
 const NAP: u64 = 50;
+
+const LONGEST: u64 = 800;
 
 /// Spins and yields at first, a little longer each time, and sleeps for a short time once that has
 /// gone on for a while.
 #[derive(Drop)]
 pub(crate) struct Patience {
     backoff: Backoff,
+    // whether a feed is read that may have to wait
+    alert: bool,
     yields: Cell<u32>,
+    nap: Cell<u64>,
     parker: Parker,
 }
 
 impl Patience {
-    pub(crate) fn new() -> Patience {
+    pub(crate) fn new(alert: bool) -> Patience {
         Patience {
             backoff: Backoff::new(),
+            alert,
             yields: Cell::new(0),
+            nap: Cell::new(NAP),
             parker: Parker::new(),
         }
     }
@@ -34,6 +45,7 @@ impl Patience {
     pub(crate) fn reset(&self) {
         self.backoff.reset();
         self.yields.set(0);
+        self.nap.set(NAP);
     }
 
     /// Waits a little, since nothing moved. It may return at once.
@@ -43,11 +55,16 @@ impl Patience {
             return;
         }
         let yields = self.yields.get();
-        if yields < YIELDS {
+        let most = if self.alert { ALERT_YIELDS } else { YIELDS };
+        if yields < most {
             self.yields.set(yields + 1);
             self.backoff.snooze();
             return;
         }
-        self.parker.park_timeout(rt, Duration::from_micros(NAP));
+        let nap = self.nap.get();
+        if !self.alert {
+            self.nap.set(nap.saturating_mul(2).min(LONGEST));
+        }
+        self.parker.park_timeout(rt, Duration::from_micros(nap));
     }
 }

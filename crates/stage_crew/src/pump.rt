@@ -2,17 +2,14 @@
 ghost use Rattle.std.specs.Prelude.{◌≡◌, ◌≤◌, ◌||◌, [], List, length, map, true, false};
 ghost use Rattle.stage_ring.specs.Link.{sent, tx_link};
 ghost use Rattle.stage_run.specs.declared.input.Stretch.{Stretch as StretchIs};
-ghost use Rattle.stage_crew.specs.Gathering.{Pauses};
 
 use crate::fan::{Handed, hand_out};
+use crate::gate::Gate;
 use crate::row::SendRow;
 use la_base::high_half;
-use la_io::{MarkTake, RunFeed};
+use la_io::RunFeed;
 use stage_ring::Tx;
 use stage_run::Stretch;
-
-// How many steps the pump takes before it is looked after marks.
-const STEPS: u32 = 64;
 
 /// How far the runs of a feed were sent. `at` is the place of the next run that is to be put into
 /// the row, of those that the feed gave last; `upper`: the upper half of the lines that was told;
@@ -30,7 +27,7 @@ pub(crate) struct Pump {
 
 impl Pump {
     ghost use Rattle.stage_crew.specs.Fans.{Fans};
-    ghost use Rattle.stage_crew.specs.Pumping.{InPlace, IsFree, Pumps};
+    ghost use Rattle.stage_crew.specs.Pumping.{IsFree, PumpsOn, is_sent};
 
     /// Nothing was put into the row yet. `at` is how many runs the feed gave before.
     pub(crate) fn new(at: usize) -> Pump
@@ -60,13 +57,9 @@ impl Pump {
 
     /// Whether the end was sent to each root.
     pub(crate) fn is_over(&self) -> bool
-        ensures { result ≡ true
-            → (self.now.said ≡ true) × (self.now.row ≡ []) × (self.now.handed.child ≡ 0) }
+        ensures { result ≡ is_sent self.now }
     {
-        if !self.said {
-            return false;
-        }
-        self.is_done()
+        self.said && self.row.len() == 0 && self.handed.child == 0
     }
 
     /// Asks for no more runs, where it was stopped.
@@ -103,12 +96,10 @@ impl Pump {
 
     // Puts the next runs into the row, or what tells the upper half of their lines, or the end, or
     // asks the feed for more. Answers whether it did.
-    fn refill<F: RunFeed, G: MarkTake>(&mut self, feed: &mut F, take: &mut G, quiet: bool) -> bool
-        requires place { InPlace (F.held feed.old) self.old }
+    fn refill<F: RunFeed>(&mut self, feed: &mut F, gate: &Gate) -> bool
         requires free { IsFree self.old }
-        ensures pumps { (sents : List (List StretchIs))
-            → Pumps F.RunFeed feed.old feed.new self.old self.new sents sents }
-        ensures pauses { Pauses G.MarkTake take.old take.new }
+        ensures { (sents : List (List StretchIs))
+            → PumpsOn F.RunFeed feed.old feed.new self.old self.new sents sents }
     {
         let runs = feed.runs();
         if self.at < runs.len() {
@@ -127,7 +118,7 @@ impl Pump {
             self.row.push(Stretch::telling(self.upper));
             return true;
         }
-        if !may_read(feed, take, quiet) {
+        if feed.may_wait() && !gate.pass() {
             return false;
         }
         let more = feed.next_runs();
@@ -138,18 +129,10 @@ impl Pump {
 
     // Hands out of the row, or puts the next runs into it, or the end, or asks the feed for more.
     // Answers whether it did.
-    fn step<F: RunFeed, G: MarkTake>(
-        &mut self,
-        feed: &mut F,
-        feeds: &mut Vec<Tx<Stretch>>,
-        take: &mut G,
-        quiet: bool,
-    ) -> bool
-        requires place { InPlace (F.held feed.old) self.old }
+    fn step<F: RunFeed>(&mut self, feed: &mut F, feeds: &mut Vec<Tx<Stretch>>, gate: &Gate) -> bool
         ensures links { map tx_link feeds.new.items ≡ map tx_link feeds.old.items }
-        ensures pumps { Pumps F.RunFeed feed.old feed.new self.old self.new
+        ensures pumps { PumpsOn F.RunFeed feed.old feed.new self.old self.new
             (map sent feeds.old.items) (map sent feeds.new.items) }
-        ensures pauses { Pauses G.MarkTake take.old take.new }
     {
         if !self.is_done() {
             return self.hand_on(feeds);
@@ -157,48 +140,30 @@ impl Pump {
         if self.said {
             return false;
         }
-        self.refill(feed, take, quiet)
+        self.refill(feed, gate)
     }
 
-    /// Hands out of the row, puts the next runs into it, or the end, and asks the feed for more,
-    /// for a while. Answers whether it did any of that. Where the feed may have to wait, it is
-    /// asked only once nothing is on its way any more, and what takes the marks is told of the
-    /// pause.
-    pub(crate) fn go_on<F: RunFeed, G: MarkTake>(
+    /// Hands out of the row, puts the next runs into it, or the end, and asks the feed for more, in
+    /// so many steps. Answers whether it did any of that. Where the feed may have to wait, it is
+    /// asked only through the gate.
+    pub(crate) fn go_on<F: RunFeed>(
         &mut self,
         feed: &mut F,
         feeds: &mut Vec<Tx<Stretch>>,
-        take: &mut G,
-        quiet: bool,
+        gate: &Gate,
+        steps: u32,
     ) -> bool
-        requires place { InPlace (F.held feed.old) self.old }
         ensures links { map tx_link feeds.new.items ≡ map tx_link feeds.old.items }
-        ensures pumps { Pumps F.RunFeed feed.old feed.new self.old self.new
+        ensures pumps { PumpsOn F.RunFeed feed.old feed.new self.old self.new
             (map sent feeds.old.items) (map sent feeds.new.items) }
-        ensures pauses { Pauses G.MarkTake take.old take.new }
     {
         let mut moved = false;
-        for _ in 0..STEPS {
-            if !self.step(feed, feeds, take, quiet && !moved) {
+        for _ in 0..steps {
+            if !self.step(feed, feeds, gate) {
                 return moved;
             }
             moved = true;
         }
         moved
     }
-}
-
-// Whether the feed is to be asked for more runs now. Where it may have to wait, what takes the
-// marks is told of the pause.
-fn may_read<F: RunFeed, G: MarkTake>(feed: &F, take: &mut G, quiet: bool) -> bool
-    ensures { Pauses G.MarkTake take.old take.new }
-{
-    if !feed.may_wait() {
-        return true;
-    }
-    if !quiet {
-        return false;
-    }
-    take.pause();
-    true
 }

@@ -1,21 +1,25 @@
 // The outermost frame: a scope for the workers.
-ghost use Rattle.std.specs.Prelude.{◌≡◌, ◌≤◌, [], map, vec_len, vec_capacity, length, true};
-ghost use Rattle.std.specs.Prelude.{IfOk, OnErr};
+ghost use Rattle.std.specs.Prelude.{◌≡◌, ◌≤◌, ◌<◌, [], List, ℕ, Some, map, slice_get, true};
+ghost use Rattle.std.specs.Prelude.{vec_len, vec_capacity, IfOk, OnErr};
+ghost use Rattle.la_base.specs.declared.wires.Mark.{Mark as MarkIs};
 ghost use Rattle.decoder_core.specs.declared.end.RunEnd.TheVariants.{Ended, Stopped as RunStopped};
 ghost use Rattle.la_io.specs.Causes.{Rose};
 ghost use Rattle.tree_runs.specs.Runs.{is_ended};
-ghost use Rattle.stage_ring.specs.Link.{tx_link, rx_link, sent, received};
+ghost use Rattle.stage_ring.specs.Link.{IsLink, tx_link, rx_link, sent, received};
 ghost use Rattle.stage_crew.specs.Crew.{Each, Ends};
 ghost use Rattle.stage_crew.specs.Driving.{Drove, Fresh};
-ghost use Rattle.stage_crew.specs.Keeping.{Drives};
+ghost use Rattle.stage_crew.specs.Gathering.{TakesOn};
+ghost use Rattle.stage_crew.specs.Keeping.{Collects};
 
-use crate::frames::frame;
-use crate::sign::Sign;
-use crate::{Pacer, Turns};
+use crate::frames::lead;
+use crate::gate::Gate;
+use crate::reader::Reader;
+use crate::sign::{Board, Sign};
+use crate::{Pacer, PlainPacer, Turns};
 use decoder_core::RunEnd;
 use la_base::{Mark, NoMemory};
 use la_io::{MarkTake, RunFeed};
-use stage_ring::{Rx, Tx};
+use stage_ring::{Rx, Tx, link, settle};
 use stage_run::Stretch;
 use std::alloc::Global;
 use std::sync::Wait;
@@ -23,6 +27,105 @@ use std::thread;
 use std::thread::Threads;
 
 // What was lent to the frames, and what they give back.
+struct Led<'a, D, S, G> {
+    take: &'a mut G,
+    reader: D,
+    done: Vec<S>,
+    marks: Vec<Rx<Mark>>,
+    stop: Tx<bool>,
+    end: RunEnd,
+}
+
+// Opens a scope for the workers, and hands back what it was lent.
+fn within_scope<
+    'a,
+    R: Threads + Wait + Sync,
+    D: Turns + Send + Drop,
+    S: Turns + Send + Drop,
+    P: Pacer + Sync,
+    G: MarkTake,
+>(
+    rt: &R,
+    reader: D,
+    readers: Vec<D>,
+    stages: Vec<S>,
+    done: Vec<S>,
+    own: Vec<S>,
+    marks: Vec<Rx<Mark>>,
+    stop: Tx<bool>,
+    board: &Board,
+    pacer: &P,
+    take: &'a mut G,
+) -> Led<'a, D, S, G>
+    requires reader { (vec_len readers < vec_capacity readers) × (vec_len readers ≡ 0) }
+    requires room { (vec_len stages ≤ vec_capacity done) × (vec_len stages ≤ vec_capacity own)
+        × (done.items ≡ []) × (own.items ≡ []) }
+    requires few { (vec_len stages ≤ vec_len board.now.signs) × (vec_len board.now.signs ≤ 24) }
+    requires marks { (vec_len marks ≡ G.instances take.old) × (vec_len marks ≤ 24) }
+    requires fresh { (k : ℕ) (m : List MarkIs)
+        → slice_get (map received marks.items) k ≡ Some m → m ≡ [] }
+    requires untold { sent stop ≡ [] }
+    ensures collects { Collects G.MarkTake take.old result.take.now result.end
+        (map received result.marks.items) (sent result.stop) }
+    ensures links { (map rx_link result.marks.items ≡ map rx_link marks.items)
+        × (tx_link result.stop ≡ tx_link stop) }
+    ensures same { result.take.ghost_name ≡ take.entry.ghost_name }
+    ensures reader { Ends D.goes_on D.over reader result.reader }
+    ensures stages { Each (Ends S.goes_on S.over) stages.items result.done.items }
+{
+    thread::scope(
+        thread::scope_env(),
+        rt,
+        move |scope| -> Led<D, S, G>
+            requires reader { (vec_len readers < vec_capacity readers) × (vec_len readers ≡ 0) }
+            requires room { (vec_len stages ≤ vec_capacity done)
+                × (vec_len stages ≤ vec_capacity own) × (done.items ≡ []) × (own.items ≡ []) }
+            requires few { (vec_len stages ≤ vec_len board.now.signs)
+                × (vec_len board.now.signs ≤ 24) }
+            requires marks { (vec_len marks ≡ G.instances take.now) × (vec_len marks ≤ 24) }
+            requires fresh { (k : ℕ) (m : List MarkIs)
+                → slice_get (map received marks.items) k ≡ Some m → m ≡ [] }
+            requires untold { sent stop ≡ [] }
+            ensures collects { Collects G.MarkTake take.entry.now result.take.now result.end
+                (map received result.marks.items) (sent result.stop) }
+            ensures links { (map rx_link result.marks.items ≡ map rx_link marks.items)
+                × (tx_link result.stop ≡ tx_link stop) }
+            ensures same { result.take.ghost_name ≡ take.entry.ghost_name }
+            ensures reader { Ends D.goes_on D.over reader result.reader }
+            ensures stages { Each (Ends S.goes_on S.over) stages.items result.done.items }
+        {
+            let mut readers = readers;
+            let mut own = own;
+            let mut done = done;
+            let mut marks = marks;
+            let mut stop = stop;
+            let (reader, end) = lead(
+                scope,
+                rt,
+                reader,
+                &mut readers,
+                stages,
+                &mut done,
+                &mut own,
+                &mut marks,
+                &mut stop,
+                board,
+                pacer,
+                take,
+            );
+            Led {
+                take,
+                reader,
+                done,
+                marks,
+                stop,
+                end,
+            }
+        },
+    )
+}
+
+// What was lent to a crew, and what it gives back.
 struct Crew<'a, 'b, S, F, G> {
     feed: &'a mut F,
     take: &'b mut G,
@@ -32,72 +135,76 @@ struct Crew<'a, 'b, S, F, G> {
     end: RunEnd,
 }
 
-// Opens a scope for the workers, and hands back what it was lent.
-fn within_scope<
+// Lends the feed to a reader, and has it and the stages run.
+fn read_within<
     'a,
     'b,
+    'c,
     R: Threads + Wait + Sync,
     S: Turns + Send + Drop,
     P: Pacer + Sync,
-    F: RunFeed,
+    F: RunFeed + Send,
     G: MarkTake,
 >(
     rt: &R,
+    readers: Vec<Reader<'a, 'c, F>>,
     stages: Vec<S>,
     done: Vec<S>,
     own: Vec<S>,
     feeds: Vec<Tx<Stretch>>,
     marks: Vec<Rx<Mark>>,
-    signs: &[Sign],
+    stop: (Tx<bool>, Rx<bool>),
+    board: &'c Board,
     pacer: &P,
     feed: &'a mut F,
     take: &'b mut G,
 ) -> Crew<'a, 'b, S, F, G>
+    requires reader { (vec_len readers < vec_capacity readers) × (vec_len readers ≡ 0) }
     requires room { (vec_len stages ≤ vec_capacity done) × (vec_len stages ≤ vec_capacity own)
         × (done.items ≡ []) × (own.items ≡ []) }
-    requires few { (vec_len stages ≤ length signs.now) × (length signs.now ≤ 24) }
+    requires few { (vec_len stages ≤ vec_len board.now.signs) × (vec_len board.now.signs ≤ 24) }
     requires marks { (vec_len marks ≡ G.instances take.old) × (vec_len marks ≤ 24) }
     requires fresh { Fresh feeds.items marks.items }
-    ensures drives { Drives F.RunFeed G.MarkTake feed.old result.feed.now take.old result.take.now
-        result.end feeds.items result.feeds.items marks.items result.marks.items }
+    requires stop { IsLink stop.0 stop.1 × (sent stop.0 ≡ []) }
+    ensures drove { Drove (F.gave feed.old) (F.gave result.feed.now) (G.took take.old)
+        (G.took result.take.now) (F.at_end result.feed.now) result.end
+        (map sent result.feeds.items) (map received result.marks.items) }
+    ensures origin { F.origin result.feed.now ≡ F.origin feed.old }
+    ensures at_end { result.end ≡ Ended → F.at_end result.feed.now ≡ true }
+    ensures takes { TakesOn G.MarkTake result.end take.old result.take.now }
+    ensures links { (map tx_link result.feeds.items ≡ map tx_link feeds.items)
+        × (map rx_link result.marks.items ≡ map rx_link marks.items) }
     ensures same { (result.feed.ghost_name ≡ feed.entry.ghost_name)
         × (result.take.ghost_name ≡ take.entry.ghost_name) }
     ensures stages { Each (Ends S.goes_on S.over) stages.items result.done.items }
 {
-    thread::scope(
-        thread::scope_env(),
-        rt,
-        move |scope| -> Crew<S, F, G>
-            requires room { (vec_len stages ≤ vec_capacity done)
-                × (vec_len stages ≤ vec_capacity own) × (done.items ≡ []) × (own.items ≡ []) }
-            requires few { (vec_len stages ≤ length signs.now) × (length signs.now ≤ 24) }
-            requires marks { (vec_len marks ≡ G.instances take.now) × (vec_len marks ≤ 24) }
-            requires fresh { Fresh feeds.items marks.items }
-            ensures drives { Drives F.RunFeed G.MarkTake feed.entry.now result.feed.now
-                take.entry.now result.take.now result.end feeds.items result.feeds.items
-                marks.items result.marks.items }
-            ensures same { (result.feed.ghost_name ≡ feed.entry.ghost_name)
-                × (result.take.ghost_name ≡ take.entry.ghost_name) }
-            ensures stages { Each (Ends S.goes_on S.over) stages.items result.done.items }
-        {
-            let mut own = own;
-            let mut done = done;
-            let mut feeds = feeds;
-            let mut marks = marks;
-            let end = frame(
-                scope, rt, stages, &mut done, &mut own, &mut feeds, &mut marks, signs, pacer, feed,
-                take,
-            );
-            Crew {
-                feed,
-                take,
-                done,
-                feeds,
-                marks,
-                end,
-            }
-        },
-    )
+    let (stop, stopped) = stop;
+    let reader = Reader::new(feed, feeds, stopped, &board.gate);
+    let Led {
+        take,
+        reader,
+        done,
+        marks,
+        mut stop,
+        end,
+    } = within_scope(
+        rt, reader, readers, stages, done, own, marks, stop, board, pacer, take,
+    );
+    let Reader {
+        feed,
+        feeds,
+        stop: mut stopped,
+        ..
+    } = reader;
+    settle(&mut stop, &mut stopped);
+    Crew {
+        feed,
+        take,
+        done,
+        feeds,
+        marks,
+        end,
+    }
 }
 
 // What was lent goes back as it is.
@@ -114,21 +221,21 @@ pub struct Ran<S> {
     pub end: RunEnd,
 }
 
-/// Runs each stage in a thread of its own, one worker each, and the driver beside them, in this
-/// thread: it sends all runs of the feed to each root, and then the end, and gathers the marks of
-/// each instance up to its end. Before a call of the feed that may have to wait, what takes the
-/// marks is told of the pause, once no mark has come for a little while.
+/// Runs each stage in a thread of its own, one worker each, and in one more the reader, which sends
+/// all runs of the feed to each root, and then the end. The driver, in this thread, gathers the marks
+/// of each instance up to its end. Before a call of the feed that may have to wait, what takes the
+/// marks is told of the pause, once nothing is on its way any more.
 ///
 /// `feeds` are the links to the roots, `marks` those of the instances' marks, in their order.
 /// `Stopped` is answered where `take` stopped, at the last mark that it was handed: none is taken
 /// behind it, and the feed isn't read on, but what it gave is sent, and the stages run to their
-/// ends. Where no thread can be started for a stage, the driver takes turns of it. No thread is
-/// left behind. At `NoMemory` nothing was done.
+/// ends. Where no thread can be started for a stage, or the reader, the driver takes turns of it. No
+/// thread is left behind. At `NoMemory` nothing was done.
 pub fn run_crew<
     R: Threads + Wait + Sync,
     S: Turns + Send + Drop,
     P: Pacer + Sync,
-    F: RunFeed,
+    F: RunFeed + Send,
     G: MarkTake,
 >(
     rt: &R,
@@ -162,10 +269,19 @@ pub fn run_crew<
 {
     let done = Vec::with_capacity(alloc, stages.len())?;
     let own = Vec::with_capacity(alloc, stages.len())?;
+    let readers = Vec::with_capacity(alloc, 1)?;
+    let stop = link(alloc, 1)?;
+    let alert = feed.may_wait();
     let mut signs = Vec::with_capacity(alloc, stages.len())?;
     for _ in 0..stages.len() {
-        signs.push(Sign::new())?;
+        signs.push(Sign::new(alert))?;
     }
+    let board = Board {
+        signs,
+        reader: Sign::new(alert),
+        gate: Gate::new(),
+        plain: PlainPacer,
+    };
     let Crew {
         feed: lent,
         take: given,
@@ -173,8 +289,8 @@ pub fn run_crew<
         feeds,
         marks,
         end,
-    } = within_scope(
-        rt, stages, done, own, feeds, marks, &signs, pacer, feed, take,
+    } = read_within(
+        rt, readers, stages, done, own, feeds, marks, stop, &board, pacer, feed, take,
     );
     goes_back(lent);
     goes_back(given);

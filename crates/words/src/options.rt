@@ -173,7 +173,7 @@ impl Name {
                     most: MOST_RING as u64,
                 },
                 usual: Some("256"),
-                help: "items that wait between two decoders at most",
+                help: "slots of each ring between two threads",
             },
             Name::Show => OptionRow {
                 name: "show",

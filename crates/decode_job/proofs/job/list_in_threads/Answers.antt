@@ -1,7 +1,13 @@
+use denote.Exit.{no}
+use denote.Param.Send.{arg_send, param_send}
 use Rattle.std.proofs.Common.{[], rules, ap, subst, sym, ◌∙◌}
 use Rattle.decode_job.proofs.Coming.{ran_to}
 use Rattle.decode_job.proofs.Flushing.{decodes_moved, relation_moved}
+use Rattle.decode_job.proofs.Sending.{feed_sent}
 use Rattle.decode_job.proofs.job.list_in_threads.Goals as goal
+
+pub run-ran-requires-send-F : goal.run-ran-requires-send-F
+run-ran-requires-send-F g c κs within = param_send _ _ (arg_send _ no _ (feed_sent _ _ _ _ _ c.type_bounds.send-S))
 
 pub close-read-requires-clause-ran : goal.close-read-requires-clause-ran
 close-read-requires-clause-ran g c =

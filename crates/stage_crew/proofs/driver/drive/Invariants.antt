@@ -1,16 +1,19 @@
 use Rattle.std.proofs.Common.{◌≡◌, map, vec_len}
-use Rattle.stage_ring.specs.Link.{received, sent}
+use Rattle.stage_ring.specs.Link.{received, rx_link, sent, tx_link}
 use Rattle.stage_crew.specs.Crew.{Each}
-use Rattle.stage_crew.specs.Keeping.{Kept, SameLinks}
+use Rattle.stage_crew.specs.Keeping.{Kept}
 use Rattle.stage_crew.proofs.driver.drive.Given as goal
 
 abbrev pub invariant-loop : goal.invariant-loop
 invariant-loop g l =
     (goal.iterator-loop g).can_next l.iterator' × (goal.iterator-loop g).is_finite l.iterator'
     × record {
-      kept : Kept g.F.RunFeed g.G.MarkTake l.fn.feed l.feed l.fn.take l.take l.pump (map sent l.feeds.items) l.state (map received l.marks.items);
-      links : SameLinks l.fn.feeds.items l.feeds.items l.fn.marks.items l.marks.items;
+      kept : Kept g.G.MarkTake l.fn.take l.take l.state (map received l.marks.items) (sent l.stop);
+      marks_same : map rx_link l.marks.items ≡ map rx_link l.fn.marks.items;
+      stop_same : tx_link l.stop ≡ tx_link l.fn.stop;
       len : vec_len l.marks ≡ vec_len l.fn.marks;
-      own : Each g.S.Turns.goes_on l.fn.own.items l.own.items;
+      readers_on : Each g.D.Turns.goes_on l.fn.readers.items l.readers.items;
+      readers_len : vec_len l.readers ≡ vec_len l.fn.readers;
+      own_on : Each g.S.Turns.goes_on l.fn.own.items l.own.items;
       own_len : vec_len l.own ≡ vec_len l.fn.own;
     }

@@ -1,8 +1,16 @@
-use Rattle.std.proofs.Common.{◌∙◌, ap, sym, subst}
+use Rattle.std.proofs.Common.{◌∙◌, ap, sym, subst, map}
+use Rattle.stage_ring.specs.Link.{received, sent}
 use Rattle.stage_crew.specs.Crew.{Ends, Each}
+use Rattle.stage_crew.proofs.Driving.{collects_same}
 use Rattle.stage_crew.proofs.Each.{put_back, handed}
 use Rattle.stage_crew.proofs.frames.+frame.Goals as goal
 use Rattle.stage_crew.proofs.frames.+frame.Goals.{in-Ok, in-Err+in-Some-pop}
+
+pub returns-clause-collects : goal.returns-clause-collects
+returns-clause-collects g t c = elim c.match-start.branch [
+  | in-Ok w ↦ collects_same g.G.MarkTake w.frame-end.ensures.collects w.take-is (ap (λ p. p.1) w.back-is) (ap (λ m. map received m.items) w.marks-is) (ap sent w.stop-is)
+  | in-Err+in-Some-pop w ↦ collects_same g.G.MarkTake w.frame-end-in-Err.ensures.collects w.take-is (ap (λ p. p.1) w.back-is) (ap (λ m. map received m.items) w.marks-is) (ap sent w.stop-is)
+]
 
 pub returns-clause-own : goal.returns-clause-own
 returns-clause-own g t c =

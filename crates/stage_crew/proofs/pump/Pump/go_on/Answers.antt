@@ -1,14 +1,12 @@
 use Rattle.std.proofs.Common.{◌∙◌, refl, map}
 use Rattle.stage_ring.specs.Link.{sent}
-use Rattle.stage_crew.proofs.Gathering.{pauses_none, pauses_then}
 use Rattle.stage_crew.proofs.Pumping.{pumps_none, pumps_then}
 use Rattle.stage_crew.proofs.pump.Pump.go_on.Goals as goal
 
 pub loop-init : goal.loop-init
 loop-init g c = record {
   links_same = refl;
-  pumps = pumps_none g.F.RunFeed c.args.feed.now c.args.self.now _ (map sent c.args.feeds.now.items) c.requires.place refl;
-  pauses = pauses_none g.G.MarkTake c.args.take.now;
+  pumps = λ place. pumps_none g.F.RunFeed c.args.feed.now c.args.self.now _ (map sent c.args.feeds.now.items) place refl;
 }
 
 pub loop-preserved : goal.loop-preserved
@@ -18,11 +16,7 @@ loop-preserved g c =
     record {
       links_same = e.links ∙ i.links_same;
       pumps = pumps_then g.F.RunFeed i.pumps e.pumps;
-      pauses = pauses_then g.G.MarkTake i.pauses e.pauses;
     }
 
 pub returns-then-not-step-clause-pumps : goal.returns-then-not-step-clause-pumps
 returns-then-not-step-clause-pumps g c = pumps_then g.F.RunFeed c.loop.invariant.pumps c.step.ensures.pumps
-
-pub returns-then-not-step-clause-pauses : goal.returns-then-not-step-clause-pauses
-returns-then-not-step-clause-pauses g c = pauses_then g.G.MarkTake c.loop.invariant.pauses c.step.ensures.pauses

@@ -6,34 +6,34 @@ use Rattle.stage_run.specs.declared.input.Stretch.{Stretch}
 use Rattle.stage_crew.proofs.Pumping.{pumps_ask, pumps_end, pumps_fill, pumps_none, pumps_tell}
 use Rattle.stage_crew.proofs.pump.Pump.refill.Goals as goal
 
-pub returns-clause-pumps : goal.returns-clause-pumps
-returns-clause-pumps g c = λ sents.
+pub returns : goal.returns
+returns g c = λ sents place.
     let e = c.next_runs-more.ensures in
     pumps_ask g.F.RunFeed c.args.feed.now c.args.self.now _ sents c.next_runs-more.new.self c.next_runs-more.result c.requires.free (omega (arith, c.if-self-runs.false, ap length c.runs-runs.ensures)) c.if-self.false e.more e.gives e.origin refl refl refl refl refl refl
 
-pub returns-then-upper-self-clause-pumps : goal.returns-then-upper-self-clause-pumps
-returns-then-upper-self-clause-pumps g c = λ sents.
+pub returns-then-upper-self : goal.returns-then-upper-self
+returns-then-upper-self g c = λ sents place.
     let p = c.args.self.now in
-    pumps_tell g.F.RunFeed c.args.feed.now p _ sents c.high_half-upper.result c.requires.place c.requires.free p.within c.if-upper-self.true refl refl refl refl refl
+    pumps_tell g.F.RunFeed c.args.feed.now p _ sents c.high_half-upper.result place c.requires.free p.within c.if-upper-self.true refl refl refl refl refl
     (c.push.ensures ∙ ap (λ (s : Stretch). p.row ++ s ∷ []) c.telling.ensures)
 
-pub returns-then-self-runs-clause-pumps : goal.returns-then-self-runs-clause-pumps
-returns-then-self-runs-clause-pumps g c = λ sents.
+pub returns-then-self-runs : goal.returns-then-self-runs
+returns-then-self-runs g c = λ sents place.
     let p = c.args.self.now in
     let n = c.fill-count.result in
     let e = c.fill-count.ensures in
     let held = c.runs-runs.ensures in
-    pumps_fill g.F.RunFeed c.args.feed.now p _ sents n c.requires.place c.requires.free p.within
+    pumps_fill g.F.RunFeed c.args.feed.now p _ sents n place c.requires.free p.within
     (subst (λ (l : List Run). n ≤ length (take (length l - p.at) (drop p.at l))) held e.within) refl refl refl refl refl
     (subst (λ (l : List Run). c.fill-count.new.self ≡ map stretch_of (take n (take (length l - p.at) (drop p.at l)))) held e.row)
     (subst (λ (u : ℕ). All (λ run. upper_of run ≡ u) (take n (take (length (g.F.RunFeed.held c.args.feed.now) - p.at) (drop p.at (g.F.RunFeed.held c.args.feed.now))))) c.if-upper-self.false
     (subst (λ (l : List Run). All (λ run. upper_of run ≡ c.high_half-upper.result) (take n (take (length l - p.at) (drop p.at l)))) held e.upper))
 
-pub returns-then-self-clause-pumps : goal.returns-then-self-clause-pumps
-returns-then-self-clause-pumps g c = λ sents.
+pub returns-then-self : goal.returns-then-self
+returns-then-self g c = λ sents place.
     let p = c.args.self.now in
-    pumps_end g.F.RunFeed c.args.feed.now p _ sents c.requires.place c.requires.free p.within (omega (arith, c.if-self-runs.false, ap length c.runs-runs.ensures)) c.if-self.true refl refl refl refl refl
+    pumps_end g.F.RunFeed c.args.feed.now p _ sents place c.requires.free p.within (omega (arith, c.if-self-runs.false, ap length c.runs-runs.ensures)) c.if-self.true refl refl refl refl refl
     (c.push-then-self.ensures ∙ ap (λ (s : Stretch). p.row ++ s ∷ []) c.telling-then-self.ensures)
 
-pub returns-then-not-may_read-clause-pumps : goal.returns-then-not-may_read-clause-pumps
-returns-then-not-may_read-clause-pumps g c = λ sents. pumps_none g.F.RunFeed c.args.feed.now c.args.self.now _ sents c.requires.place refl
+pub returns-then-not-pass : goal.returns-then-not-pass
+returns-then-not-pass g c = λ sents place. pumps_none g.F.RunFeed c.args.feed.now c.args.self.now _ sents place refl

@@ -1,0 +1,60 @@
+-- What a reader has read and sent.
+use Rattle.std.proofs.Common.{◌≡◌, ◌∙◌, ℕ, Bool, true, false, List, [], ◌++◌, map, length, slice_get, Some, refl, sym, ap, subst, arith, append_assoc}
+use Rattle.std.proofs.lemmas.List.{append-nil}
+use Rattle.la_base.specs.declared.samples.Run.{Run}
+use Rattle.la_base.specs.declared.wires.Feed.TheVariants.{Run as RunFeed}
+use Rattle.la_io.specs.declared.feeds.RunFeed.{Ghosts as FeedGhosts}
+use Rattle.stage_ring.specs.Link.{received, sent}
+use Rattle.stage_run.specs.Inputs.{telling}
+use Rattle.stage_run.specs.declared.input.Stretch.{Stretch}
+use Rattle.stage_crew.specs.Fans.{Fans}
+use Rattle.stage_crew.specs.Pumping.{Pumped, PumpsOn, end_if}
+use Rattle.stage_crew.specs.Reading.{Fed}
+use Rattle.stage_crew.specs.declared.pump.Pump.{Pump}
+use Rattle.stage_crew.specs.declared.reader.Reader.{Reader}
+use Rattle.stage_crew.proofs.Common.{gone, not_true}
+use Rattle.stage_crew.proofs.Handing.{fans_fresh}
+
+-- nothing was sent yet, and all that the feed gave before is passed over
+pub pumped_none : (held : List Run) (pump : Pump) (sents : List (List Stretch)) → pump.row ≡ [] → pump.handed.child ≡ 0 → pump.at ≡ length held → pump.upper ≡ 0 → pump.said ≡ false
+    → ((k : ℕ) (s : List Stretch) → slice_get sents k ≡ Some s → s ≡ []) → Pumped [] held pump sents
+pumped_none held pump sents none first at upper said fresh = record {
+  fed = [];
+  left = ap (map RunFeed) (gone held pump.at (omega (arith, at)));
+  told = sym upper;
+  all = λ is. absurd (not_true said is);
+  fans = subst (λ (b : Bool). Fans sents pump.row pump.handed (end_if (telling pump.upper) b)) (sym said) (subst (λ (l : List Stretch). Fans sents l pump.handed []) (sym none) (fans_fresh sents pump.handed first fresh));
+}
+
+module _ {A O : Type 0} (f : FeedGhosts A O) where
+  pub fed_none : (reader : Reader A) → Pumped [] (f.held reader.feed.now) reader.pump (map sent reader.feeds.items) → reader.pump.at ≡ length (f.held reader.feed.now) → reader.pump.over ≡ false → reader.pump.said ≡ false → reader.told ≡ false
+      → (start : A) → reader.feed.now ≡ start → Fed f start reader
+  fed_none reader pumped at over said told start is = record {
+    lists = [];
+    gave = λ earlier had. subst (f.gave reader.feed.now) (sym (append-nil earlier)) (subst (λ (a : A). f.gave a earlier) (sym is) had);
+    origin = ap f.origin is;
+    pumped = pumped;
+    in_place = record { at = omega (arith, at); said = λ s. absurd (not_true said s) };
+    at_end = λ o t. absurd (not_true over o);
+    heard = λ t none. absurd (not_true told t);
+  }
+
+  -- it has read on
+  pub fed_on : (old new : Reader A) → PumpsOn f old.feed.now new.feed.now old.pump new.pump (map sent old.feeds.items) (map sent new.feeds.items) → new.told ≡ old.told → new.stop ≡ old.stop
+      → (start : A) → Fed f start old → Fed f start new
+  fed_on old new pumps told stop start had =
+      let p = pumps had.in_place in
+      record {
+        lists = had.lists ++ p.more;
+        gave = λ earlier gave. subst (f.gave new.feed.now) (append_assoc earlier had.lists p.more) (p.gave (earlier ++ had.lists) (had.gave earlier gave));
+        origin = p.origin ∙ had.origin;
+        pumped = p.pumped had.lists had.pumped;
+        in_place = p.in_place;
+        at_end = λ over still. ended old.pump.over refl p.at_end p.over over (sym told ∙ still);
+        heard = λ is none. had.heard (sym told ∙ is) (ap received (sym stop) ∙ none);
+      }
+    where
+      ended : (o : Bool) → o ≡ old.pump.over → (old.pump.over ≡ false → new.pump.over ≡ true → f.at_end new.feed.now ≡ true) → (old.pump.over ≡ true → (new.pump.over ≡ true) × (f.at_end new.feed.now ≡ f.at_end old.feed.now))
+          → new.pump.over ≡ true → old.told ≡ false → f.at_end new.feed.now ≡ true
+      ended true is asks keeps over still = (keeps (sym is)).1 ∙ had.at_end (sym is) still
+      ended false is asks keeps over still = asks (sym is) over

@@ -1,0 +1,99 @@
+// The reader: it reads the feed and sends its runs to the roots.
+ghost use Rattle.std.specs.Prelude.{◌≡◌, [], List, ℕ, Some, false, map, slice_get};
+ghost use Rattle.stage_ring.specs.Link.{sent};
+ghost use Rattle.stage_run.specs.declared.input.Stretch.{Stretch as StretchIs};
+
+use crate::Turns;
+use crate::gate::Gate;
+use crate::pump::Pump;
+use la_io::RunFeed;
+use stage_ring::{Rx, Tx};
+use stage_run::{Stretch, Turn};
+
+/// Reads a feed, and sends its runs and then the end to each root, turn by turn: in a thread of its
+/// own, or in the driver's where none can be started. Once it hears that no more is wanted, it sends
+/// what the feed gave and reads no more.
+#[derive(Drop)]
+pub(crate) struct Reader<'a, 'b, F> {
+    pub(crate) feed: &'a mut F,
+    pub(crate) feeds: Vec<Tx<Stretch>>,
+    // on which the driver tells that no more is wanted
+    pub(crate) stop: Rx<bool>,
+    pub(crate) pump: Pump,
+    // it has heard that
+    pub(crate) told: bool,
+    gate: &'b Gate,
+}
+
+impl<'a, 'b, F: RunFeed> Reader<'a, 'b, F> {
+    ghost use Rattle.stage_crew.specs.Reading.{Fed, ReadsOn};
+
+    /// Nothing was read yet.
+    pub(crate) fn new(
+        feed: &'a mut F,
+        feeds: Vec<Tx<Stretch>>,
+        stop: Rx<bool>,
+        gate: &'b Gate,
+    ) -> Reader<'a, 'b, F>
+        requires fresh { (k : ℕ) (s : List StretchIs)
+            → slice_get (map sent feeds.items) k ≡ Some s → s ≡ [] }
+        ensures feed { (result.feed.now ≡ feed.old)
+            × (result.feed.ghost_name ≡ feed.entry.ghost_name) }
+        ensures ends { (result.feeds ≡ feeds) × (result.stop ≡ stop) }
+        ensures fed { Fed F.RunFeed feed.old result }
+    {
+        let pump = Pump::new(feed.runs().len());
+        Reader {
+            feed,
+            feeds,
+            stop,
+            pump,
+            told: false,
+            gate,
+        }
+    }
+
+    // Hears whether no more is wanted.
+    fn listen(&mut self)
+        ensures { ReadsOn F.RunFeed self.old self.new }
+    {
+        if self.stop.take().is_some() {
+            self.told = true;
+            self.pump.stop(true);
+        }
+    }
+
+    // Reads and sends, in so many steps. Answers whether it did.
+    fn read(&mut self, steps: u32) -> bool
+        ensures { ReadsOn F.RunFeed self.old self.new }
+    {
+        self.pump
+            .go_on(self.feed, &mut self.feeds, self.gate, steps)
+    }
+}
+
+impl<F: RunFeed> Turns for Reader<'_, '_, F> {
+    ghost use Rattle.stage_crew.specs.Pumping.{is_sent};
+    ghost use Rattle.stage_crew.specs.Reading.{ReadsOn, reads_further, reads_still};
+
+    ghost goes_on = { ReadsOn F.RunFeed };
+
+    ghost over = { λ reader. is_sent reader.pump };
+
+    fn is_over(&self) -> bool {
+        self.pump.is_over()
+    }
+
+    fn turn(&mut self, budget: u32) -> Turn {
+        self.listen();
+        let moved = self.read(budget);
+        if self.pump.is_over() {
+            return Turn::Ended;
+        }
+        if moved { Turn::Moved } else { Turn::Idle }
+    }
+
+    ghost still = { reads_still };
+
+    ghost on = { reads_further };
+}
