@@ -5,6 +5,7 @@ use decoder_set::{AnyDecoder, Kind, MOST_OPTIONS, OptValues};
 use la_base::{Feed, Out, Rate, Run, Word};
 use la_io::MemSink;
 use std::alloc::Global;
+use std::process::Abort;
 use std::test::Fail;
 
 const RATE: Rate = Rate {
@@ -74,29 +75,47 @@ fn step(machine: &mut AnyDecoder, value: Word, outs: &mut Vec<Out>) -> Result<()
     Ok(())
 }
 
+// What a decoder puts out at all of these.
+fn step_all(
+    machines: &mut [AnyDecoder; 1],
+    values: &[Word],
+    outs: &mut Vec<Out>,
+) -> Result<(), Fail> {
+    for value in values {
+        step(&mut machines[0], *value, outs)?;
+    }
+    Ok(())
+}
+
+// What a decoder puts out up to a cut, and behind it a second one that reads the word of the first.
+fn goes_on(
+    rt: &impl Abort,
+    alloc: Global,
+    cut: usize,
+    second: &mut [AnyDecoder; 1],
+    outs: &mut Vec<Out>,
+) -> Result<(), Fail> {
+    let cut = cut.min(SAMPLES.len());
+    let mut first = [opened()?];
+    step_all(&mut first, &SAMPLES[..cut], outs)?;
+    let line = line_of(alloc, cut as u64, &first)?;
+    assert!(rt; read(word_in(&line)?, second)? == Ok(cut as u64));
+    assert!(rt; line_of(alloc, cut as u64, second)? == line);
+    step_all(second, &SAMPLES[cut..], outs)
+}
+
 #[test]
 fn a_run_that_is_cut_goes_on_as_if_it_were_whole(rt: HostRuntime) -> Result<(), Fail> {
     let alloc = rt.alloc();
     a_word_is_one_check();
     let mut whole = [opened()?];
     let mut all = Vec::new(alloc);
-    for value in SAMPLES {
-        step(&mut whole[0], value, &mut all)?;
-    }
+    step_all(&mut whole, &SAMPLES, &mut all)?;
     let end = line_of(alloc, 23, &whole)?;
     for cut in 0..SAMPLES.len() + 1 {
-        let mut first = [opened()?];
         let mut outs = Vec::new(alloc);
-        for value in &SAMPLES[..cut] {
-            step(&mut first[0], *value, &mut outs)?;
-        }
-        let line = line_of(alloc, cut as u64, &first)?;
         let mut second = [opened()?];
-        assert!(rt; read(word_in(&line)?, &mut second)? == Ok(cut as u64));
-        assert!(rt; line_of(alloc, cut as u64, &second)? == line);
-        for value in &SAMPLES[cut..] {
-            step(&mut second[0], *value, &mut outs)?;
-        }
+        goes_on(&rt, alloc, cut, &mut second, &mut outs)?;
         assert!(rt; outs == all);
         assert!(rt; line_of(alloc, 23, &second)? == end);
     }
@@ -138,7 +157,6 @@ fn a_word_fits_up_to_the_first_misfit(rt: HostRuntime) -> Result<(), Fail> {
     let alloc = rt.alloc();
     let mut pair = [opened()?, opened()?];
     let mut mixed = [opened()?, opened()?];
-    let nothing = line_of(alloc, 0, &pair)?;
     for value in &SAMPLES[..10] {
         let mut outs = Vec::new(alloc);
         step(&mut pair[0], *value, &mut outs)?;
@@ -153,11 +171,24 @@ fn a_word_fits_up_to_the_first_misfit(rt: HostRuntime) -> Result<(), Fail> {
     assert!(rt; read(MISFIT, &mut pair)? == Err(fault));
     // the first was loaded, and the second is as before
     assert!(rt; line_of(alloc, 10, &pair)? == line_of(alloc, 10, &mixed)?);
+    Ok(())
+}
+
+#[test]
+fn a_word_is_read_in_digits_of_both_cases(rt: HostRuntime) -> Result<(), Fail> {
+    let alloc = rt.alloc();
+    let mut pair = [opened()?, opened()?];
+    let nothing = line_of(alloc, 0, &pair)?;
+    for value in &SAMPLES[..10] {
+        let mut outs = Vec::new(alloc);
+        step(&mut pair[0], *value, &mut outs)?;
+        step(&mut pair[1], *value, &mut outs)?;
+    }
+    let line = line_of(alloc, 10, &pair)?;
     let mut others = [opened()?, opened()?];
     assert!(rt; read(word_in(&line)?, &mut others)? == Ok(10));
     assert!(rt; line_of(alloc, 10, &others)? == line);
     assert!(rt; read(word_in(&nothing)?, &mut others)? == Ok(0));
-    // digits of both cases
     let mut upper = line;
     for digit in upper.iter_mut().skip(12) {
         digit.make_ascii_uppercase();

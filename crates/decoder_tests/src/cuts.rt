@@ -59,6 +59,11 @@ fn lists_are_cut(rt: HostRuntime) {
         }
         assert!(rt; after_groups_of(size, &LIST) == &LIST[count..], "{size}");
     }
+}
+
+#[test]
+fn lists_are_parted(rt: HostRuntime) {
+    let alloc = rt.alloc();
     for (list, parts) in PARTS {
         let found = parts_of(alloc, &Is(0), list).expect(&rt, "memory");
         assert!(rt; found.len() == parts.len());
@@ -66,7 +71,12 @@ fn lists_are_cut(rt: HostRuntime) {
             assert!(rt; list.as_slice() == *want);
         }
     }
-    // 1 begins, 9 ends
+}
+
+// 1 begins a part, and 9 ends it.
+#[test]
+fn parts_stand_between_their_ends(rt: HostRuntime) {
+    let alloc = rt.alloc();
     let list = [5, 9, 1, 2, 3, 9, 4, 9, 1, 1, 6];
     let parts = parts_between(alloc, &Is(1), &Is(9), &list).expect(&rt, "memory");
     let wants: [(&[u64], Option<u64>); 3] = [

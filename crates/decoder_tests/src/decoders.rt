@@ -71,15 +71,47 @@ flash25 5 170 256|Read 000100: AA
 modbus 3 8 1|Message of 8 bytes, CRC bad
 midi 1 9452608 0|Note on channel 1: 60 64";
 
+// The text of a note, by the crate of its kind.
+fn own_text(kind: Kind, note: Note) -> LineBuf {
+    let mut line = LineBuf::new();
+    match kind {
+        Kind::I2c => dec_i2c::text(note, &mut line),
+        Kind::Spi => dec_spi::text(note, &mut line),
+        Kind::Uart => dec_uart::text(note, &mut line),
+        Kind::Eeprom24 => dev_eeprom24::text(note, &mut line),
+        Kind::OwLink => dec_onewire::link::text(note, &mut line),
+        Kind::OwNet => dec_onewire::net::text(note, &mut line),
+        Kind::Ds1307 => dev_ds1307::text(note, &mut line),
+        Kind::Lm75 => dev_lm75::text(note, &mut line),
+        Kind::Ds18b20 => dev_ds18b20::text(note, &mut line),
+        Kind::Flash25 => dev_flash25::text(note, &mut line),
+        Kind::Modbus => dec_modbus::text(note, &mut line),
+        Kind::Midi => dec_midi::text(note, &mut line),
+    }
+    line
+}
+
+// The text of a note, by the table of kinds.
+fn text_of(kind: Kind, note: Note) -> LineBuf {
+    let mut line = LineBuf::new();
+    note_text(kind, note, &mut line);
+    line
+}
+
+// The number that a word is.
+fn number(word: Option<&str>) -> u64 {
+    word.unwrap_or("").parse().unwrap_or(0)
+}
+
 #[test]
-fn settings_and_texts(rt: HostRuntime) {
+fn notes_have_their_texts(rt: HostRuntime) {
     for row in TEXTS.split('\n') {
         let (numbers, want) = row.split_once('|').unwrap_or(("", "?"));
         let mut words = numbers.split(' ');
         let kind = kind_of(words.next().unwrap_or("").as_bytes()).expect(&rt, "a kind");
-        let class = words.next().unwrap_or("").parse().unwrap_or(0);
-        let a = words.next().unwrap_or("").parse().unwrap_or(0);
-        let b = words.next().unwrap_or("").parse().unwrap_or(0);
+        let class = u16::try_from(number(words.next())).unwrap_or(0);
+        let a = number(words.next());
+        let b = number(words.next());
         for (start, end) in [(0, 0), (3, 17)] {
             let note = Note {
                 class,
@@ -88,48 +120,42 @@ fn settings_and_texts(rt: HostRuntime) {
                 a,
                 b,
             };
-            let mut buf = LineBuf::new();
-            match kind {
-                Kind::I2c => dec_i2c::text(note, &mut buf),
-                Kind::Spi => dec_spi::text(note, &mut buf),
-                Kind::Uart => dec_uart::text(note, &mut buf),
-                Kind::Eeprom24 => dev_eeprom24::text(note, &mut buf),
-                Kind::OwLink => dec_onewire::link::text(note, &mut buf),
-                Kind::OwNet => dec_onewire::net::text(note, &mut buf),
-                Kind::Ds1307 => dev_ds1307::text(note, &mut buf),
-                Kind::Lm75 => dev_lm75::text(note, &mut buf),
-                Kind::Ds18b20 => dev_ds18b20::text(note, &mut buf),
-                Kind::Flash25 => dev_flash25::text(note, &mut buf),
-                Kind::Modbus => dec_modbus::text(note, &mut buf),
-                Kind::Midi => dec_midi::text(note, &mut buf),
-            }
-            assert!(rt; buf.bytes() == want.as_bytes(), "{row}");
-            let mut buf = LineBuf::new();
-            note_text(kind, note, &mut buf);
-            assert!(rt; buf.bytes() == want.as_bytes(), "{row}");
+            assert!(rt; own_text(kind, note).bytes() == want.as_bytes(), "{row}");
+            assert!(rt; text_of(kind, note).bytes() == want.as_bytes(), "{row}");
         }
     }
+}
+
+// What becomes of a serial line with these settings.
+fn opened(opts: UartOpts, num: u64, den: u64) -> &'static str {
+    let rate = Rate {
+        num: num.clamp(1, 1_000_000_000_000_000),
+        den: den.max(1),
+    };
+    match Uart::open(opts, rate) {
+        Ok(_) => "opens",
+        Err(OptFault::Range) => "Range",
+        Err(OptFault::Rate) => "Rate",
+    }
+}
+
+#[test]
+fn settings_of_a_serial_line(rt: HostRuntime) {
     for row in uart::SETTINGS.split('\n') {
         let mut words = row.split(' ');
         let opts = UartOpts {
-            rx: words.next().unwrap_or("").parse().unwrap_or(0),
-            baud: words.next().unwrap_or("").parse().unwrap_or(0),
-            bits: words.next().unwrap_or("").parse().unwrap_or(0),
-            parity: words.next().unwrap_or("").parse().unwrap_or(0),
-            stop: words.next().unwrap_or("").parse().unwrap_or(0),
-            sp: words.next().unwrap_or("").parse().unwrap_or(0),
+            rx: u32::try_from(number(words.next())).unwrap_or(0),
+            baud: number(words.next()),
+            bits: number(words.next()),
+            parity: number(words.next()),
+            stop: number(words.next()),
+            sp: number(words.next()),
         };
-        let num: u64 = words.next().unwrap_or("").parse().unwrap_or(0);
-        let den: u64 = words.next().unwrap_or("").parse().unwrap_or(0);
-        let rate = Rate {
-            num: num.clamp(1, 1_000_000_000_000_000),
-            den: den.max(1),
-        };
-        let becomes = match Uart::open(opts, rate) {
-            Ok(_) => "opens",
-            Err(OptFault::Range) => "Range",
-            Err(OptFault::Rate) => "Rate",
-        };
-        assert!(rt; becomes == words.next().unwrap_or("?"), "{row}");
+        let num = number(words.next());
+        let den = number(words.next());
+        assert!(rt;
+            opened(opts, num, den) == words.next().unwrap_or("?"),
+            "{row}"
+        );
     }
 }

@@ -113,36 +113,53 @@ fn kinds_have_their_names_wires_and_options(rt: HostRuntime) {
             assert!(rt; row.name == *option && number_of(row.form, None) == *usual);
         }
     }
+    assert!(rt; groups_of(Kind::Spi).len() == 1);
+}
+
+#[test]
+fn what_is_no_kind_has_no_name(rt: HostRuntime) {
     for name in ["I2C", "i2c-1", "i2", "uarts", ""] {
         assert!(rt; kind_of(name.as_bytes()) == None);
-    }
-    assert!(rt; groups_of(Kind::Spi).len() == 1);
-    for (kind, class, want) in [
-        (Kind::I2c, "write", Some(0)),
-        (Kind::I2c, "read", Some(1)),
-        (Kind::I2c, "Write", None),
-        (Kind::Spi, "mosi", Some(0)),
-        (Kind::Spi, "miso", Some(1)),
-        (Kind::Uart, "data", Some(0)),
-        (Kind::Uart, "read", None),
-        (Kind::Eeprom24, "write", Some(0)),
-        (Kind::Eeprom24, "read", Some(1)),
-        (Kind::OwLink, "data", None),
-        (Kind::OwNet, "data", Some(0)),
-        (Kind::Ds1307, "write", Some(0)),
-        (Kind::Ds1307, "read", Some(1)),
-        (Kind::Lm75, "read", None),
-        (Kind::Ds18b20, "scratchpad", Some(0)),
-        (Kind::Flash25, "read", Some(0)),
-        (Kind::Flash25, "program", Some(1)),
-        (Kind::Modbus, "data", None),
-        (Kind::Midi, "data", None),
-    ] {
-        assert!(rt; class_of(kind, class.as_bytes()) == want);
     }
     kinds_are_whole();
     kinds_read_their_wires();
     values_in_range_fit();
+}
+
+// Classes of binary data, a kind and a name in each row, with the number of the class or a hyphen.
+const CLASSES: &str = "\
+i2c write 0
+i2c read 1
+i2c Write -
+spi mosi 0
+spi miso 1
+uart data 0
+uart read -
+eeprom24 write 0
+eeprom24 read 1
+onewire_link data -
+onewire_net data 0
+ds1307 write 0
+ds1307 read 1
+lm75 read -
+ds18b20 scratchpad 0
+flash25 read 0
+flash25 program 1
+modbus data -
+midi data -";
+
+#[test]
+fn kinds_have_their_classes(rt: HostRuntime) {
+    for row in CLASSES.split('\n') {
+        let (kind, rest) = row.split_once(' ').unwrap_or(("", ""));
+        let (class, want) = rest.split_once(' ').unwrap_or(("", "?"));
+        let kind = kind_of(kind.as_bytes()).expect(&rt, "a kind");
+        let told = class_of(kind, class.as_bytes());
+        assert!(rt;
+            told == want.parse::<u16>().ok() && (want == "-" || told.is_some()),
+            "{row}"
+        );
+    }
 }
 
 // A row for each opening: the kind, its values, with a hyphen for one that isn't given, and the answer at a
@@ -219,6 +236,18 @@ modbus 0 > range
 modbus 1000000001 > range
 midi > ok";
 
+// What becomes of a decoder with these values.
+fn answer_to(kind: Kind, values: OptValues) -> &'static str {
+    match AnyDecoder::open(kind, values, RATE) {
+        Ok(decoder) => {
+            one_input_makes_one_decoder(&decoder, &decoder);
+            "ok"
+        }
+        Err(OptFault::Range) => "range",
+        Err(OptFault::Rate) => "rate",
+    }
+}
+
 #[test]
 fn values_are_judged_by_their_rows(rt: HostRuntime) {
     for row in OPENINGS.split('\n') {
@@ -231,16 +260,12 @@ fn values_are_judged_by_their_rows(rt: HostRuntime) {
                 given[place] = word.parse::<u64>().ok();
             }
         }
-        let answer = match AnyDecoder::open(kind, OptValues { given }, RATE) {
-            Ok(decoder) => {
-                one_input_makes_one_decoder(&decoder, &decoder);
-                "ok"
-            }
-            Err(OptFault::Range) => "range",
-            Err(OptFault::Rate) => "rate",
-        };
-        assert!(rt; answer == want, "{row}");
+        assert!(rt; answer_to(kind, OptValues { given }) == want, "{row}");
     }
+}
+
+#[test]
+fn values_are_kept_as_given(rt: HostRuntime) {
     let mut given = [None; MOST_OPTIONS];
     given[0] = Some(0);
     given[1] = Some(1);

@@ -34,6 +34,15 @@ fn lines_and_their_numbers(rt: HostRuntime) -> Result<(), Fail> {
         assert!(rt; lines.next(&mut source) == Ok(None));
         assert!(rt; lines.next(&mut source) == Ok(None));
     }
+    lines_can_be_cut();
+    lines_extend();
+    lines_hold();
+    Ok(())
+}
+
+#[test]
+fn lines_up_to_the_longest(rt: HostRuntime) -> Result<(), Fail> {
+    let alloc = rt.alloc();
     for (front, count, fails, want) in LONG {
         let mut bytes = front.to_vec(alloc)?;
         bytes.resize(front.len().min(9) + count.min(70_000), b'b')?;
@@ -47,7 +56,13 @@ fn lines_and_their_numbers(rt: HostRuntime) -> Result<(), Fail> {
         };
         assert!(rt; lines.next(&mut source) == then, "{count}");
     }
-    // what is held behind a line is seen without a read, up to a line feed
+    Ok(())
+}
+
+// What is held behind a line is seen without a read, up to a line feed.
+#[test]
+fn lines_that_are_held_are_seen(rt: HostRuntime) -> Result<(), Fail> {
+    let alloc = rt.alloc();
     let mut source = source_of(alloc, b"a\nbc\r\nd\ne", 90, &[1])?;
     let mut lines = Lines::new(alloc)?;
     assert!(rt; lines.ahead(2).is_none());
@@ -56,8 +71,5 @@ fn lines_and_their_numbers(rt: HostRuntime) -> Result<(), Fail> {
     assert!(rt; lines.next(&mut source) == Ok(Some(2)));
     assert!(rt; lines.next(&mut source) == Ok(Some(3)));
     assert!(rt; lines.text() == b"d".as_slice() && lines.ahead(1).is_none());
-    lines_can_be_cut();
-    lines_extend();
-    lines_hold();
     Ok(())
 }

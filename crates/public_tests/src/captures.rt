@@ -162,37 +162,56 @@ fn read_any(
     Ok(format!(in alloc; "{:?} > {:?}", samples.as_slice(), last)?)
 }
 
+// Whether a capture read as raw samples gives what a row says, by its runs or by its samples.
+fn read_holds(
+    rt: &impl Abort,
+    alloc: Global,
+    of: (u64, &[u64]),
+    bytes: &[u8],
+    size: usize,
+    fails: &[u64],
+    want: &str,
+) -> Result<bool, Fail> {
+    let (runs, samples, last) = read_raw(rt, alloc, of, bytes, size, fails)?;
+    let by_runs = format!(in alloc; "{:?} > {last:?}", runs.as_slice())?;
+    let by_samples = format!(in alloc; "{:?} > {last:?}", samples.as_slice())?;
+    Ok(by_runs.as_str() == want || by_samples.as_str() == want)
+}
+
+// Whether a row holds, with its bytes in pieces of each size that it names.
+fn row_holds(rt: &impl Abort, alloc: Global, row: &str, any_form: bool) -> Result<bool, Fail> {
+    let (numbers, pins, behind) = parts_of(row);
+    let (bytes, want) = behind.split_once("> ").unwrap_or(("", ""));
+    let bytes = bytes_of(alloc, bytes)?;
+    let pins = numbers_of(alloc, pins)?;
+    let numbers = numbers_of(alloc, numbers)?;
+    let [channels, least, most, fails @ ..] = numbers.as_slice() else {
+        return Err("a row has too few numbers".into());
+    };
+    let of = (*channels, pins.as_slice());
+    for size in *least as usize..=*most as usize {
+        let holds = if any_form {
+            let told = read_any(rt, alloc, of, &bytes, size, fails)?;
+            told.as_str() == want
+        } else {
+            read_holds(rt, alloc, of, &bytes, size, fails, want)?
+        };
+        if !holds {
+            return Ok(false);
+        }
+    }
+    Ok(true)
+}
+
 #[test]
 fn rows_of_captures(rt: HostRuntime) -> Result<(), Fail> {
     let alloc = rt.alloc();
     for (table, any_form) in [(SAMPLES, false), (RUNS, false), (ANY_FORM, true)] {
         for row in table.split('\n') {
-            if row.starts_with('#') {
-                continue;
-            }
-            let (numbers, pins, behind) = parts_of(row);
-            let (bytes, want) = behind.split_once("> ").unwrap_or(("", ""));
-            let bytes = bytes_of(alloc, bytes)?;
-            let pins = numbers_of(alloc, pins)?;
-            let numbers = numbers_of(alloc, numbers)?;
-            let [channels, least, most, fails @ ..] = numbers.as_slice() else {
-                return Err("a row has too few numbers".into());
-            };
-            let of = (*channels, pins.as_slice());
-            for size in *least as usize..=*most as usize {
-                if any_form {
-                    let told = read_any(&rt, alloc, of, &bytes, size, fails)?;
-                    assert!(rt; told.as_str() == want, "{row}");
-                    continue;
-                }
-                let (runs, samples, last) = read_raw(&rt, alloc, of, &bytes, size, fails)?;
-                let by_runs = format!(in alloc; "{:?} > {last:?}", runs.as_slice())?;
-                let by_samples = format!(in alloc; "{:?} > {last:?}", samples.as_slice())?;
-                assert!(rt;
-                    by_runs.as_str() == want || by_samples.as_str() == want,
-                    "{row}"
-                );
-            }
+            assert!(rt;
+                row.starts_with('#') || row_holds(&rt, alloc, row, any_form)?,
+                "{row}"
+            );
         }
     }
     Ok(())
@@ -254,12 +273,44 @@ fn worked_captures()
     ensures unit { (rate : ItsRate) → Ends (raw_capture 9 rate (8 ∷ []) (0 ∷ 0 ∷ 1 ∷ 1 ∷ 2 ∷ []) AtEnd) (0 ∷ 1 ∷ []) (Faulty (ShortUnit 4)) }
 {}
 
+// Reads a capture in pieces of several sizes, with these pins.
+fn reads_in_pieces(
+    rt: &impl Abort,
+    alloc: Global,
+    channels: u64,
+    pins: &[u64],
+    bytes: &[u8],
+) -> Result<(), Fail>
+    requires { 1 ≤ channels }
+{
+    let plain = plain_samples(alloc, channels, pins, bytes)?;
+    for size in [1, 7, 64, 1000, 100_000] {
+        let (_, samples, _) = read_raw(rt, alloc, (channels, pins), bytes, size, &[])?;
+        assert!(rt;
+            samples.as_slice() == plain.as_slice(),
+            "{channels} {pins:?}"
+        );
+    }
+    Ok(())
+}
+
+// With each choice of pins.
+fn reads_by_pins(rt: &impl Abort, alloc: Global, channels: u64, bytes: &[u8]) -> Result<(), Fail>
+    requires { 1 ≤ channels }
+{
+    let high = channels - 1;
+    let lists: [&[u64]; 6] = [&[], &[0], &[high], &[0, high], &[high, 0], &[channels / 2]];
+    for pins in lists {
+        reads_in_pieces(rt, alloc, channels, pins, bytes)?;
+    }
+    Ok(())
+}
+
 #[test]
-fn samples_and_head_of_a_raw_capture(rt: HostRuntime) -> Result<(), Fail> {
+fn samples_of_a_raw_capture(rt: HostRuntime) -> Result<(), Fail> {
     let alloc = rt.alloc();
     for channels in [1, 8, 9, 16, 17, 24, 32, 40, 63, 64, 65, 127, 128] {
         assert!(rt; 1 <= channels && channels <= u64::from(MOST_PINS));
-        let high = channels - 1;
         // no noise, the lowest bit of each byte, the highest one, all
         for (noise, most) in [
             (0, 70),
@@ -268,26 +319,15 @@ fn samples_and_head_of_a_raw_capture(rt: HostRuntime) -> Result<(), Fail> {
             (Word::MAX, 5),
         ] {
             let bytes = stretches(alloc, channels, noise, most)?;
-            let lists: [&[u64]; 6] = [&[], &[0], &[high], &[0, high], &[high, 0], &[channels / 2]];
-            for pins in lists {
-                let plain = plain_samples(alloc, channels, pins, &bytes)?;
-                for size in [1, 7, 64, 1000, 100_000] {
-                    let (_, samples, _) = read_raw(
-                        &rt,
-                        alloc,
-                        (channels, pins),
-                        &bytes,
-                        size,
-                        &[],
-                    )?;
-                    assert!(rt;
-                        samples.as_slice() == plain.as_slice(),
-                        "{channels} {pins:?}"
-                    );
-                }
-            }
+            reads_by_pins(&rt, alloc, channels, &bytes)?;
         }
     }
+    Ok(())
+}
+
+#[test]
+fn head_of_a_raw_capture(rt: HostRuntime) -> Result<(), Fail> {
+    let alloc = rt.alloc();
     // names, rate, and no read
     let mut source = source_of(alloc, &[], 1, &[0])?;
     let form = Form::Raw {
@@ -306,6 +346,11 @@ fn samples_and_head_of_a_raw_capture(rt: HostRuntime) -> Result<(), Fail> {
     ] {
         assert!(rt; names.find(name.as_bytes()) == channel, "{name}");
     }
+    Ok(())
+}
+
+#[test]
+fn laws_of_captures() {
     worked_captures();
     capture_raw::longer_extends();
     capture_raw::fault_stays();
@@ -317,5 +362,4 @@ fn samples_and_head_of_a_raw_capture(rt: HostRuntime) -> Result<(), Fail> {
     capture_any::head_stays();
     capture_any::pins_leave_the_head();
     capture_any::given_is_front();
-    Ok(())
 }

@@ -120,6 +120,27 @@ const HEADERS: [(u64, &str, &str); 18] = [
     ),
 ];
 
+// What is the last run behind this one, or behind the end: where they are joined and of one value, both as one, and else
+// the one before it is told.
+fn tell(
+    told: &mut String,
+    last: Option<Run>,
+    run: Option<Run>,
+    end: &str,
+    joined: bool,
+) -> Result<Option<Run>, Fail> {
+    match (last, run) {
+        (Some(before), Some(run)) if joined && before.value == run.value => {
+            let value = run.value;
+            let len = before.len.saturating_add(run.len);
+            return Ok(Some(Run { value, len }));
+        }
+        (Some(before), _) => write!(told, "{}x{} {end}", before.value, before.len)?,
+        (None, _) => told.push_str(end)?,
+    }
+    Ok(run)
+}
+
 // The runs of so many channels from the first on, each a value and a length, and how the capture ends. Where they are
 // joined, it has one channel: neighbouring runs of one value are one, and what is held is taken before each call of
 // `next`. The calls of the source of these numbers, from 0 on, fail.
@@ -160,20 +181,7 @@ fn read(
             Ok(None) => (None, String::from_str(alloc, "end")?),
             Err(error) => (None, format!(in alloc; "{error:?}")?),
         };
-        last = match (last, run) {
-            (Some(before), Some(run)) if joined && before.value == run.value => Some(Run {
-                value: run.value,
-                len: before.len.saturating_add(run.len),
-            }),
-            (Some(before), run) => {
-                write!(told, "{}x{} {end}", before.value, before.len)?;
-                run
-            }
-            (None, run) => {
-                told.push_str(end.as_str())?;
-                run
-            }
-        };
+        last = tell(&mut told, last, run, end.as_str(), joined)?;
     }
     Ok(told)
 }
@@ -199,12 +207,32 @@ fn captures_of_changes(rt: HostRuntime) -> Result<(), Fail> {
             }
         }
     }
-    // one run of all that are held, and none is lost where a read fails
+    worked_files_hold();
+    faults_hold();
+    sparse_holds();
+    longer_goes_on();
+    stretch_is_run();
+    pins_leave_the_head();
+    pins_leave_the_ending();
+    given_is_front();
+    Ok(())
+}
+
+// One run is made of all that are held, and none is lost where a read fails.
+#[test]
+fn runs_that_are_held(rt: HostRuntime) -> Result<(), Fail> {
+    let alloc = rt.alloc();
     let text = format!(in alloc; "{ONE}#0 0! #2 1! #5 #9 #12 0! ")?;
     let told = read(&rt, alloc, (1, 1, false), &text, 1000, &[])?;
     assert!(rt; told.as_str() == "0x2 1x10 0x1 end");
     let told = read(&rt, alloc, (1, 1, true), &text, 1000, &[1])?;
     assert!(rt; told.as_str() == "0x2 1x10 Read");
+    Ok(())
+}
+
+#[test]
+fn vectors_and_reals(rt: HostRuntime) -> Result<(), Fail> {
+    let alloc = rt.alloc();
     let told = read(&rt, alloc, (1, 5, false), WIDE, 9, &[])?;
     assert!(rt; told.as_str() == "17x1 10x1 17x1 17x1 end");
     let mut source = source_of(alloc, WIDE.as_bytes(), 9, &[])?;
@@ -214,13 +242,5 @@ fn captures_of_changes(rt: HostRuntime) -> Result<(), Fail> {
         assert!(rt; reader.names().find(b"other[3]") == Some(4));
         assert!(rt; (reader.rate().num, reader.rate().den) == (1_000_000_000, 200));
     }
-    worked_files_hold();
-    faults_hold();
-    sparse_holds();
-    longer_goes_on();
-    stretch_is_run();
-    pins_leave_the_head();
-    pins_leave_the_ending();
-    given_is_front();
     Ok(())
 }

@@ -2,7 +2,7 @@ use crate::rows::parts_of;
 use la_base::CsvMode;
 use std::alloc::Global;
 use std::test::Fail;
-use words::{Format, Job, WordsError, read_words};
+use words::{Format, Job, Settings, WordsError, read_words};
 
 // A row has words between brackets, before them how many words `a` stand in front, and behind them what
 // they give. In a word a star stands before the number of bytes `x` that go on; a dot stands for no word.
@@ -233,32 +233,49 @@ pub const TEXTS: &str = "\
 [D0=q a a a a a a a a a a a a a a a a a a a a a a a] 0:D0=q 1:a 2:a 3:a 4:a 5:a 6:a 7:a 8:a 9:a 10:a 11:a 12:a 13:a 14:a 15:a 16:a 17:a 18:a 19:a 20:a 21:a 22:a 23:a
 [a=h a=l a=r a=f a=e a=s a=h a=h --job=find] 0:a=h 1:a=l 2:a=r 3:a=f 4:a=e 5:a=s 6:a=h 7:a=h";
 
-/// Whether words give what their row says: their fault, or what they set. They stand between single blanks, so that two
-/// blanks have an empty word between them.
-pub fn holds(alloc: Global, row: &str) -> Result<bool, Fail> {
-    let (count, line, want) = parts_of(row);
+// A word of a row.
+fn word_of(alloc: Global, text: &str) -> Result<String, Fail> {
+    let (begin, more) = text.split_once('*').unwrap_or((text, "0"));
+    let mut word = String::from_str(alloc, begin)?;
+    for _ in 0..more.parse::<u32>().unwrap_or(0) {
+        word.push_str("x")?;
+    }
+    Ok(word)
+}
+
+// So many words `a`, and behind them those of a line.
+fn words_of(alloc: Global, count: &str, line: &str) -> Result<Vec<String>, Fail> {
     let mut words = Vec::new(alloc);
     for _ in 0..count.parse::<u32>().unwrap_or(0) {
         words.push(String::from_str(alloc, "a")?)?;
     }
     for text in line.split(' ') {
-        let (begin, more) = text.split_once('*').unwrap_or((text, "0"));
-        let mut word = String::from_str(alloc, begin)?;
-        for _ in 0..more.parse::<u32>().unwrap_or(0) {
-            word.push_str("x")?;
-        }
         if text != "." {
-            words.push(word)?;
+            words.push(word_of(alloc, text)?)?;
         }
     }
-    let settings = match read_words(alloc, &words) {
-        Ok(settings) => settings,
-        Err(WordsError::Fault(fault)) => {
-            let told = format!(in alloc; "{} {} {:?}", fault.word, fault.at, fault.why)?;
-            return Ok(told.as_str() == want);
-        }
-        Err(WordsError::NoMemory) => return Ok(false),
-    };
+    Ok(words)
+}
+
+// What the options of a format set.
+fn add_format(settings: &Settings, values: &mut String) -> Result<(), Fail> {
+    if settings.format == Format::Vcd {
+        write!(values, " vcd {}", settings.down)?;
+    }
+    if settings.format == Format::Csv {
+        let records = if settings.csv == CsvMode::Times {
+            "times"
+        } else {
+            "rows"
+        };
+        let header = if settings.header { "yes" } else { "no" };
+        write!(values, " csv {records} {header}")?;
+    }
+    Ok(())
+}
+
+// What is set but for texts.
+fn values_of(alloc: Global, settings: &Settings) -> Result<String, Fail> {
     let job = match settings.job {
         Job::Decode => "decode",
         Job::Find => "find",
@@ -273,24 +290,18 @@ pub fn holds(alloc: Global, row: &str) -> Result<bool, Fail> {
         if settings.threads { "yes" } else { "no" },
         settings.ring
     )?;
-    if settings.format == Format::Vcd {
-        write!(values, " vcd {}", settings.down)?;
-    }
-    if settings.format == Format::Csv {
-        let records = if settings.csv == CsvMode::Times {
-            "times"
-        } else {
-            "rows"
-        };
-        let header = if settings.header { "yes" } else { "no" };
-        write!(values, " csv {records} {header}")?;
-    }
+    add_format(settings, &mut values)?;
     if settings.job == Job::Make {
         write!(values, " seed {} count {}", settings.seed, settings.count)?;
     }
     if settings.watch {
         values.push_str(" watch")?;
     }
+    Ok(values)
+}
+
+// The texts that are set, with the numbers of their words.
+fn texts_of(alloc: Global, settings: &Settings) -> Result<String, Fail> {
     let mut texts = String::new(alloc);
     if let Some(show) = &settings.show {
         write!(texts, "{}:{} of ", show.word, show.text)?;
@@ -304,7 +315,26 @@ pub fn holds(alloc: Global, row: &str) -> Result<bool, Fail> {
     for chain in &settings.chains {
         write!(texts, "{}:{} ", chain.word, chain.text)?;
     }
-    Ok(values.as_str() == want || texts.as_str().trim_end() == want)
+    Ok(texts)
+}
+
+/// Whether words give what their row says: their fault, or what they set. They stand between single blanks, so that two
+/// blanks have an empty word between them.
+pub fn holds(alloc: Global, row: &str) -> Result<bool, Fail> {
+    let (count, line, want) = parts_of(row);
+    let words = words_of(alloc, count, line)?;
+    match read_words(alloc, &words) {
+        Ok(settings) => {
+            let values = values_of(alloc, &settings)?;
+            let texts = texts_of(alloc, &settings)?;
+            Ok(values.as_str() == want || texts.as_str().trim_end() == want)
+        }
+        Err(WordsError::Fault(fault)) => {
+            let told = format!(in alloc; "{} {} {:?}", fault.word, fault.at, fault.why)?;
+            Ok(told.as_str() == want)
+        }
+        Err(WordsError::NoMemory) => Ok(false),
+    }
 }
 
 /// What the table of options tells of each: its name, the values that it takes and the usual one.

@@ -1,4 +1,5 @@
 // The program through its public calls.
+use crate::rows::words_of;
 use la_io::{MemSink, MemSource};
 use ldecode::PlainPacer;
 use ldecode_program::{VERSION, help_text, program, request_of};
@@ -82,13 +83,7 @@ fn run<R: Threads + Wait + Sync>(
     bytes: &str,
     fails: &[u64],
 ) -> Result<(String, String), Fail> {
-    let mut words = Vec::new(alloc);
-    for word in text.split_whitespace() {
-        if word == "<" {
-            break;
-        }
-        words.push(String::from_str(alloc, word)?)?;
-    }
+    let words = words_of(alloc, text.split('<').next().unwrap_or(""))?;
     let asked = format!(in alloc; "{:?}", request_of(&words))?;
     let mut pieces = Vec::new(alloc);
     pieces.push(bytes.as_bytes().to_vec(alloc)?)?;
@@ -111,7 +106,7 @@ fn run<R: Threads + Wait + Sync>(
 }
 
 #[test]
-fn the_program_tells_its_help_and_its_status(rt: HostRuntime) -> Result<(), Fail> {
+fn the_program_tells_its_status(rt: HostRuntime) -> Result<(), Fail> {
     let alloc = rt.alloc();
     for (table, fails) in [(RUNS, [].as_slice()), (FAILURES, [0].as_slice())] {
         for row in table.split(';') {
@@ -121,13 +116,24 @@ fn the_program_tells_its_help_and_its_status(rt: HostRuntime) -> Result<(), Fail
             assert!(rt; told.as_str() == want, "{row}");
         }
     }
-    // the first word alone asks for help
+    assert!(rt; VERSION == "ldecode 0.1.0\n");
+    Ok(())
+}
+
+#[test]
+fn the_first_word_alone_asks_for_help(rt: HostRuntime) -> Result<(), Fail> {
+    let alloc = rt.alloc();
     for row in REQUESTS.split('\n') {
         let (words, want) = row.split_once(" > ").unwrap_or(("", ""));
         let (asked, _) = run(&rt, alloc, words, "", &[])?;
         assert!(rt; asked.as_str() == want, "{row}");
     }
-    // the help has these lines, and examples that run
+    Ok(())
+}
+
+#[test]
+fn the_help_has_its_lines(rt: HostRuntime) -> Result<(), Fail> {
+    let alloc = rt.alloc();
     let text = help_text(alloc)?;
     for row in HELP.split('\n') {
         let mut found = false;
@@ -138,6 +144,13 @@ fn the_program_tells_its_help_and_its_status(rt: HostRuntime) -> Result<(), Fail
     }
     let (_, told) = run(&rt, alloc, "--help", "", &[])?;
     assert!(rt; told.as_str().strip_prefix("0 >  > ") == Some(text.as_str()));
+    Ok(())
+}
+
+#[test]
+fn examples_of_the_help_run(rt: HostRuntime) -> Result<(), Fail> {
+    let alloc = rt.alloc();
+    let text = help_text(alloc)?;
     let mut any = false;
     for line in text.as_str().split('\n') {
         if let Some(example) = line.strip_prefix(EXAMPLE) {
@@ -153,6 +166,5 @@ fn the_program_tells_its_help_and_its_status(rt: HostRuntime) -> Result<(), Fail
         }
     }
     assert!(rt; any);
-    assert!(rt; VERSION == "ldecode 0.1.0\n");
     Ok(())
 }

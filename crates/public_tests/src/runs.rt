@@ -1,10 +1,11 @@
 // Whole runs through the public call.
 ghost use Rattle.std.specs.Prelude.{◌≤◌};
 
-use crate::rows::{barred, bytes_of, is_front, source_of};
+use crate::rows::{barred, bytes_of, is_front, source_of, words_of};
 use la_io::{CaptureFault, MemSink, MemSource};
 use ldecode::{PlainPacer, Status, exit_code, run, run_here};
 use std::alloc::Global;
+use std::process::Abort;
 use std::sync::Wait;
 use std::test::Fail;
 use std::thread::Threads;
@@ -100,10 +101,7 @@ pub fn run_over<R: Threads + Wait + Sync>(
 ) -> Result<String, Fail>
     requires { (1 ≤ length) × (1 ≤ most) }
 {
-    let mut texts = Vec::new(alloc);
-    for word in words.split_whitespace() {
-        texts.push(String::from_str(alloc, word)?)?;
-    }
+    let texts = words_of(alloc, words)?;
     let source = source_of(alloc, bytes, length, read_fails)?;
     let sink = MemSink::new(alloc, most, write_fails.to_vec(alloc)?, room)?;
     let here = told_by(rt, alloc, &texts, source, sink, false)?;
@@ -183,6 +181,78 @@ const FAILURES: [(&str, &str, usize, &[u64], usize, &[u64], usize, &str); 6] = [
     ),
 ];
 
+// However a capture is cut into reads and a listing into writes, the same is written.
+fn cut_anyhow<R: Threads + Wait + Sync + Abort>(
+    rt: &R,
+    alloc: Global,
+    words: &str,
+    bytes: &[u8],
+    lines: &str,
+) -> Result<(), Fail> {
+    for length in 1..10 {
+        for most in 1..4 {
+            let gave = run_over(rt, alloc, words, bytes, length, &[], most, &[], AMPLE)?;
+            assert!(rt; is_front(gave.as_str(), "0 >  > ", lines, lines.len()));
+        }
+    }
+    Ok(())
+}
+
+// How much of a listing is written at least, where so many bytes were read.
+fn settled_by(steps: &[(usize, usize)], before: usize) -> usize {
+    let mut settled = 0;
+    for (least, bytes) in steps {
+        if before >= *least {
+            settled = *bytes;
+        }
+    }
+    settled
+}
+
+// Where each read fails in turn, a front is written that has all that was settled.
+fn read_fails<R: Threads + Wait + Sync + Abort>(
+    rt: &R,
+    alloc: Global,
+    words: &str,
+    bytes: &[u8],
+    count: usize,
+    lines: &str,
+    steps: &[(usize, usize)],
+) -> Result<(), Fail> {
+    assert!(rt; count < 100);
+    for length in 1..10 {
+        for number in 0..41 {
+            let before = number * length;
+            if before >= count + length {
+                break;
+            }
+            let settled = settled_by(steps, before);
+            let fails = [number as u64];
+            let gave = run_over(rt, alloc, words, bytes, length, &fails, 1, &[], AMPLE)?;
+            let head = "2 > ldecode: read fault| > ";
+            assert!(rt; is_front(gave.as_str(), head, lines, settled), "{before}");
+        }
+    }
+    Ok(())
+}
+
+// Where each write fails in turn, a front is written.
+fn write_fails<R: Threads + Wait + Sync + Abort>(
+    rt: &R,
+    alloc: Global,
+    words: &str,
+    bytes: &[u8],
+    lines: &str,
+) -> Result<(), Fail> {
+    for number in 0..lines.len() {
+        let fails = [number as u64];
+        let gave = run_over(rt, alloc, words, bytes, 7, &[], 1, &fails, AMPLE)?;
+        let head = "4 > ldecode: write fault| > ";
+        assert!(rt; is_front(gave.as_str(), head, lines, number), "{number}");
+    }
+    Ok(())
+}
+
 // In reads of 1 to 9 bytes: without a failure, and where each of them fails, from the first to the one behind all. Then
 // where each write fails.
 #[test]
@@ -190,36 +260,16 @@ fn any_cut_gives_the_same_and_a_failure_a_front(rt: HostRuntime) -> Result<(), F
     let alloc = rt.alloc();
     for (words, capture, count, lines, steps) in CASES {
         let bytes = bytes_of(alloc, capture)?;
-        assert!(rt; count < 100);
-        for length in 1..10 {
-            for most in 1..4 {
-                let gave = run_over(&rt, alloc, words, &bytes, length, &[], most, &[], AMPLE)?;
-                assert!(rt; is_front(gave.as_str(), "0 >  > ", lines, lines.len()));
-            }
-            for number in 0..41 {
-                let before = number * length;
-                if before >= count + length {
-                    break;
-                }
-                let mut settled = 0;
-                for (least, bytes) in steps {
-                    if before >= *least {
-                        settled = *bytes;
-                    }
-                }
-                let fails = [number as u64];
-                let gave = run_over(&rt, alloc, words, &bytes, length, &fails, 1, &[], AMPLE)?;
-                let head = "2 > ldecode: read fault| > ";
-                assert!(rt; is_front(gave.as_str(), head, lines, settled), "{before}");
-            }
-        }
-        for number in 0..lines.len() {
-            let fails = [number as u64];
-            let gave = run_over(&rt, alloc, words, &bytes, 7, &[], 1, &fails, AMPLE)?;
-            let head = "4 > ldecode: write fault| > ";
-            assert!(rt; is_front(gave.as_str(), head, lines, number), "{number}");
-        }
+        cut_anyhow(&rt, alloc, words, &bytes, lines)?;
+        read_fails(&rt, alloc, words, &bytes, count, lines, steps)?;
+        write_fails(&rt, alloc, words, &bytes, lines)?;
     }
+    Ok(())
+}
+
+#[test]
+fn failures_have_their_notice_and_status(rt: HostRuntime) -> Result<(), Fail> {
+    let alloc = rt.alloc();
     for (words, capture, length, read_fails, most, write_fails, room, want) in FAILURES {
         let bytes = bytes_of(alloc, capture)?;
         assert!(rt; length >= 1 && most >= 1);

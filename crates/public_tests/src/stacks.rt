@@ -2,7 +2,7 @@
 // behind a comma or a colon at 18.
 // A row has between brackets the chains, and behind bars what `show` and `binary` name; before the brackets
 // how many such buses stand in front; behind them what they give.
-ghost use Rattle.std.specs.Prelude.{◌≤◌, IfOk, length};
+ghost use Rattle.std.specs.Prelude.{◌≤◌, All, IfOk, length};
 ghost use Rattle.std.specs.String.{string_bytes};
 
 use crate::rows::{is_send, parts_of};
@@ -217,20 +217,28 @@ pub fn word(alloc: Global, word: u32, text: &str) -> Result<ChainWord, Fail>
     Ok(ChainWord { word, text })
 }
 
-// What so many buses and the chains of a line give: the chains stand between single blanks, so that two blanks have an
-// empty chain between them. Two bars stand where `binary` is named, and `show` isn't.
-fn read(alloc: Global, count: &str, line: &str) -> Result<Result<Stack, StackError>, Fail> {
-    let mut parts = line.split('|');
+// So many buses, and the chains of a text, which stand between single blanks: two blanks have an empty chain between them.
+fn chains_of(alloc: Global, count: &str, line: &str) -> Result<Vec<ChainWord>, Fail>
+    ensures { IfOk result (λ chains.
+        All (λ chain. length (string_bytes chain.text) ≤ 4096) chains.items) }
+{
     let mut chains = Vec::new(alloc);
     let count = count.parse::<u32>().unwrap_or(0);
     for number in 0..count {
         chains.push(word(alloc, number, "i2c:scl=D0:sda=D1")?)?;
     }
     let mut number = count;
-    for text in parts.next().unwrap_or("").split(' ') {
+    for text in line.split(' ') {
         chains.push(word(alloc, number, text)?)?;
         number = number.wrapping_add(1);
     }
+    Ok(chains)
+}
+
+// What so many buses and the chains of a line give. Two bars stand where `binary` is named, and `show` isn't.
+fn read(alloc: Global, count: &str, line: &str) -> Result<Result<Stack, StackError>, Fail> {
+    let mut parts = line.split('|');
+    let chains = chains_of(alloc, count, parts.next().unwrap_or(""))?;
     let show = parts.next();
     let binary = match parts.next() {
         Some(text) => Some(word(alloc, BINARY, text)?),

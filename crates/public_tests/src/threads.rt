@@ -1,7 +1,7 @@
 // Whole runs with a thread for each decoder.
 ghost use Rattle.std.specs.Prelude.{◌≤◌};
 
-use crate::rows::{barred, bytes_of, source_of};
+use crate::rows::{barred, bytes_of, source_of, words_of};
 use crate::runs::{LISTING, WRITE_OF_50};
 use la_io::MemSink;
 use ldecode::{Pacer, exit_code, run};
@@ -12,6 +12,13 @@ use std::test::Fail;
 use std::thread::{Threads, yield_now};
 
 const AMPLE: usize = 1 << 12;
+
+// An exit status, notices and what is written.
+fn told(alloc: Global, code: u8, notices: &MemSink, sink: &MemSink) -> Result<String, Fail> {
+    let notices = barred(alloc, notices.written())?;
+    let written = barred(alloc, sink.written())?;
+    Ok(format!(in alloc; "{code} > {notices} > {written}")?)
+}
 
 // What a run gives whose decoders go on as a pacer lets them: the exit status, the notices and what
 // is written.
@@ -25,10 +32,7 @@ fn run_threaded<R: Threads + Wait + Sync, P: Pacer + Sync>(
 ) -> Result<String, Fail>
     requires { 1 ≤ length }
 {
-    let mut texts = Vec::new(alloc);
-    for word in words.split_whitespace() {
-        texts.push(String::from_str(alloc, word)?)?;
-    }
+    let texts = words_of(alloc, words)?;
     let mut source = source_of(alloc, bytes, length, &[])?;
     let mut sink = MemSink::new(alloc, AMPLE, Vec::new(alloc), AMPLE)?;
     let mut notices = MemSink::new(alloc, AMPLE, Vec::new(alloc), AMPLE)?;
@@ -41,10 +45,7 @@ fn run_threaded<R: Threads + Wait + Sync, P: Pacer + Sync>(
         &mut notices,
         pacer,
     );
-    let code = exit_code(&status);
-    let notices = barred(alloc, notices.written())?;
-    let written = barred(alloc, sink.written())?;
-    Ok(format!(in alloc; "{code} > {notices} > {written}")?)
+    told(alloc, exit_code(&status), &notices, &sink)
 }
 
 // Lets neither of two stages go on before the other has begun.

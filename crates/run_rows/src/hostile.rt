@@ -257,6 +257,23 @@ fn words_of(alloc: Global, sort: Sort, good: &str, others: u64) -> Result<Vec<St
     }
 }
 
+// Takes down what a word comes to, and tells of one that comes to nothing that may be.
+fn take_down<R: Threads + Wait + Sync + Print>(
+    rt: &R,
+    alloc: Global,
+    target: &Target<'_>,
+    what: &str,
+    word: &str,
+    tally: &mut Tally,
+) -> Result<()> {
+    let outcome = outcome_of(rt, alloc, target, word);
+    tally.add(&outcome);
+    if let Err(error) = outcome {
+        println!(rt; "{what}: {word}: {error:#}")?;
+    }
+    Ok(())
+}
+
 // Tells what words come to, and answers how many of them came to nothing that may be.
 fn tell_words<R: Threads + Wait + Sync + Print>(
     rt: &R,
@@ -267,11 +284,7 @@ fn tell_words<R: Threads + Wait + Sync + Print>(
 ) -> Result<u32> {
     let mut tally = Tally::new();
     for word in words {
-        let outcome = outcome_of(rt, alloc, target, word.as_str());
-        tally.add(&outcome);
-        if let Err(error) = outcome {
-            println!(rt; "{what}: {word}: {error:#}")?;
-        }
+        take_down(rt, alloc, target, what, word.as_str(), &mut tally)?;
     }
     println!(rt;
         "{what}: {} words, {} refused by Form, {} by Fit, {} taken, {} taken up to Past",

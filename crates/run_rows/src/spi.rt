@@ -38,16 +38,23 @@ fn select(drawing: &mut Drawing, level: bool) -> Result<()> {
     step(drawing, false)
 }
 
+// The bytes in each direction, with 00 on MISO where there are none.
+fn draw_all(drawing: &mut Drawing, out: &[u8], back: &[u8]) -> Result<()> {
+    for place in 0..out.len() {
+        let answer = back.get(place).copied().unwrap_or(0);
+        draw_bytes(drawing, out[place], answer)?;
+    }
+    Ok(())
+}
+
 /// Draws a transaction: the bytes on MOSI and, behind a slash, those on MISO, 00 where there are
 /// none.
 pub fn draw_spi(drawing: &mut Drawing, alloc: Global, text: &str) -> Result<()> {
     let (out, back) = text.split_once('/').unwrap_or((text, ""));
+    let out = bytes_of(alloc, out)?;
     let back = bytes_of(alloc, back)?;
     select(drawing, true)?;
     select(drawing, false)?;
-    for (place, byte) in bytes_of(alloc, out)?.iter().enumerate() {
-        let answer = back.get(place).copied().unwrap_or(0);
-        draw_bytes(drawing, *byte, answer)?;
-    }
+    draw_all(drawing, &out, &back)?;
     select(drawing, true)
 }

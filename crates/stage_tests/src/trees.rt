@@ -6,7 +6,7 @@ ghost use Rattle.stage_ring.specs.Link.{received, sent};
 use crate::alone::{given_alone, shown};
 use crate::line::{BYTES, opened_line, opened_midi, opened_modbus, runs_of, stretches_of};
 use decoder_core::Machine;
-use la_base::{Feed, Mark};
+use la_base::{Feed, Mark, Run};
 use stage_ring::{Rx, Tx, link};
 use stage_run::{Input, Stage, Stretch};
 use std::alloc::{AllocError, Global};
@@ -55,10 +55,34 @@ fn are(alloc: Global, marks: &[Mark], want: &[Mark]) -> Result<bool, AllocError>
     Ok(notes.as_slice() == want && floors > 0 && ended)
 }
 
-fn run_tree(rt: &HostRuntime, slots: u32, budget: u32) -> Result<bool, Fail> {
-    let alloc = rt.alloc();
-    let runs = runs_of(alloc, &BYTES)?;
-    let stretches = stretches_of(alloc, runs.as_slice())?;
+// What three decoders gave: a line, and two that stand on it.
+#[derive(Drop)]
+struct Gave {
+    line: Vec<Mark>,
+    midi: Vec<Mark>,
+    modbus: Vec<Mark>,
+}
+
+// What they give alone, one after the other.
+fn give_alone(alloc: Global, runs: &[Run]) -> Result<Gave, Fail> {
+    let mut fed = Vec::new(alloc);
+    for run in runs {
+        fed.push(Feed::Run(*run))?;
+    }
+    let line = given_alone(alloc, &mut opened_line()?, fed.as_slice())?;
+    let packets = line.feeds.as_slice();
+    let midi = given_alone(alloc, &mut opened_midi()?, packets)?;
+    let modbus = given_alone(alloc, &mut opened_modbus()?, packets)?;
+    Ok(Gave {
+        line: line.marks,
+        midi: midi.marks,
+        modbus: modbus.marks,
+    })
+}
+
+// What they give as stages.
+fn run_tree(alloc: Global, runs: &[Run], slots: u32, budget: u32) -> Result<Gave, Fail> {
+    let stretches = stretches_of(alloc, runs)?;
     let (mut feeds, input) = links_of::<Stretch>(alloc, slots)?;
     let (to_midi, midi_input) = links_of::<Feed>(alloc, slots)?;
     let (to_modbus, modbus_input) = links_of::<Feed>(alloc, slots)?;
@@ -78,46 +102,46 @@ fn run_tree(rt: &HostRuntime, slots: u32, budget: u32) -> Result<bool, Fail> {
         none,
         modbus_sends,
     );
-    let mut of_line = Vec::new(alloc);
-    let mut of_midi = Vec::new(alloc);
-    let mut of_modbus = Vec::new(alloc);
+    let mut gave = Gave {
+        line: Vec::new(alloc),
+        midi: Vec::new(alloc),
+        modbus: Vec::new(alloc),
+    };
     let mut at = 0;
     for _ in 0..20_000u32 {
         at = pump(&mut feeds, stretches.as_slice(), at);
         go_on(&mut line, budget);
         go_on(&mut midi, budget);
         go_on(&mut modbus, budget);
-        gather(&mut line_marks, &mut of_line)?;
-        gather(&mut midi_marks, &mut of_midi)?;
-        gather(&mut modbus_marks, &mut of_modbus)?;
+        gather(&mut line_marks, &mut gave.line)?;
+        gather(&mut midi_marks, &mut gave.midi)?;
+        gather(&mut modbus_marks, &mut gave.modbus)?;
         if line.is_over() && midi.is_over() && modbus.is_over() {
             break;
         }
     }
-    let mut fed = Vec::new(alloc);
-    for run in &runs {
-        fed.push(Feed::Run(*run))?;
-    }
-    let bus = given_alone(alloc, &mut opened_line()?, fed.as_slice())?;
-    let packets = bus.feeds.as_slice();
-    let first = given_alone(alloc, &mut opened_midi()?, packets)?;
-    let second = given_alone(alloc, &mut opened_modbus()?, packets)?;
-    Ok(
-        bus.marks.len() > 39
-            && first.marks.len() > 9
-            && second.marks.len() > 39
-            && are(alloc, of_line.as_slice(), bus.marks.as_slice())?
-            && are(alloc, of_midi.as_slice(), first.marks.as_slice())?
-            && are(alloc, of_modbus.as_slice(), second.marks.as_slice())?,
-    )
+    Ok(gave)
 }
 
 // Of one slot, of a few, and of more than a stage takes at once; one act a turn, and many.
 #[test]
 fn stages_give_what_decoders_give_alone(rt: HostRuntime) -> Result<(), Fail> {
+    let alloc = rt.alloc();
+    let runs = runs_of(alloc, &BYTES)?;
+    let want = give_alone(alloc, &runs)?;
+    assert!(rt; want.line.len() > 39 && want.midi.len() > 9 && want.modbus.len() > 39);
     for (slots, budget) in [(1, 1), (1, 50), (2, 3), (64, 1), (64, 1000), (1024, 7)] {
+        let gave = run_tree(alloc, &runs, slots, budget)?;
         assert!(rt;
-            run_tree(&rt, slots, budget)?,
+            are(alloc, &gave.line, &want.line)?,
+            "{slots} slots, {budget} acts"
+        );
+        assert!(rt;
+            are(alloc, &gave.midi, &want.midi)?,
+            "{slots} slots, {budget} acts"
+        );
+        assert!(rt;
+            are(alloc, &gave.modbus, &want.modbus)?,
             "{slots} slots, {budget} acts"
         );
     }

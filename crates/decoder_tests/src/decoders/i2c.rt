@@ -103,7 +103,7 @@ S 10100001 0 00110010 P > 0 4 7 6 2
 10100000 0 11000011 1 S 10100000 0 > 0 3 7
 S 10100000 0 0P 10100001 0 11110000 0 0P > 0 3 7 2 2";
 
-// All short lists, each script, and each script that lost one of its samples.
+// All short lists.
 #[test]
 fn lists_by_the_plain_program(rt: HostRuntime) -> Result<(), Fail> {
     let alloc = rt.alloc();
@@ -128,16 +128,31 @@ fn lists_by_the_plain_program(rt: HostRuntime) -> Result<(), Fail> {
             check(&rt, alloc, &samples)?;
         }
     }
+    Ok(())
+}
+
+// The classes of the notes that samples give.
+fn classes_of(rt: &impl Abort, alloc: Global, samples: &[Word]) -> Result<String, Fail> {
+    let mut classes = String::new(alloc);
+    for out in &check(rt, alloc, samples)? {
+        if let Out::Note(note) = out {
+            write!(classes, " {}", note.class)?;
+        }
+    }
+    Ok(classes)
+}
+
+// Each script, and each script that lost one of its samples.
+#[test]
+fn scripts_by_the_plain_program(rt: HostRuntime) -> Result<(), Fail> {
+    let alloc = rt.alloc();
     for row in SCRIPTS.split('\n') {
         let (script, want) = row.split_once('>').unwrap_or(("", "?"));
         let samples = waves_of(alloc, script)?;
-        let mut classes = String::new(alloc);
-        for out in &check(&rt, alloc, &samples)? {
-            if let Out::Note(note) = out {
-                write!(classes, " {}", note.class)?;
-            }
-        }
-        assert!(rt; classes.as_str() == want, "{script}");
+        assert!(rt;
+            classes_of(&rt, alloc, &samples)?.as_str() == want,
+            "{script}"
+        );
         for lost in 0..samples.len() {
             let mut others = Vec::from_slice(alloc, &samples)?;
             others.remove(lost);

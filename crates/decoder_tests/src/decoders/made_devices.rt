@@ -23,7 +23,7 @@ fn phases(alloc: Global, seed: u32, own: u8) -> Result<Vec<Packet>, AllocError> 
 }
 
 #[test]
-fn devices_on_a_bus(rt: HostRuntime) -> Result<(), Fail> {
+fn clocks_on_a_bus(rt: HostRuntime) -> Result<(), Fail> {
     let alloc = rt.alloc();
     let mut times_set = false;
     let mut times_read = false;
@@ -44,6 +44,12 @@ fn devices_on_a_bus(rt: HostRuntime) -> Result<(), Fail> {
         }
     }
     assert!(rt; times_set && times_read);
+    Ok(())
+}
+
+#[test]
+fn thermometers_on_a_bus(rt: HostRuntime) -> Result<(), Fail> {
+    let alloc = rt.alloc();
     for (seed, addr, gcall) in [(9, 0, 0), (10, 0, 1), (11, 5, 1)] {
         let packets = phases(alloc, seed, 0x48 + addr)?;
         let addr = addr as u64;
@@ -62,9 +68,8 @@ fn devices_on_a_bus(rt: HostRuntime) -> Result<(), Fail> {
 }
 
 #[test]
-fn devices_on_other_wires(rt: HostRuntime) -> Result<(), Fail> {
+fn flash_on_its_bus(rt: HostRuntime) -> Result<(), Fail> {
     walk_laws::<u8>();
-    transaction_laws::<u8>();
     let alloc = rt.alloc();
     for seed in [7, 8, 9] {
         let mut traffic = Traffic::new(seed, 0);
@@ -78,7 +83,17 @@ fn devices_on_other_wires(rt: HostRuntime) -> Result<(), Fail> {
         let all = outputs_of(alloc, &mut Follower::new(machine), &packets)?;
         let want = flash_outputs_of(alloc, &packets)?;
         assert!(rt; all.len() > 600 && all.as_slice() == want.as_slice());
-        packets.clear();
+    }
+    Ok(())
+}
+
+#[test]
+fn thermometers_on_a_network(rt: HostRuntime) -> Result<(), Fail> {
+    transaction_laws::<u8>();
+    let alloc = rt.alloc();
+    for seed in [10, 11, 12] {
+        let mut traffic = Traffic::new(seed, 0);
+        let mut packets = Vec::new(alloc);
         for _ in 0..300u32 {
             traffic.add_network(&mut packets)?;
         }

@@ -1,6 +1,6 @@
 use Rattle.std.proofs.Common.{◌≤◌, All, length}
 use Rattle.std.specs.String.{string_bytes}
-use Rattle.public_tests.proofs.stacks.read.Given as goal
+use Rattle.public_tests.proofs.stacks.chains_of.Given as goal
 
 abbrev pub invariant-loop-text : goal.invariant-loop-text
 invariant-loop-text l = record {
