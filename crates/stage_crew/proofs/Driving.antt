@@ -1,5 +1,5 @@
 -- What a driver did, from what it kept on its way; and with a reader, all that a crew did.
-use Rattle.std.proofs.Common.{◌≡◌, ◌<◌, ℕ, zero, suc, Bool, true, false, not, List, [], ◌∷◌, ◌++◌, map, length, slice_get, Some, refl, sym, ◌∙◌, ap, subst, arith, append_assoc, if◌then◌else◌, replicate}
+use Rattle.std.proofs.Common.{◌≡◌, ◌<◌, ℕ, zero, suc, Bool, true, false, not, List, [], ◌∷◌, ◌++◌, map, length, slice_get, Some, refl, sym, ◌∙◌, ap, subst, arith, if◌then◌else◌, replicate}
 use Rattle.std.specs.Prelude.{nat_lt}
 use Rattle.std.proofs.lemmas.Bool.Decides.{nat_tests}
 use Rattle.std.proofs.lemmas.List.{append-nil}
@@ -17,7 +17,6 @@ use Rattle.tree_runs.specs.Runs.{TookEnds, is_ended}
 use Rattle.tree_runs.proofs.Joining.{took_then, took_nothing}
 use Rattle.stage_ring.specs.Link.{received, sent}
 use Rattle.stage_run.specs.Inputs.{feeds_in, telling}
-use Rattle.stage_run.specs.declared.input.Stretch.{Stretch}
 use Rattle.stage_run.proofs.Telling.{end_feeds}
 use Rattle.stage_crew.specs.Driving.{Drove, real}
 use Rattle.stage_crew.specs.Gathering.{Fronts, Gathers, TakesUntil}
@@ -25,7 +24,6 @@ use Rattle.stage_crew.specs.Keeping.{Collects, Kept}
 use Rattle.stage_crew.specs.Pumping.{end_if, is_sent}
 use Rattle.stage_crew.specs.Reading.{Fed}
 use Rattle.stage_crew.specs.declared.gatherer.Gatherer.{Gatherer}
-use Rattle.stage_crew.specs.declared.pump.Pump.{Pump}
 use Rattle.stage_crew.specs.declared.reader.Reader.{Reader}
 use Rattle.stage_crew.proofs.Common.{not_before, not_true}
 use Rattle.stage_crew.proofs.Handing.{fans_given}

@@ -9,13 +9,29 @@ use stage_ring::Rx;
 
 const ROOM: usize = 64;
 
+// How many rows are gathered before the links are looked at anew.
+const ROWS: u32 = 64;
+
 /// How far the marks were gathered: the instances of which the end was gathered, and whether no
 /// more marks are wanted.
 #[derive(Drop)]
 pub(crate) struct Gatherer {
     pub(crate) over: [bool; 24],
     pub(crate) stopped: bool,
+    // Where the last mark of each instance stands; behind all once its end was gathered.
+    places: [u64; 24],
     room: [Mark; ROOM],
+}
+
+// Where the last of these marks stands, if it says so.
+fn place_behind(marks: &[Mark], before: u64) -> u64 {
+    match marks.last() {
+        Some(Mark::Note(note)) => note.start,
+        Some(Mark::Floor(start)) => *start,
+        Some(Mark::End) => u64::MAX,
+        Some(Mark::Piece(_)) => before,
+        None => before,
+    }
 }
 
 impl Gatherer {
@@ -29,6 +45,7 @@ impl Gatherer {
         Gatherer {
             over: [false; 24],
             stopped: false,
+            places: [0; 24],
             room: [Mark::End; ROOM],
         }
     }
@@ -56,16 +73,50 @@ impl Gatherer {
         let over = ends(came);
         self.stopped = stopped;
         self.over[number] = over;
+        self.places[number] = place_behind(came, self.places[number]);
         count > 0
     }
 
-    /// Gathers marks of all instances. Answers whether there were any. Once it was stopped, they
-    /// are gathered and let go.
-    pub(crate) fn gather_all<G: MarkTake>(
-        &mut self,
-        take: &mut G,
-        marks: &mut Vec<Rx<Mark>>,
-    ) -> bool
+    // The instance that is the furthest behind the others.
+    fn hindmost(&self, count: usize) -> usize
+        requires { (0 < count) × (count ≤ 24) }
+        ensures { result < count }
+    {
+        let mut found = 0;
+        for place in 1..count {
+            if self.places[place] < self.places[found] {
+                found = place;
+            }
+        }
+        found
+    }
+
+    // Gathers marks of the instance that is the furthest behind, again and again, as long as there
+    // are any. So few notes wait for those of others. Answers whether there were any.
+    fn gather_hindmost<G: MarkTake>(&mut self, take: &mut G, marks: &mut Vec<Rx<Mark>>) -> bool
+        requires marks { (vec_len marks.old ≡ G.instances take.old) × (vec_len marks.old ≤ 24) }
+        ensures len { vec_len marks.new ≡ vec_len marks.old }
+        ensures links { map rx_link marks.new.items ≡ map rx_link marks.old.items }
+        ensures gathers { Gathers G.MarkTake take.old take.new self.old self.new
+            (map received marks.old.items) (map received marks.new.items) }
+    {
+        let count = marks.len();
+        if count == 0 {
+            return false;
+        }
+        let mut moved = false;
+        for _ in 0..ROWS {
+            let number = self.hindmost(count);
+            if !self.gather(take, marks, number) {
+                return moved;
+            }
+            moved = true;
+        }
+        moved
+    }
+
+    // Gathers marks of all instances. Answers whether there were any.
+    fn gather_each<G: MarkTake>(&mut self, take: &mut G, marks: &mut Vec<Rx<Mark>>) -> bool
         requires marks { (vec_len marks.old ≡ G.instances take.old) × (vec_len marks.old ≤ 24) }
         ensures len { vec_len marks.new ≡ vec_len marks.old }
         ensures links { map rx_link marks.new.items ≡ map rx_link marks.old.items }
@@ -79,6 +130,25 @@ impl Gatherer {
             }
         }
         moved
+    }
+
+    /// Gathers marks: of the instance that is the furthest behind, as long as it has any, and else
+    /// of all. Answers whether there were any. Once it was stopped, they are gathered and let go.
+    pub(crate) fn gather_all<G: MarkTake>(
+        &mut self,
+        take: &mut G,
+        marks: &mut Vec<Rx<Mark>>,
+    ) -> bool
+        requires marks { (vec_len marks.old ≡ G.instances take.old) × (vec_len marks.old ≤ 24) }
+        ensures len { vec_len marks.new ≡ vec_len marks.old }
+        ensures links { map rx_link marks.new.items ≡ map rx_link marks.old.items }
+        ensures gathers { Gathers G.MarkTake take.old take.new self.old self.new
+            (map received marks.old.items) (map received marks.new.items) }
+    {
+        if self.gather_hindmost(take, marks) {
+            return true;
+        }
+        self.gather_each(take, marks)
     }
 
     /// Whether the end of each instance before `count` was gathered.

@@ -5,11 +5,12 @@ use std::sync::Wait;
 use std::thread::Parker;
 use std::time::Duration;
 
-// How often one yields more before it sleeps. More of that takes cores from those that have work.
-const YIELDS: u32 = 8;
+// How often one spins, each time twice as long, before it sleeps. It doesn't yield: beside programs
+// that keep all cores busy, who yields comes last, and who has slept comes first.
+const SPINS: u32 = 7;
 
-// The same where a feed is read that may have to wait: there it is read anew only once all are idle,
-// so that a piece of it takes as long as the slowest of them sleeps.
+// How often one yields before it sleeps where a feed is read that may have to wait. There it is read
+// anew only once all are idle, so that a piece of it takes as long as the slowest of them sleeps.
 const ALERT_YIELDS: u32 = 200;
 
 // How long one sleeps at first, in microseconds, and at most.
@@ -17,14 +18,15 @@ const NAP: u64 = 50;
 
 const LONGEST: u64 = 800;
 
-/// Spins and yields at first, a little longer each time, and sleeps for a short time once that has
-/// gone on for a while.
+/// Spins at first, a little longer each time, and sleeps for a short time once that has gone on for
+/// a while: longer each time, until something moves.
 #[derive(Drop)]
 pub(crate) struct Patience {
     backoff: Backoff,
     // whether a feed is read that may have to wait
     alert: bool,
-    yields: Cell<u32>,
+    // how often it has spun or yielded
+    tries: Cell<u32>,
     nap: Cell<u64>,
     parker: Parker,
 }
@@ -34,7 +36,7 @@ impl Patience {
         Patience {
             backoff: Backoff::new(),
             alert,
-            yields: Cell::new(0),
+            tries: Cell::new(0),
             nap: Cell::new(NAP),
             parker: Parker::new(),
         }
@@ -44,21 +46,29 @@ impl Patience {
     #[inline]
     pub(crate) fn reset(&self) {
         self.backoff.reset();
-        self.yields.set(0);
+        self.tries.set(0);
         self.nap.set(NAP);
+    }
+
+    // Spins or yields, where that wasn't done often enough. Answers whether it did.
+    fn try_again(&self) -> bool {
+        let tries = self.tries.get();
+        let most = if self.alert { ALERT_YIELDS } else { SPINS };
+        if tries >= most {
+            return false;
+        }
+        self.tries.set(tries + 1);
+        if self.alert {
+            self.backoff.snooze();
+        } else {
+            self.backoff.spin();
+        }
+        true
     }
 
     /// Waits a little, since nothing moved. It may return at once.
     pub(crate) fn wait<R: Wait>(&self, rt: &R) {
-        if !self.backoff.is_completed() {
-            self.backoff.snooze();
-            return;
-        }
-        let yields = self.yields.get();
-        let most = if self.alert { ALERT_YIELDS } else { YIELDS };
-        if yields < most {
-            self.yields.set(yields + 1);
-            self.backoff.snooze();
+        if self.try_again() {
             return;
         }
         let nap = self.nap.get();

@@ -1,7 +1,7 @@
 use Rattle.std.proofs.Common.{◌≡◌, map, vec_len}
 use Rattle.stage_ring.specs.Link.{rx_link, received}
 use Rattle.stage_crew.specs.Gathering.{Gathers}
-use Rattle.stage_crew.proofs.gatherer.Gatherer.gather_all.Given as goal
+use Rattle.stage_crew.proofs.gatherer.Gatherer.gather_each.Given as goal
 
 abbrev pub invariant-loop-number : goal.invariant-loop-number
 invariant-loop-number g l = record {
