@@ -149,7 +149,7 @@ fn lead_alone(lead: Lead, bounds: &[Option<u64>]) -> Lead
 }
 
 /// The same behind a change of the bound of the first. Often many instances have the same bounds.
-#[inline(never)]
+#[inline(always)]
 pub fn lead_past(lead: Lead, bounds: &[Option<u64>]) -> Lead
     requires within { lead.least.instance < length bounds.now }
     requires few { length bounds.now < 2 ^ 32 }

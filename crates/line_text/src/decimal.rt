@@ -47,11 +47,15 @@ impl Decimal {
         }
     }
 
-    /// Makes it another number.
+    /// Makes it another number. Often it is the same again: the lines of several decoders of one bus
+    /// begin at one place.
     #[inline]
     pub fn set(&mut self, number: u64)
         ensures { self.new ≡ number }
     {
+        if number == self.number {
+            return;
+        }
         if self.hundreds > 0 && number >= self.hundreds && number - self.hundreds < 100 {
             self.write_last_two(number, (number - self.hundreds) as u8);
         } else if self.myriads > 0 && number >= self.myriads && number - self.myriads < 10_000 {

@@ -1,11 +1,12 @@
 // The names of instances, with their texts.
-ghost use Rattle.std.specs.Prelude.{◌≡◌, ◌≤◌, ◌++◌, ℕ, length, true};
+ghost use Rattle.std.specs.Prelude.{◌≡◌, ◌≤◌, ◌<◌, ◌++◌, ℕ, length, true};
 ghost use Rattle.decoder_set.specs.declared.kinds.Kind.{Kind};
 ghost use Rattle.listing_out.specs.NoteLines.{name_as};
 
 use crate::text::push_text;
 use decoder_set::{Kind, kind_name};
 use line_text::{LineBuf, MOST_SHORT, ShortText};
+use std::array;
 use std::marker::Model;
 
 // An instance by its kind and its number within this kind. Contracts see these. Its text is kept
@@ -92,22 +93,30 @@ impl InstanceName {
     }
 }
 
-/// The names of two instances, the one that was named first and the one that was named last of the
-/// others: often the lines of two instances alternate.
+// For how many names there is room.
+const ROOM: usize = 64;
+
+/// The names of instances, each made once as long as no other takes its place: the lines of several
+/// instances alternate.
 #[derive(Drop)]
-pub struct TwoNames {
-    begun: bool,
-    first: InstanceName,
-    other: InstanceName,
+pub struct Names {
+    room: [InstanceName; ROOM],
 }
 
-impl TwoNames {
+// Where the name of an instance is kept. Small numbers of the same kind and of neighbouring kinds
+// have places of their own.
+#[inline(always)]
+fn place_of(kind: Kind, number: u32) -> usize
+    ensures { result < 64 }
+{
+    (kind as usize * 5 + number as usize) % ROOM
+}
+
+impl Names {
     /// No names.
-    pub fn new() -> TwoNames {
-        TwoNames {
-            begun: false,
-            first: InstanceName::new(),
-            other: InstanceName::new(),
+    pub fn new() -> Names {
+        Names {
+            room: array::from_fn(|_| InstanceName::new()),
         }
     }
 
@@ -118,31 +127,24 @@ impl TwoNames {
         ensures text { line.new ≡ line.old ++ name_as kind number }
         ensures short { length line.new ≤ 120 }
     {
-        if !self.begun {
-            self.first = InstanceName::of(kind, number);
-            self.begun = true;
+        let place = place_of(kind, number);
+        if !self.room[place].is(kind, number) {
+            self.room[place] = InstanceName::of(kind, number);
         }
-        if self.first.is(kind, number) {
-            self.first.push(line);
-            return;
-        }
-        if !self.other.is(kind, number) {
-            self.other = InstanceName::of(kind, number);
-        }
-        self.push_other(kind, number, line);
+        push_kept(&self.room[place], kind, number, line);
     }
+}
 
-    // Appends the name of the other instance, which is this one, or else a name that is made anew.
-    #[inline(always)]
-    fn push_other(&self, kind: Kind, number: u32, line: &mut LineBuf)
-        requires { length line.old ≤ 50 }
-        ensures text { line.new ≡ line.old ++ name_as kind number }
-        ensures short { length line.new ≤ 120 }
-    {
-        if self.other.is(kind, number) {
-            self.other.push(line);
-        } else {
-            push_name(kind, number, line);
-        }
+// Appends the name of an instance, which is the one that is kept, or else is made anew.
+#[inline(always)]
+fn push_kept(kept: &InstanceName, kind: Kind, number: u32, line: &mut LineBuf)
+    requires { length line.old ≤ 50 }
+    ensures text { line.new ≡ line.old ++ name_as kind number }
+    ensures short { length line.new ≤ 120 }
+{
+    if kept.is(kind, number) {
+        kept.push(line);
+    } else {
+        push_name(kind, number, line);
     }
 }

@@ -4,7 +4,7 @@ ghost use Rattle.std.specs.Io.KnownBytes.{Appends};
 ghost use Rattle.la_io.specs.Causes.{AppendsFront, HasCause};
 ghost use Rattle.listing_out.specs.NoteLines.{line_as};
 
-use crate::name::TwoNames;
+use crate::name::Names;
 use crate::text::push_text;
 use decoder_set::{Kind, note_text};
 use la_base::Note;
@@ -20,7 +20,7 @@ pub struct NoteLine {
     line: LineBuf,
     start: Decimal,
     end: Decimal,
-    names: TwoNames,
+    names: Names,
 }
 
 impl Model for NoteLine {
@@ -38,7 +38,7 @@ impl NoteLine {
             line: LineBuf::new(),
             start: Decimal::new(),
             end: Decimal::new(),
-            names: TwoNames::new(),
+            names: Names::new(),
         }
     }
 
