@@ -133,6 +133,7 @@ def wide(channels, steady):
 FIGURES = [
     ("I2C, the whole listing", bus, [BUS], None, None),
     ("the same bus and a serial line", bus, [BUS, "uart:rx=D2:baud=100000"], None, None),
+    ("three such buses", bus, [BUS, BUS, BUS], None, None),
     ("an EEPROM on a busy bus, more", lambda: device(0x50), shown("i2c-1", BUS + ",eeprom24"), [BUS], None),
     (
         "a further EEPROM, more",

@@ -4,11 +4,12 @@ what it takes on one thread, on two cores.
 
 usage: bench/processor.py [TRANSACTIONS]
 
-The capture is that of `bench/decode.py`, of 20,000 transactions. Each figure is the least of three, and both
-ways run in turn, in this one run.
+The capture is that of `bench/decode.py`, of 20,000 transactions. Each figure is the median of nine, and then
+the least of them; both ways run in turn, in this one run.
 """
 import os
 import resource
+import statistics
 import subprocess
 import sys
 import tempfile
@@ -18,6 +19,7 @@ from program import built
 
 INSTANCES = 24
 CORES = 2
+ROUNDS = 9
 
 
 def processor_seconds(words, path, cores):
@@ -39,11 +41,12 @@ def main():
         with open(path, "wb") as file:
             file.writelines(made(count))
         took = {"no": [], "yes": []}
-        for _ in range(3):
+        for _ in range(ROUNDS):
             for threads, seconds in took.items():
                 seconds.append(processor_seconds(["--threads", threads, *stack], path, cores))
-    alone, apart = min(took["no"]), min(took["yes"])
-    print(f"one thread {alone:.2f} s, threads {apart:.2f} s of processor time: {apart / alone:.1f} times")
+    for name, figure in ("median", statistics.median), ("least", min):
+        alone, apart = figure(took["no"]), figure(took["yes"])
+        print(f"{name}: one thread {alone:.2f} s, threads {apart:.2f} s of processor time: {apart / alone:.2f} times")
 
 
 if __name__ == "__main__":

@@ -3,9 +3,10 @@
 
 usage: bench/threads.py [TRANSACTIONS]
 
-The capture is that of `bench/decode.py`, with the same bus on three pairs of lines. Each time is the
-best of five, and both ways run in turn, in this one run; both must write the same bytes. The last
-line is about a capture of one transaction, in milliseconds: there threads cost their start.
+The capture is that of `bench/decode.py`, with the same bus on three pairs of lines, one of which is read
+as SPI too. Each time is the best of five, and both ways run in turn, in this one run; both must write the
+same bytes. The last line is about a capture of one transaction, in milliseconds: there threads cost their
+start.
 """
 import os
 import subprocess
@@ -21,8 +22,10 @@ BUS = "i2c:scl=D0:sda=D1"
 LOADS = [
     ("one bus", [BUS]),
     ("three buses", [BUS, "i2c:scl=D3:sda=D4", "i2c:scl=D5:sda=D6"]),
-    ("a bus with three devices", [BUS + ",eeprom24", BUS + ",ds1307", BUS + ",lm75"]),
+    ("a bus with three devices", [BUS + ",eeprom24", "i2c-1,ds1307", "i2c-1,lm75"]),
+    ("three buses, a device on each", [BUS + ",eeprom24", BUS + ",ds1307", BUS + ",lm75"]),
     ("a bus and a serial line", [BUS, "uart:rx=D2:baud=100000"]),
+    ("a bus, a serial line and SPI", [BUS, "uart:rx=D2:baud=100000", "spi:sck=D3:mosi=D4"]),
 ]
 
 
