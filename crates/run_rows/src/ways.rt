@@ -40,8 +40,9 @@ impl Pacer for Turns {
     }
 }
 
-// With threads each read hands something from thread to thread, which takes a while.
-const PIECES: usize = 2_000;
+// With threads each read hands something from thread to thread, which takes a while, the longer the
+// busier the machine is. A capture of no more bytes is read byte by byte.
+const PIECES: usize = 250;
 
 /// The ways, of which the first and the fourth read the capture in one piece.
 pub const WAYS: [Way; 6] = [

@@ -5,18 +5,23 @@ use std::sync::Wait;
 use std::thread::Parker;
 use std::time::Duration;
 
-// How often one spins, each time twice as long, before it sleeps. It doesn't yield: beside programs
-// that keep all cores busy, who yields comes last, and who has slept comes first.
+// How often one spins, each time twice as long up to 64 turns, before it sleeps. It never yields:
+// beside programs that keep all cores busy, who yields comes last, and who has slept comes first.
 const SPINS: u32 = 7;
 
-// How often one yields before it sleeps where a feed is read that may have to wait. There it is read
-// anew only once all are idle, so that a piece of it takes as long as the slowest of them sleeps.
-const ALERT_YIELDS: u32 = 200;
+// The same where a feed is read that may have to wait. There it is read anew only once all are idle,
+// so that a piece of it takes as long as the slowest of them sleeps.
+const ALERT_SPINS: u32 = 30;
 
-// How long one sleeps at first, in microseconds, and at most.
+// How long one sleeps at first and at most, in microseconds, and the same where a feed is read that
+// may have to wait.
 const NAP: u64 = 50;
 
 const LONGEST: u64 = 800;
+
+const ALERT_NAP: u64 = 10;
+
+const ALERT_LONGEST: u64 = 50;
 
 /// Spins at first, a little longer each time, and sleeps for a short time once that has gone on for
 /// a while: longer each time, until something moves.
@@ -25,8 +30,8 @@ pub(crate) struct Patience {
     backoff: Backoff,
     // whether a feed is read that may have to wait
     alert: bool,
-    // how often it has spun or yielded
-    tries: Cell<u32>,
+    // how often it has spun since something moved
+    spun: Cell<u32>,
     nap: Cell<u64>,
     parker: Parker,
 }
@@ -36,8 +41,8 @@ impl Patience {
         Patience {
             backoff: Backoff::new(),
             alert,
-            tries: Cell::new(0),
-            nap: Cell::new(NAP),
+            spun: Cell::new(0),
+            nap: Cell::new(if alert { ALERT_NAP } else { NAP }),
             parker: Parker::new(),
         }
     }
@@ -46,35 +51,30 @@ impl Patience {
     #[inline]
     pub(crate) fn reset(&self) {
         self.backoff.reset();
-        self.tries.set(0);
-        self.nap.set(NAP);
+        self.spun.set(0);
+        self.nap.set(if self.alert { ALERT_NAP } else { NAP });
     }
 
-    // Spins or yields, where that wasn't done often enough. Answers whether it did.
-    fn try_again(&self) -> bool {
-        let tries = self.tries.get();
-        let most = if self.alert { ALERT_YIELDS } else { SPINS };
-        if tries >= most {
+    // Spins, where that wasn't done often enough. Answers whether it did.
+    fn spin(&self) -> bool {
+        let spun = self.spun.get();
+        let most = if self.alert { ALERT_SPINS } else { SPINS };
+        if spun >= most {
             return false;
         }
-        self.tries.set(tries + 1);
-        if self.alert {
-            self.backoff.snooze();
-        } else {
-            self.backoff.spin();
-        }
+        self.spun.set(spun + 1);
+        self.backoff.spin();
         true
     }
 
     /// Waits a little, since nothing moved. It may return at once.
     pub(crate) fn wait<R: Wait>(&self, rt: &R) {
-        if self.try_again() {
+        if self.spin() {
             return;
         }
         let nap = self.nap.get();
-        if !self.alert {
-            self.nap.set(nap.saturating_mul(2).min(LONGEST));
-        }
+        let longest = if self.alert { ALERT_LONGEST } else { LONGEST };
+        self.nap.set(nap.saturating_mul(2).min(longest));
         self.parker.park_timeout(rt, Duration::from_micros(nap));
     }
 }
