@@ -5,7 +5,9 @@ what it takes on one thread, on two cores.
 usage: bench/processor.py [TRANSACTIONS]
 
 The capture is that of `bench/decode.py`, of 20,000 transactions. Each figure is the median of nine, and then
-the least of them; both ways run in turn, in this one run.
+the least of them; all ways run in turn, in this one run. Two cores of a virtual machine are often the two
+threads of one core, and each of them is slower while the other one works: so the run on one thread is
+measured alone, and beside another one that keeps the second core busy, as threads do.
 """
 import os
 import resource
@@ -22,31 +24,43 @@ CORES = 2
 ROUNDS = 9
 
 
-def processor_seconds(words, path, cores):
-    """What a run takes of all processors together."""
+def processor_seconds(words, path, places):
+    """What a run takes of all processors together, where one runs at each of these places side by side."""
     before = resource.getrusage(resource.RUSAGE_CHILDREN)
-    with open(path, "rb") as capture:
-        command = ["taskset", "-c", ",".join(map(str, cores)), built(), *words]
-        subprocess.run(command, stdin=capture, stdout=subprocess.DEVNULL, check=True)
+    runs = []
+    for cores in places:
+        with open(path, "rb") as capture:
+            command = ["taskset", "-c", ",".join(map(str, cores)), built(), *words]
+            runs.append(subprocess.Popen(command, stdin=capture, stdout=subprocess.DEVNULL))
+    if any([run.wait() for run in runs]):
+        sys.exit(f"{words}: failed")
     after = resource.getrusage(resource.RUSAGE_CHILDREN)
-    return after.ru_utime + after.ru_stime - before.ru_utime - before.ru_stime
+    return (after.ru_utime + after.ru_stime - before.ru_utime - before.ru_stime) / len(places)
 
 
 def main():
     count = int(sys.argv[1]) if len(sys.argv) > 1 else 20000
     cores = sorted(os.sched_getaffinity(0))[:CORES]
     stack = ["i2c:scl=D0:sda=D1"] * INSTANCES
+    ways = [
+        ("one thread, alone", "no", [cores]),
+        ("one thread, beside another such run", "no", [[core] for core in cores]),
+        ("threads", "yes", [cores]),
+    ]
+    took = {name: [] for name, _, _ in ways}
     with tempfile.TemporaryDirectory() as folder:
         path = os.path.join(folder, "capture")
         with open(path, "wb") as file:
             file.writelines(made(count))
-        took = {"no": [], "yes": []}
         for _ in range(ROUNDS):
-            for threads, seconds in took.items():
-                seconds.append(processor_seconds(["--threads", threads, *stack], path, cores))
-    for name, figure in ("median", statistics.median), ("least", min):
-        alone, apart = figure(took["no"]), figure(took["yes"])
-        print(f"{name}: one thread {alone:.2f} s, threads {apart:.2f} s of processor time: {apart / alone:.2f} times")
+            for name, threads, places in ways:
+                took[name].append(processor_seconds(["--threads", threads, *stack], path, places))
+    for figure in (statistics.median, min):
+        told = [figure(took[name]) for name, _, _ in ways]
+        print(
+            f"{figure.__name__}: one thread {told[0]:.2f} s, beside another such run {told[1]:.2f} s, threads"
+            f" {told[2]:.2f} s of processor time: {told[2] / told[0]:.2f} and {told[2] / told[1]:.2f} times"
+        )
 
 
 if __name__ == "__main__":

@@ -5,8 +5,9 @@ usage: bench/threads.py [TRANSACTIONS]
 
 The capture is that of `bench/decode.py`, with the same bus on three pairs of lines, one of which is read
 as SPI too. Each time is the best of five, and both ways run in turn, in this one run; both must write the
-same bytes. The last line is about a capture of one transaction, in milliseconds: there threads cost their
-start.
+same bytes. Then comes a capture of one transaction, in milliseconds: there threads cost their start. The last
+line tells what the cores give that are there: how long runs on one thread take side by side, one for each
+of them, beside one alone. It would be as long on cores that share nothing.
 """
 import os
 import subprocess
@@ -60,6 +61,19 @@ def compare(words, path):
     return best["no"], best["yes"]
 
 
+def side_by_side(words, path, count):
+    """The seconds that so many runs on one thread take side by side."""
+    start = time.perf_counter()
+    runs = []
+    for _ in range(count):
+        with open(path, "rb") as capture:
+            command = [built(), "--threads", "no", *words]
+            runs.append(subprocess.Popen(command, stdin=capture, stdout=subprocess.DEVNULL))
+    if any([run.wait() for run in runs]):
+        sys.exit(f"{words}: failed")
+    return time.perf_counter() - start
+
+
 def main():
     count = int(sys.argv[1]) if len(sys.argv) > 1 else 100000
     built()
@@ -69,9 +83,12 @@ def main():
         for name, words in LOADS:
             alone, apart = compare(words, path)
             print(f"{name}: one thread {alone:.3f} s, threads {apart:.3f} s: {alone / apart:.2f} times as fast")
+        cores = len(os.sched_getaffinity(0))
+        alone, together = (min(side_by_side([BUS], path, runs) for _ in range(ROUNDS)) for runs in (1, cores))
         make(path, 1)
-        alone, apart = compare([BUS], path)
-        print(f"one transaction: threads take {1000 * (apart - alone):.1f} ms more")
+        short, parted = compare([BUS], path)
+        print(f"one transaction: threads take {1000 * (parted - short):.1f} ms more")
+        print(f"{cores} runs on one thread, side by side: {together / alone:.2f} times as long as one")
 
 
 if __name__ == "__main__":

@@ -84,7 +84,7 @@ pub fn run_words<R: Threads + Wait + Sync>(
 
 fn run_by<R: Threads + Wait + Sync>(rt: &R, alloc: Global, row: &Row, way: &Way) -> Result<Given> {
     let words = words_of(alloc, row, way)?;
-    let most = way.piece(row.capture.len());
+    let most = way.piece(row.capture.len(), row.words.len());
     let source = source_of(alloc, &row.capture, most, row.behind)?;
     run_words(rt, alloc, &words, source, way)
 }

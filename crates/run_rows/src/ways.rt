@@ -6,8 +6,8 @@ pub struct Way {
     pub name: &'static str,
     /// The option that is added, where the words haven't got it, and its value.
     pub option: (&'static str, &'static str),
-    /// The most bytes of a read and of a write, and the most pieces of a capture, whose reads may
-    /// therefore give more.
+    /// The most bytes of a read and of a write, and the most pieces of a capture for a run of one
+    /// word, whose reads may therefore give more; of more words, as many fewer.
     pub most: usize,
     pub pieces: usize,
     /// The most bytes that are written.
@@ -25,9 +25,10 @@ pub enum Turns {
 }
 
 impl Way {
-    /// The most bytes of a read of a capture of so many.
-    pub fn piece(&self, length: usize) -> usize {
-        self.most.max(length.div_ceil(self.pieces.max(1)))
+    /// The most bytes of a read of a capture of so many, for a run of so many words.
+    pub fn piece(&self, length: usize, words: usize) -> usize {
+        let pieces = self.pieces / words.max(1);
+        self.most.max(length.div_ceil(pieces.max(1)))
     }
 }
 
@@ -40,9 +41,9 @@ impl Pacer for Turns {
     }
 }
 
-// With threads each read hands something from thread to thread, which takes a while, the longer the
-// busier the machine is. A capture of no more bytes is read byte by byte.
-const PIECES: usize = 250;
+// With threads each read is handed from thread to thread and waits for all, which takes a while: the
+// longer the more decoders there are, and the busier the machine is.
+const PIECES: usize = 400;
 
 /// The ways, of which the first and the fourth read the capture in one piece.
 pub const WAYS: [Way; 6] = [
