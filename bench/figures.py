@@ -1,11 +1,11 @@
 #!/usr/bin/env python3
-"""Counts again what README has in instructions a byte, a line for each figure of its table.
+"""Counts again what README has in instructions, a line for each figure.
 
 usage: bench/figures.py [WORD..]
 
 valgrind counts them (its tool callgrind), so they don't depend on what else the machine does. What a run
-takes on no input at all is taken off. All decodes are on one thread. With words, only the lines that have one
-of them are counted. It takes some minutes.
+takes on no input at all is taken off. All decodes are on one thread, but for those of the last line. With
+words, only the lines that have one of them are counted. It takes some minutes.
 """
 import os
 import random
@@ -241,6 +241,16 @@ def made_figure():
     return (counts[1] - counts[0]) / (120 * (many - few))
 
 
+def threads_figure(folder):
+    """How many times the instructions of one thread 24 buses take with threads. How often who waits looks again
+    is a matter of time, so the last digits vary."""
+    path = os.path.join(folder, "capture")
+    with open(path, "wb") as file:
+        file.write(bus())
+    words = [BUS] * 24
+    return count(["--threads", "yes", *words], path) / count(alone(words), path)
+
+
 def main():
     wanted = sys.argv[1:]
     built()
@@ -249,8 +259,10 @@ def main():
             if not wanted or any(word in name for word in wanted):
                 found = figure(capture, words, without, units, folder)
                 print(f"{name}: {found:.1f} a {'sample' if units else 'byte'}", flush=True)
-    if not wanted or any(word in "--job make" for word in wanted):
-        print(f"--job make: {made_figure():.1f} a sample")
+        if not wanted or any(word in "--job make" for word in wanted):
+            print(f"--job make: {made_figure():.1f} a sample", flush=True)
+        if not wanted or any(word in "24 buses with threads" for word in wanted):
+            print(f"24 buses with threads: {threads_figure(folder):.2f} times those of one thread")
 
 
 if __name__ == "__main__":
