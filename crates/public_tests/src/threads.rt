@@ -102,7 +102,7 @@ const READ: &str = "0 >  > 1-1 spi-1: Select|3-17 spi-1: MOSI 03 MISO 00|\
     67-81 flash25-1: Read 000100: AA|83-97 spi-1: MOSI 00 MISO 55|\
     83-97 flash25-1: Read 000101: 55|98-98 spi-1: Deselect|";
 
-// One decoder does one act a turn, or lets others go first ten times before each turn.
+// One decoder does one act a turn, or lets others go first a thousand times before each turn.
 #[derive(Drop)]
 struct Uneven {
     slow: u32,
@@ -141,10 +141,18 @@ fn a_slow_decoder_changes_nothing(rt: HostRuntime) -> Result<(), Fail> {
     let bytes = bytes_of(alloc, READ_OF_TWO)?;
     assert!(rt; bytes.len() == 99);
     for slow in 0..2 {
-        for yields in [0, 10] {
-            let told = run_threaded(&rt, alloc, FLASH, &bytes, 3, &Uneven { slow, yields })?;
-            assert!(rt; told.as_str() == READ, "{slow} {yields}: {told}");
-        }
+        let told = run_threaded(&rt, alloc, FLASH, &bytes, 3, &Uneven { slow, yields: 0 })?;
+        assert!(rt; told.as_str() == READ, "{slow}, an act a turn: {told}");
+        // in one piece, since each further read would wait for some more of these turns
+        let told = run_threaded(
+            &rt,
+            alloc,
+            FLASH,
+            &bytes,
+            99,
+            &Uneven { slow, yields: 1000 },
+        )?;
+        assert!(rt; told.as_str() == READ, "{slow}, a thousand yields: {told}");
     }
     Ok(())
 }
