@@ -112,7 +112,7 @@ pub(crate) fn drive<R: Wait, D: Turns, S: Turns, G: MarkTake>(
     turns_go_on::<S>();
     let mut state = Gatherer::new();
     let mut watch = Watch::new();
-    let patience = Patience::new(board.reader.is_alert());
+    let patience = Patience::new(board.reader.naps());
     for _ in rt.forever() {
         let read = turn_own(readers);
         watch.look(board);

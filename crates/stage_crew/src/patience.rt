@@ -1,35 +1,62 @@
 // How one waits that has nothing to do.
+ghost use Rattle.std.specs.Prelude.{◌<◌};
+
 use crossbeam_utils::Backoff;
 use std::cell::Cell;
 use std::sync::Wait;
-use std::thread::Parker;
+use std::thread::{Parker, Threads, available_parallelism};
 use std::time::Duration;
 
-// How often one spins, each time twice as long up to 64 turns, before it sleeps. It never yields:
-// beside programs that keep all cores busy, who yields comes last, and who has slept comes first.
-const SPINS: u32 = 7;
+// How many cores there are for these threads.
+fn cores<R: Threads>(rt: &R) -> usize
+    ensures { 0 < result }
+{
+    match available_parallelism(rt) {
+        Ok(cores) => cores.get(),
+        Err(_) => 1,
+    }
+}
 
-// The same where a feed is read that may have to wait. There it is read anew only once all are idle,
-// so that a piece of it takes as long as the slowest of them sleeps.
-const ALERT_SPINS: u32 = 30;
+/// How one waits: how often one spins, each time twice as long up to 64 turns, and how long one then
+/// sleeps at first and at most, in microseconds. Nobody yields: beside programs that keep all cores
+/// busy, who yields comes last, and who has slept comes first.
+#[derive(Clone, Copy, Debug, PartialEq, Eq)]
+pub(crate) struct Naps {
+    spins: u32,
+    first: u64,
+    longest: u64,
+}
 
-// How long one sleeps at first and at most, in microseconds, and the same where a feed is read that
-// may have to wait.
-const NAP: u64 = 50;
+impl Naps {
+    /// Where a feed is read that may have to wait: it is read anew only once all are idle, so that a
+    /// piece of it takes as long as the slowest of them sleeps.
+    pub(crate) fn short() -> Naps {
+        Naps {
+            spins: 30,
+            first: 10,
+            longest: 50,
+        }
+    }
 
-const LONGEST: u64 = 800;
-
-const ALERT_NAP: u64 = 10;
-
-const ALERT_LONGEST: u64 = 50;
+    /// For so many threads. The more of them a core has, the longer it takes until a link that was
+    /// full is empty. Who wakes long before that finds little to do, and keeps the core from one that
+    /// has more.
+    pub(crate) fn shared<R: Threads>(rt: &R, threads: usize) -> Naps {
+        let each = (threads / cores(rt)).clamp(1, 20) as u64;
+        Naps {
+            spins: 7,
+            first: 50 * each,
+            longest: 1_000,
+        }
+    }
+}
 
 /// Spins at first, a little longer each time, and sleeps for a short time once that has gone on for
 /// a while: longer each time, until something moves.
 #[derive(Drop)]
 pub(crate) struct Patience {
+    naps: Naps,
     backoff: Backoff,
-    // whether a feed is read that may have to wait
-    alert: bool,
     // how often it has spun since something moved
     spun: Cell<u32>,
     nap: Cell<u64>,
@@ -37,12 +64,12 @@ pub(crate) struct Patience {
 }
 
 impl Patience {
-    pub(crate) fn new(alert: bool) -> Patience {
+    pub(crate) fn new(naps: Naps) -> Patience {
         Patience {
+            naps,
             backoff: Backoff::new(),
-            alert,
             spun: Cell::new(0),
-            nap: Cell::new(if alert { ALERT_NAP } else { NAP }),
+            nap: Cell::new(naps.first),
             parker: Parker::new(),
         }
     }
@@ -52,14 +79,13 @@ impl Patience {
     pub(crate) fn reset(&self) {
         self.backoff.reset();
         self.spun.set(0);
-        self.nap.set(if self.alert { ALERT_NAP } else { NAP });
+        self.nap.set(self.naps.first);
     }
 
     // Spins, where that wasn't done often enough. Answers whether it did.
     fn spin(&self) -> bool {
         let spun = self.spun.get();
-        let most = if self.alert { ALERT_SPINS } else { SPINS };
-        if spun >= most {
+        if spun >= self.naps.spins {
             return false;
         }
         self.spun.set(spun + 1);
@@ -73,8 +99,7 @@ impl Patience {
             return;
         }
         let nap = self.nap.get();
-        let longest = if self.alert { ALERT_LONGEST } else { LONGEST };
-        self.nap.set(nap.saturating_mul(2).min(longest));
+        self.nap.set(nap.saturating_mul(2).min(self.naps.longest));
         self.parker.park_timeout(rt, Duration::from_micros(nap));
     }
 }

@@ -13,6 +13,7 @@ ghost use Rattle.stage_crew.specs.Keeping.{Collects};
 
 use crate::frames::lead;
 use crate::gate::Gate;
+use crate::patience::Naps;
 use crate::reader::Reader;
 use crate::sign::{Board, Sign};
 use crate::{Pacer, PlainPacer, Turns};
@@ -271,14 +272,19 @@ pub fn run_crew<
     let own = Vec::with_capacity(alloc, stages.len())?;
     let readers = Vec::with_capacity(alloc, 1)?;
     let stop = link(alloc, 1)?;
-    let alert = feed.may_wait();
+    // the stages, the reader and the driver
+    let naps = if feed.may_wait() {
+        Naps::short()
+    } else {
+        Naps::shared(rt, stages.len() + 2)
+    };
     let mut signs = Vec::with_capacity(alloc, stages.len())?;
     for _ in 0..stages.len() {
-        signs.push(Sign::new(alert))?;
+        signs.push(Sign::new(naps))?;
     }
     let board = Board {
         signs,
-        reader: Sign::new(alert),
+        reader: Sign::new(naps),
         gate: Gate::new(),
         plain: PlainPacer,
     };

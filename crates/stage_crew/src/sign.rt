@@ -3,30 +3,31 @@ ghost use Rattle.std.specs.Prelude.{◌≤◌, length, vec_len};
 
 use crate::gate::Gate;
 use crate::pacer::PlainPacer;
+use crate::patience::Naps;
 use std::sync::atomic::{AtomicBool, AtomicU64, Ordering};
 
 /// What a worker shows: whether it has nothing to do with its stage, not yet or no more; and how
 /// often its stage gave and took nothing in a turn.
 #[derive(Drop)]
 pub(crate) struct Sign {
-    // whether a feed is read that may have to wait
-    alert: bool,
+    // how its worker waits
+    naps: Naps,
     away: AtomicBool,
     idle: AtomicU64,
 }
 
 impl Sign {
-    pub(crate) fn new(alert: bool) -> Sign {
+    pub(crate) fn new(naps: Naps) -> Sign {
         Sign {
-            alert,
+            naps,
             away: AtomicBool::new(false),
             idle: AtomicU64::new(0),
         }
     }
 
-    /// Whether a feed is read that may have to wait.
-    pub(crate) fn is_alert(&self) -> bool {
-        self.alert
+    /// How its worker waits.
+    pub(crate) fn naps(&self) -> Naps {
+        self.naps
     }
 
     /// No worker takes turns of the stage any more.

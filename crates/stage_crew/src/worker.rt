@@ -49,7 +49,7 @@ pub(crate) fn run_out<R: Wait, S: Turns, P: Pacer>(
     ensures { Ends S.goes_on S.over stage result }
 {
     let mut stage = stage;
-    let patience = Patience::new(sign.is_alert());
+    let patience = Patience::new(sign.naps());
     let mut turn: u64 = 0;
     for _ in rt.forever() {
         if stage.is_over() {
