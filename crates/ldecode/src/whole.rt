@@ -206,14 +206,16 @@ pub fn run<R: Threads + Wait + Sync, S: Source + Send, K: Sink, E: Sink, P: Pace
     outcome.status
 }
 
-/// As `run`, onto a new shelf that readers look at: each note of a listing is added behind its
-/// line. It doesn't heed whether the words ask for a viewer, and tells its status alone.
+/// As `run`, onto a new shelf that readers look at: each note of a listing is added once its line
+/// was handed on to be written. It doesn't heed whether the words ask for a viewer, and tells its
+/// status alone.
 ///
 /// Behind `Done`, `ReadFault` and `Capture` the shelf has all notes of what was written, and is
-/// ended; behind `WriteFault` and `NoMemory` it has the first of them, and isn't ended; behind any
-/// other status it has none, and is ended. Where the words have a fault, or ask for no listing of
-/// notes (another job, or binary data), it is left as it was. A shelf that finds no memory makes
-/// the status `NoMemory`. The run may wait for a reader that is inside an `ask`.
+/// ended; behind `WriteFault` and `NoMemory` it has the first notes of the listing, perhaps some
+/// whose lines weren't written any more, and isn't ended; behind any other status it has none, and
+/// is ended. Where the words have a fault, or ask for no listing of notes (another job, or binary
+/// data), it is left as it was. A shelf that finds no memory makes the status `NoMemory`. The run
+/// may wait for a reader that is inside an `ask`.
 pub fn run_watched<R: Threads + Wait + Sync, S: Source + Send, K: Sink, E: Sink, P: Pacer + Sync>(
     rt: &R,
     alloc: Global,
