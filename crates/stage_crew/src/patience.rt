@@ -7,6 +7,9 @@ use std::sync::Wait;
 use std::thread::{Parker, Threads, available_parallelism};
 use std::time::Duration;
 
+// With links of this room naps are as long as they get for so many threads.
+const WIDE: usize = 8_000;
+
 // How many cores there are for these threads.
 fn cores<R: Threads>(rt: &R) -> usize
     ensures { 0 < result }
@@ -38,11 +41,12 @@ impl Naps {
         }
     }
 
-    /// For so many threads. The more of them a core has, the longer it takes until a link that was
-    /// full is empty. Who wakes long before that finds little to do, and keeps the core from one that
-    /// has more.
-    pub(crate) fn shared<R: Threads>(rt: &R, threads: usize) -> Naps {
-        let each = (threads / cores(rt)).clamp(1, 20) as u64;
+    /// For so many threads, whose links have room for so many items. The more threads a core has, the
+    /// longer it takes until a link that was full is empty; one with less room is so sooner. Who wakes
+    /// long before that finds little to do, and keeps the core from one that has more.
+    pub(crate) fn shared<R: Threads>(rt: &R, threads: usize, room: usize) -> Naps {
+        let each = (threads / cores(rt)).clamp(1, 20);
+        let each = (each * room.min(WIDE) / WIDE).max(1) as u64;
         Naps {
             spins: 7,
             first: 50 * each,

@@ -272,11 +272,15 @@ pub fn run_crew<
     let own = Vec::with_capacity(alloc, stages.len())?;
     let readers = Vec::with_capacity(alloc, 1)?;
     let stop = link(alloc, 1)?;
+    let room = match feeds.first() {
+        Some(link) => link.room(),
+        None => 0,
+    };
     // the stages, the reader and the driver
     let naps = if feed.may_wait() {
         Naps::short()
     } else {
-        Naps::shared(rt, stages.len() + 2)
+        Naps::shared(rt, stages.len() + 2, room)
     };
     let mut signs = Vec::with_capacity(alloc, stages.len())?;
     for _ in 0..stages.len() {

@@ -91,6 +91,13 @@ impl<T: Copy + Send> Tx<T> {
         count
     }
 
+    /// How many items the link has room for.
+    pub fn room(&self) -> usize
+        ensures { result ≡ slots self.now }
+    {
+        self.ring.capacity()
+    }
+
     /// How often an offer found too few free slots.
     pub fn misses(&self) -> u64
         ensures { result ≡ tx_misses self.now }

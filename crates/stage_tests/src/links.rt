@@ -8,6 +8,7 @@ fn items_come_out_in_order(rt: HostRuntime) -> Result<(), Fail> {
         return Err(Fail::new("no memory"));
     };
     ends_are_send(&tx, &rx);
+    assert!(rt; tx.room() == 64);
     for item in 0..40u32 {
         assert!(rt; tx.offer(item).is_ok());
     }
