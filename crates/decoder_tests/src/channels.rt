@@ -44,12 +44,12 @@ fn references_of_channels(rt: HostRuntime) {
     let mut names = Names::new(rt.alloc());
     is_send(&names);
     assert!(rt; names.count() == 0);
-    for name in NAMES {
+    for &name in &NAMES {
         assert!(rt; names.count() < 4096);
         names.push(name.as_bytes()).expect(&rt, "memory");
     }
     assert!(rt; names.count() == 8);
-    for (reference, want) in REFERENCES {
+    for &(reference, want) in &REFERENCES {
         assert!(rt; names.find(reference.as_bytes()) == want, "{reference}");
     }
 }

@@ -51,7 +51,7 @@ const LAST: [(&[u64], Option<usize>, Option<u64>); 5] = [
 #[test]
 fn lists_are_cut(rt: HostRuntime) {
     let alloc = rt.alloc();
-    for (size, groups, count) in GROUPS {
+    for &(size, groups, count) in &GROUPS {
         let found = groups_of(alloc, size, &LIST).expect(&rt, "memory");
         assert!(rt; found.len() == groups.len());
         for (list, want) in found.iter().zip(groups) {
@@ -64,7 +64,7 @@ fn lists_are_cut(rt: HostRuntime) {
 #[test]
 fn lists_are_parted(rt: HostRuntime) {
     let alloc = rt.alloc();
-    for (list, parts) in PARTS {
+    for &(list, parts) in &PARTS {
         let found = parts_of(alloc, &Is(0), list).expect(&rt, "memory");
         assert!(rt; found.len() == parts.len());
         for (list, want) in found.iter().zip(parts) {
@@ -93,7 +93,7 @@ fn parts_stand_between_their_ends(rt: HostRuntime) {
 
 #[test]
 fn the_last_and_the_rising(rt: HostRuntime) {
-    for (list, place, found) in LAST {
+    for &(list, place, found) in &LAST {
         assert!(rt; last_where(&Is(7), list) == place);
         assert!(rt; last_that(&Is(7), list) == found);
     }

@@ -102,7 +102,7 @@ const KINDS: [(&str, Kind, Wire, Wire, &[(&str, u64)]); 12] = [
 
 #[test]
 fn kinds_have_their_names_wires_and_options(rt: HostRuntime) {
-    for (name, kind, input, output, options) in KINDS {
+    for &(name, kind, input, output, options) in &KINDS {
         assert!(rt; kind_of(name.as_bytes()) == Some(kind));
         assert!(rt; kind_name(kind) == name);
         assert!(rt; input_of(kind) == input);

@@ -52,7 +52,7 @@ fn decimal_numbers_are_written(rt: HostRuntime) {
 #[test]
 #[tactic(auto, using(line_text::proofs::Widths::hex_room))]
 fn hexadecimal_numbers_are_written(rt: HostRuntime) {
-    for (number, digits, text) in HEXADECIMALS {
+    for &(number, digits, text) in &HEXADECIMALS {
         assert!(rt; 1 <= digits && digits <= 16);
         let mut line = LineBuf::new();
         line.push_hex(number, digits);
@@ -122,7 +122,7 @@ const NUMBERS: [(&str, u64, u64, Result<u64, NumberWhy>); 14] = [
 
 #[test]
 fn numbers_are_read(rt: HostRuntime) {
-    for (text, least, most, number) in NUMBERS {
+    for &(text, least, most, number) in &NUMBERS {
         assert!(rt; number_in(text, least, most) == number);
     }
     for (place, text, behind) in [(0, "", 1), (0, "D0=r", 5), (5, "é", 8)] {

@@ -249,7 +249,7 @@ fn compare(
 #[test]
 fn stops_of_runs(rt: HostRuntime) -> Result<(), Fail> {
     let alloc = rt.alloc();
-    for (alts, runs, stops) in STOPS {
+    for &(alts, runs, stops) in &STOPS {
         let found = scanned(&rt, alloc, alts, runs, 3, false)?;
         assert!(rt; found.as_slice() == stops, "{alts:?} at {runs:?}");
     }
@@ -465,7 +465,7 @@ fn words_are_read(rt: HostRuntime) -> Result<(), Fail> {
             }
         }
     }
-    for (word, count, skip) in TERMS {
+    for &(word, count, skip) in &TERMS {
         let words = words(alloc, word)?;
         assert!(rt; words.terms.len() == count, "{word}");
         let mut last = 0;

@@ -43,7 +43,7 @@ fn lines_and_their_numbers(rt: HostRuntime) -> Result<(), Fail> {
 #[test]
 fn lines_up_to_the_longest(rt: HostRuntime) -> Result<(), Fail> {
     let alloc = rt.alloc();
-    for (front, count, fails, want) in LONG {
+    for &(front, count, fails, want) in &LONG {
         let mut bytes = front.to_vec(alloc)?;
         bytes.resize(front.len().min(9) + count.min(70_000), b'b')?;
         let mut source = source_of(alloc, &bytes, 40_000, fails)?;

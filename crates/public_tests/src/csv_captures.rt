@@ -162,7 +162,7 @@ fn rows_of_csv_captures(rt: HostRuntime) -> Result<(), Fail> {
 #[test]
 fn records_of_many_columns(rt: HostRuntime) -> Result<(), Fail> {
     let alloc = rt.alloc();
-    for (columns, words, want) in WIDE {
+    for &(columns, words, want) in &WIDE {
         let mut bytes = b"; wide\n".to_vec(alloc)?;
         for _ in 0..2 {
             for _ in 1..columns {

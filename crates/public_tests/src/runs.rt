@@ -258,7 +258,7 @@ fn write_fails<R: Threads + Wait + Sync + Abort>(
 #[test]
 fn any_cut_gives_the_same_and_a_failure_a_front(rt: HostRuntime) -> Result<(), Fail> {
     let alloc = rt.alloc();
-    for (words, capture, count, lines, steps) in CASES {
+    for &(words, capture, count, lines, steps) in &CASES {
         let bytes = bytes_of(alloc, capture)?;
         cut_anyhow(&rt, alloc, words, &bytes, lines)?;
         read_fails(&rt, alloc, words, &bytes, count, lines, steps)?;
@@ -270,7 +270,7 @@ fn any_cut_gives_the_same_and_a_failure_a_front(rt: HostRuntime) -> Result<(), F
 #[test]
 fn failures_have_their_notice_and_status(rt: HostRuntime) -> Result<(), Fail> {
     let alloc = rt.alloc();
-    for (words, capture, length, read_fails, most, write_fails, room, want) in FAILURES {
+    for &(words, capture, length, read_fails, most, write_fails, room, want) in &FAILURES {
         let bytes = bytes_of(alloc, capture)?;
         assert!(rt; length >= 1 && most >= 1);
         let gave = run_over(

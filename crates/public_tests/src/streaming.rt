@@ -119,7 +119,7 @@ fn is_early<R: Threads + Wait + Sync>(
 #[test]
 fn lines_are_written_while_the_capture_is_read(rt: HostRuntime) {
     let alloc = rt.alloc();
-    for job in JOBS {
+    for &job in &JOBS {
         let mut words = Vec::new(alloc);
         for word in job {
             let word = String::from_str(alloc, word).expect(&rt, "memory");

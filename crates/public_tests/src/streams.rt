@@ -34,7 +34,7 @@ const BUFFERED: [(u32, usize, usize, &[u64], &[Result<(), Failed>], usize); 3] =
 #[test]
 fn sinks_take_what_is_written(rt: HostRuntime) {
     let alloc = rt.alloc();
-    for (most, fails, room, want, done) in WRITES {
+    for &(most, fails, room, want, done) in &WRITES {
         assert!(rt; most >= 1);
         let fails = fails.to_vec(alloc).expect(&rt, "memory");
         let mut sink = MemSink::new(alloc, most, fails, room).expect(&rt, "memory");
@@ -58,7 +58,7 @@ fn sinks_take_what_is_written(rt: HostRuntime) {
 #[test]
 fn what_goes_through_a_buffer(rt: HostRuntime) {
     let alloc = rt.alloc();
-    for (count, size, most, fails, flushes, got) in BUFFERED {
+    for &(count, size, most, fails, flushes, got) in &BUFFERED {
         let mut bytes = Vec::new(alloc);
         for number in 0..count {
             bytes.push((number % 251) as u8).expect(&rt, "memory");

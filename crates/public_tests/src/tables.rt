@@ -17,7 +17,7 @@ const TABLES: [(u32, &str); 7] = [
 #[test]
 fn rows_hold(rt: HostRuntime) -> Result<(), Fail> {
     let alloc = rt.alloc();
-    for (table, text) in TABLES {
+    for &(table, text) in &TABLES {
         for row in text.split('\n') {
             if row.starts_with('#') {
                 continue;

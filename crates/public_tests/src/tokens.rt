@@ -26,7 +26,7 @@ fn tokens_and_their_places(rt: HostRuntime) -> Result<(), Fail> {
         assert!(rt; tokens.next(&mut source) == Ok(None));
         assert!(rt; tokens.next(&mut source) == Ok(None));
     }
-    for (count, fails, want) in LONG {
+    for &(count, fails, want) in &LONG {
         let mut bytes = b"a ".to_vec(alloc)?;
         bytes.resize(2 + count.min(70_000), b'b')?;
         let mut source = source_of(alloc, &bytes, 40_000, fails)?;

@@ -173,7 +173,7 @@ const ROWS: [(&str, u64, u64, u8, u64, bool); 9] = [
 fn a_shelf_is_ended_where_its_listing_is(rt: HostRuntime) -> Result<(), Fail> {
     let alloc = rt.alloc();
     for threads in ["", "--threads no "] {
-        for (words, read, write, status, most, ended) in ROWS {
+        for &(words, read, write, status, most, ended) in &ROWS {
             let words = format!(in alloc; "{threads}{words}")?;
             let (code, answers) = ask_about(&rt, alloc, &words, Faults { read, write })?;
             let last = answers.none;
