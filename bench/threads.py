@@ -4,8 +4,9 @@
 usage: bench/threads.py [TRANSACTIONS]
 
 The capture is that of `bench/decode.py`, with the same bus on three pairs of lines, one of which is read
-as SPI too. Each time is the best of five, and both ways run in turn, in this one run; both must write the
-same bytes. Then comes a capture of one transaction, in milliseconds: there threads cost their start. The last
+as SPI too. Each time is the best of five, and both ways run in turn, in this one run. What is timed is written
+to nowhere, since whoever reads it would take one of the cores; before that, both ways must write the same
+bytes. Then comes a capture of one transaction, in milliseconds: there threads cost their start. The last
 line tells what the cores give that are there: how long runs on one thread take side by side, one for each
 of them, beside one alone. It would be as long on cores that share nothing.
 """
@@ -38,27 +39,26 @@ def make(path, count):
             file.write(one.translate(spread))
 
 
-def run(words, threads, path):
-    """The seconds that a decode takes, and what it writes."""
+def decode(words, threads, path, **streams):
     with open(path, "rb") as capture:
-        start = time.perf_counter()
-        done = subprocess.run(
-            [built(), "--threads", threads, *words], stdin=capture, capture_output=True, check=True
-        )
-        return time.perf_counter() - start, done.stdout
+        return subprocess.run([built(), "--threads", threads, *words], stdin=capture, check=True, **streams)
+
+
+def seconds(words, threads, path):
+    start = time.perf_counter()
+    decode(words, threads, path, stdout=subprocess.DEVNULL)
+    return time.perf_counter() - start
 
 
 def compare(words, path):
-    best = {"no": None, "yes": None}
-    wrote = None
+    alone, apart = (decode(words, threads, path, capture_output=True).stdout for threads in ("no", "yes"))
+    if alone != apart:
+        sys.exit(f"{words}: other bytes with threads")
+    best = {"no": [], "yes": []}
     for _ in range(ROUNDS):
-        for threads in best:
-            took, listing = run(words, threads, path)
-            if wrote is not None and listing != wrote:
-                sys.exit(f"{words}: other bytes with threads")
-            wrote = listing
-            best[threads] = took if best[threads] is None else min(best[threads], took)
-    return best["no"], best["yes"]
+        for threads, took in best.items():
+            took.append(seconds(words, threads, path))
+    return min(best["no"]), min(best["yes"])
 
 
 def side_by_side(words, path, count):
