@@ -2,7 +2,7 @@
 use la_base::{CsvMode, Rate};
 
 /// How a capture is written down.
-#[derive(Clone, Copy, Debug, PartialEq, Eq)]
+#[derive(Clone, Copy, PartialEq, Eq)]
 pub enum Form {
     /// Units of bytes, `channels` bits rounded up to whole bytes each, at this rate.
     Raw {

@@ -2,7 +2,7 @@
 use la_io::CaptureFault;
 
 /// How far the samples of a capture were given.
-#[derive(Clone, Copy, Debug, PartialEq, Eq)]
+#[derive(Clone, Copy, PartialEq, Eq)]
 pub enum Phase {
     /// There may be more.
     Running,

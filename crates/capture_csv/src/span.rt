@@ -2,7 +2,7 @@
 ghost use Rattle.std.specs.Prelude.{◌*◌, ◌^◌, ◌≤◌, ◌<◌};
 
 /// The first time and the last one, and the sample of the last.
-#[derive(Clone, Copy, Debug, PartialEq, Eq)]
+#[derive(Clone, Copy, PartialEq, Eq)]
 pub struct Span {
     pub start: u128,
     pub last: u128,
@@ -14,7 +14,7 @@ pub struct Span {
 
 /// What the fields of a record say, besides the levels: the time, where it tells one, and the
 /// column of the first field that is no level.
-#[derive(Clone, Copy, Debug, PartialEq, Eq)]
+#[derive(Clone, Copy, PartialEq, Eq)]
 pub struct Found {
     pub time: Option<u128>,
     pub bad: Option<u32>,

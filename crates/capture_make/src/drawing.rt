@@ -5,7 +5,7 @@ ghost use Rattle.capture_make.specs.Behind.{number_behind, sent_behind};
 
 /// What a transaction sends: two data bytes to an address, and a byte over the serial line beside
 /// it.
-#[derive(Clone, Copy, Debug, PartialEq, Eq)]
+#[derive(Clone, Copy, PartialEq, Eq)]
 pub struct Sent {
     /// The address of seven bits.
     pub address: u64,

@@ -11,7 +11,7 @@ use crate::levels::{BLOCK, put_block};
 use la_io::{Failed, Source};
 
 /// The samples of made captures, a byte each. It never fails, and takes no memory.
-#[derive(Debug, Drop)]
+#[derive(Drop)]
 pub struct MadeSource {
     // a transaction's samples, and how many of them were given
     samples: [u8; BLOCK],

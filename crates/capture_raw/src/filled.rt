@@ -1,7 +1,7 @@
 // How a reader comes to hold a unit.
 
 /// What came of taking bytes until a unit is held.
-#[derive(Clone, Copy, Debug, PartialEq, Eq)]
+#[derive(Clone, Copy, PartialEq, Eq)]
 pub enum Filled {
     /// A unit is held.
     Unit,

@@ -15,7 +15,7 @@ use la_base::{Run, Word};
 use la_io::CaptureFault;
 
 /// What the next token belongs to.
-#[derive(Clone, Copy, Debug, PartialEq, Eq)]
+#[derive(Clone, Copy, PartialEq, Eq)]
 pub enum Pending {
     /// Nothing.
     Free,
@@ -28,7 +28,7 @@ pub enum Pending {
 }
 
 /// The first time, that before which all samples were given, and the last time.
-#[derive(Clone, Copy, Debug, PartialEq, Eq)]
+#[derive(Clone, Copy, PartialEq, Eq)]
 pub struct Span {
     pub start: u64,
     pub given: u64,

@@ -15,7 +15,7 @@ const NONE: u8 = 255;
 
 /// For each key the place of the first channel whose code has it, and for each channel that of the
 /// next one whose code has the same key.
-#[derive(Clone, Debug, Drop)]
+#[derive(Clone, Drop)]
 pub struct Chains {
     heads: [u8; KEYS],
     next: [u8; PLACES],

@@ -1,7 +1,7 @@
 // Where a channel stands.
 
 /// Where a channel stands: the number of its variable, and its bit there.
-#[derive(Clone, Copy, Debug, PartialEq, Eq)]
+#[derive(Clone, Copy, PartialEq, Eq)]
 pub struct Place {
     pub variable: usize,
     pub bit: usize,

@@ -14,7 +14,7 @@ use rate_math::timescale;
 use std::alloc::Global;
 
 /// How far the samples of a capture were given.
-#[derive(Clone, Copy, Debug, PartialEq, Eq)]
+#[derive(Clone, Copy, PartialEq, Eq)]
 pub enum Phase {
     /// None was given, and nothing of the body was read.
     Fresh,

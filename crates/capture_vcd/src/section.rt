@@ -13,14 +13,14 @@ use rate_math::TimeUnit;
 use std::alloc::Global;
 
 /// A word of a section, and the place of its first byte.
-#[derive(Debug, Drop)]
+#[derive(Drop)]
 pub struct Word {
     pub at: u64,
     pub text: Vec<u8>,
 }
 
 /// What a section is for.
-#[derive(Clone, Copy, Debug, PartialEq, Eq)]
+#[derive(Clone, Copy, PartialEq, Eq)]
 pub enum Kind {
     /// There is none: what is read stands outside of sections.
     Outside,

@@ -12,7 +12,7 @@ use la_base::{MOST_PINS, Word};
 
 /// A channel that is selected: the number of its variable, its bit there, its level, and what the
 /// value that was read last would make of it.
-#[derive(Clone, Copy, Debug, Default)]
+#[derive(Clone, Copy, Default)]
 pub struct Slot {
     pub variable: usize,
     pub bit: usize,

@@ -7,7 +7,7 @@ ghost use Rattle.capture_vcd.specs.Body.{first_is, is_digit};
 ghost use Rattle.capture_vcd.specs.Begun.{Begins, IfNumber};
 
 /// What a token says.
-#[derive(Clone, Copy, Debug, PartialEq, Eq)]
+#[derive(Clone, Copy, PartialEq, Eq)]
 pub enum Begun {
     /// A time below 2^60.
     Time(u64),

@@ -3,14 +3,14 @@ ghost use Rattle.std.specs.Prelude.{◌<◌};
 ghost use Rattle.la_base.specs.declared.samples.TheConstants.{MOST_PINS};
 
 /// Options: the bits of SCL and SDA in a sample.
-#[derive(Clone, Copy, Debug, PartialEq, Eq)]
+#[derive(Clone, Copy, PartialEq, Eq)]
 pub struct I2cOpts {
     pub scl: u32,
     pub sda: u32,
 }
 
 /// The lines of a bus, each by its bit in a sample.
-#[derive(Clone, Copy, Debug, PartialEq, Eq)]
+#[derive(Clone, Copy, PartialEq, Eq)]
 pub struct Bus {
     pub scl: u32,
     pub sda: u32,
@@ -19,7 +19,7 @@ pub struct Bus {
 }
 
 /// What a byte of a segment is, by the bytes that stand before it there.
-#[derive(Clone, Copy, Debug, PartialEq, Eq)]
+#[derive(Clone, Copy, PartialEq, Eq)]
 pub enum Role {
     /// The first one: an address with R/W, a prefix of ten-bit addresses with R/W, or a general
     /// call.
@@ -35,7 +35,7 @@ pub enum Role {
 }
 
 /// What is kept of an open segment between two events.
-#[derive(Clone, Copy, Debug, PartialEq, Eq)]
+#[derive(Clone, Copy, PartialEq, Eq)]
 pub struct Segment {
     /// What its next byte is.
     pub role: Role,

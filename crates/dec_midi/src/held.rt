@@ -1,11 +1,11 @@
 // What a decoder of MIDI is made of.
 
 /// MIDI has no options.
-#[derive(Clone, Copy, Debug, PartialEq, Eq)]
+#[derive(Clone, Copy, PartialEq, Eq)]
 pub struct MidiOpts {}
 
 /// What a byte is.
-#[derive(Clone, Copy, Debug, PartialEq, Eq)]
+#[derive(Clone, Copy, PartialEq, Eq)]
 pub enum Sort {
     /// A data byte, below 80h.
     Data,
@@ -16,7 +16,7 @@ pub enum Sort {
 }
 
 /// What data a status takes.
-#[derive(Clone, Copy, Debug, PartialEq, Eq)]
+#[derive(Clone, Copy, PartialEq, Eq)]
 pub enum Takes {
     /// None: F4h to F7h.
     Nothing,
@@ -33,7 +33,7 @@ pub enum Takes {
 }
 
 /// What is kept between two packets.
-#[derive(Clone, Copy, Debug, PartialEq, Eq)]
+#[derive(Clone, Copy, PartialEq, Eq)]
 pub enum Held {
     /// A data byte is one of no message.
     Stray,

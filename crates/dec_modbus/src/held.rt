@@ -5,13 +5,13 @@ ghost use Rattle.dec_modbus.specs.Modbus.{gap_of};
 use la_base::Rate;
 
 /// Options: how many nanoseconds of silence part two messages, 1 to 10^9.
-#[derive(Clone, Copy, Debug, PartialEq, Eq)]
+#[derive(Clone, Copy, PartialEq, Eq)]
 pub struct ModbusOpts {
     pub gap: u64,
 }
 
 /// The options, and the rate of the samples.
-#[derive(Clone, Copy, Debug, PartialEq, Eq)]
+#[derive(Clone, Copy, PartialEq, Eq)]
 pub struct Line {
     pub opts: ModbusOpts,
     pub rate: Rate,
@@ -19,7 +19,7 @@ pub struct Line {
 
 /// A message that nothing has ended yet. Its last two bytes may be its CRC, so they aren't in the
 /// CRC that is kept.
-#[derive(Clone, Copy, Debug, PartialEq, Eq)]
+#[derive(Clone, Copy, PartialEq, Eq)]
 pub struct Message {
     /// Where its first frame starts.
     pub start: u64,
@@ -38,7 +38,7 @@ pub struct Message {
 }
 
 /// What is kept between two packets.
-#[derive(Clone, Copy, Debug, PartialEq, Eq)]
+#[derive(Clone, Copy, PartialEq, Eq)]
 pub enum Held {
     /// In no message.
     Outside,

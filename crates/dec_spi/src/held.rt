@@ -7,7 +7,7 @@ ghost use Rattle.dec_spi.specs.laws.Lines.{lines_of};
 use crate::{Lines, SpiOpts};
 
 /// A bus, by its options: each line is a bit of a sample, and a word has 1 to 32 bits.
-#[derive(Clone, Copy, Debug, PartialEq, Eq)]
+#[derive(Clone, Copy, PartialEq, Eq)]
 pub struct Bus {
     pub opts: SpiOpts,
     ghost sck_below: { opts.sck < MOST_PINS },
@@ -19,7 +19,7 @@ pub struct Bus {
 }
 
 /// What is kept between two events.
-#[derive(Clone, Copy, Debug, PartialEq, Eq)]
+#[derive(Clone, Copy, PartialEq, Eq)]
 pub enum Held {
     /// No sample was selected yet.
     Fresh,
@@ -31,7 +31,7 @@ pub enum Held {
 
 /// What was read of the present word: how many bits, the numbers that they make up on both lines,
 /// and the place of the first of them. Where there are none, these are 0.
-#[derive(Clone, Copy, Debug, PartialEq, Eq)]
+#[derive(Clone, Copy, PartialEq, Eq)]
 pub struct Bits {
     pub count: u8,
     pub mosi: u32,

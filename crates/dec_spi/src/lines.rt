@@ -9,7 +9,7 @@ use crate::{Bits, Held, SpiOpts};
 
 /// The lines of a bus as masks of the lower half of a sample, 0 for a line that isn't given. Where
 /// one lies in the upper half, all of this is 0, and no clock is taken by it.
-#[derive(Clone, Copy, Debug, PartialEq, Eq)]
+#[derive(Clone, Copy, PartialEq, Eq)]
 pub struct Lines {
     pub select: u64,
     /// What the select line reads while the device is selected.

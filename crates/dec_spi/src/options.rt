@@ -5,7 +5,7 @@
 /// word in `msb_low`, `msb_high`, `lsb_low`, `lsb_high`: the most or the least significant bit
 /// comes first, and the select line is active low or high. At least one of MOSI and MISO is given.
 /// Without a select line all samples are selected.
-#[derive(Clone, Copy, Debug, PartialEq, Eq)]
+#[derive(Clone, Copy, PartialEq, Eq)]
 pub struct SpiOpts {
     pub sck: u32,
     pub mosi: Option<u32>,

@@ -7,7 +7,7 @@ use crate::UartOpts;
 use la_base::Rate;
 
 /// A serial line: its options, and the rate of its samples.
-#[derive(Clone, Copy, Debug, PartialEq, Eq)]
+#[derive(Clone, Copy, PartialEq, Eq)]
 pub struct Line {
     pub opts: UartOpts,
     pub rate: Rate,
@@ -17,7 +17,7 @@ pub struct Line {
 }
 
 /// What is kept between two stops.
-#[derive(Clone, Copy, Debug, PartialEq, Eq)]
+#[derive(Clone, Copy, PartialEq, Eq)]
 pub enum Held {
     /// No frame is open.
     Idle,

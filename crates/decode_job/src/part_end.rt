@@ -2,7 +2,7 @@
 use capture_any::ListingEnd;
 
 /// How the decoding of a part ended.
-#[derive(Clone, Copy, Debug, PartialEq, Eq)]
+#[derive(Clone, Copy, PartialEq, Eq)]
 pub enum PartEnd {
     /// As that of its capture did.
     Ended(ListingEnd),

@@ -182,7 +182,7 @@ pub trait PacketMachine: Configured {
 }
 
 /// What was taken of runs: how many, and what is left of the last of them, if anything is.
-#[derive(Clone, Copy, Debug, PartialEq, Eq)]
+#[derive(Clone, Copy, PartialEq, Eq)]
 pub struct Taken {
     pub count: usize,
     pub rest: Option<Run>,

@@ -11,7 +11,7 @@ use wait_cond::{Pair, Walk};
 
 /// What a walk took of runs: how many, and whether another wait begins behind the last stop. Then
 /// of the last of them the first sample alone was consumed, which is that stop.
-#[derive(Clone, Copy, Debug, PartialEq, Eq)]
+#[derive(Clone, Copy, PartialEq, Eq)]
 pub struct Walked {
     pub count: usize,
     pub anew: bool,

@@ -2,7 +2,7 @@
 use la_base::Wire;
 
 /// A protocol that is decoded.
-#[derive(Clone, Copy, Debug, PartialEq, Eq)]
+#[derive(Clone, Copy, PartialEq, Eq)]
 pub enum Kind {
     I2c,
     Spi,
@@ -19,7 +19,7 @@ pub enum Kind {
 }
 
 /// What an option takes.
-#[derive(Clone, Copy, Debug, PartialEq, Eq)]
+#[derive(Clone, Copy, PartialEq, Eq)]
 pub enum OptForm {
     /// A channel; the value is its bit in a sample.
     Pin { required: bool },
@@ -30,14 +30,14 @@ pub enum OptForm {
 }
 
 /// An option of a kind.
-#[derive(Clone, Copy, Debug, PartialEq, Eq)]
+#[derive(Clone, Copy, PartialEq, Eq)]
 pub struct OptRow {
     pub name: &'static str,
     pub form: OptForm,
 }
 
 /// A number that an option must have, by its row.
-#[derive(Clone, Copy, Debug, PartialEq, Eq)]
+#[derive(Clone, Copy, PartialEq, Eq)]
 pub struct Asked {
     pub row: usize,
     pub number: u64,

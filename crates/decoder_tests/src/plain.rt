@@ -4,7 +4,7 @@ ghost use Rattle.std.specs.Prelude.{refl};
 use plain_bytes::{Parted, Plain, Saved, front_of, get_parts, is_put, put_parts, read_as};
 
 // A place that its number tells.
-#[derive(Clone, Copy, Debug, PartialEq, Eq, Drop)]
+#[derive(Clone, Copy, PartialEq, Eq, Drop)]
 struct Place {
     at: u16,
 }

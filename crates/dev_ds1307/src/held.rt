@@ -4,7 +4,7 @@ use crate::Chip;
 /// What the open phase has: no byte of a register that is written; bytes of which the last aren't
 /// those of registers from 0 on; or such bytes, with the start of the first, and their number in
 /// the upper bytes of seven. A phase that reads begins with no byte, and comes back to that.
-#[derive(Clone, Copy, Debug, PartialEq, Eq)]
+#[derive(Clone, Copy, PartialEq, Eq)]
 pub enum Part {
     Fresh,
     Apart,
@@ -12,7 +12,7 @@ pub enum Part {
 }
 
 /// The register of the next byte, 0 to 63, and what the open phase has.
-#[derive(Clone, Copy, Debug, PartialEq, Eq)]
+#[derive(Clone, Copy, PartialEq, Eq)]
 pub struct Held {
     pub register: u8,
     pub part: Part,

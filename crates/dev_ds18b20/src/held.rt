@@ -3,11 +3,11 @@ use crate::Bytes;
 use packet_walks::Transacting;
 
 /// A thermometer has no options.
-#[derive(Clone, Copy, Debug, PartialEq, Eq)]
+#[derive(Clone, Copy, PartialEq, Eq)]
 pub struct ProbeOpts {}
 
 /// How far a transaction has come.
-#[derive(Clone, Copy, Debug, PartialEq, Eq)]
+#[derive(Clone, Copy, PartialEq, Eq)]
 pub enum Stage {
     /// It isn't the thermometer's, or not yet.
     Foreign,

@@ -1,7 +1,7 @@
 // A byte of a transaction.
 
 /// A byte of a transaction, and where it starts and ends.
-#[derive(Clone, Copy, Debug, PartialEq, Eq)]
+#[derive(Clone, Copy, PartialEq, Eq)]
 pub struct Spot {
     pub start: u64,
     pub end: u64,

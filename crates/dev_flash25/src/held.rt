@@ -2,11 +2,11 @@
 use packet_walks::Transacting;
 
 /// A flash has no options.
-#[derive(Clone, Copy, Debug, PartialEq, Eq)]
+#[derive(Clone, Copy, PartialEq, Eq)]
 pub struct FlashOpts {}
 
 /// An instruction behind which more is told.
-#[derive(Clone, Copy, Debug, PartialEq, Eq)]
+#[derive(Clone, Copy, PartialEq, Eq)]
 pub enum Command {
     /// Read ID (9Fh).
     Id,
@@ -31,7 +31,7 @@ pub enum Command {
 }
 
 /// What the words behind an instruction have said so far.
-#[derive(Clone, Copy, Debug, PartialEq, Eq)]
+#[derive(Clone, Copy, PartialEq, Eq)]
 pub enum Said {
     /// Nothing of a number.
     Nothing,
@@ -48,7 +48,7 @@ pub enum Said {
 
 /// The words of a transaction that is open: none; or an instruction, where it starts, where the
 /// last word ends, and what the words behind it have said.
-#[derive(Clone, Copy, Debug, PartialEq, Eq)]
+#[derive(Clone, Copy, PartialEq, Eq)]
 pub enum Words {
     Empty,
     Begun {
@@ -60,7 +60,7 @@ pub enum Words {
 }
 
 /// A transaction that is open: where its select starts, and its words.
-#[derive(Clone, Copy, Debug, PartialEq, Eq)]
+#[derive(Clone, Copy, PartialEq, Eq)]
 pub struct Open {
     pub(crate) start: u64,
     pub(crate) words: Words,

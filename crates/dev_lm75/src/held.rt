@@ -3,7 +3,7 @@ use crate::Chip;
 
 /// What the open phase has: no byte, or whole pairs that are read; whole pairs behind its pointer
 /// byte; or the first byte of a pair, with its start.
-#[derive(Clone, Copy, Debug, PartialEq, Eq)]
+#[derive(Clone, Copy, PartialEq, Eq)]
 pub enum Part {
     Fresh,
     Even,
@@ -11,7 +11,7 @@ pub enum Part {
 }
 
 /// The pointer, 0 to 3, and what the open phase has.
-#[derive(Clone, Copy, Debug, PartialEq, Eq)]
+#[derive(Clone, Copy, PartialEq, Eq)]
 pub struct Held {
     pub pointer: u8,
     pub part: Part,

@@ -7,7 +7,7 @@ ghost use Rattle.i2c_phases.specs.laws.Tracking.{no_phase};
 use la_base::{Packet, PacketKind};
 
 /// How far the open phase has come, for one device.
-#[derive(Clone, Copy, Debug, PartialEq, Eq)]
+#[derive(Clone, Copy, PartialEq, Eq)]
 pub enum Role {
     /// No address has come, and no data.
     Fresh,
@@ -32,7 +32,7 @@ pub enum Role {
 }
 
 /// What a packet is to a device.
-#[derive(Clone, Copy, Debug, PartialEq, Eq)]
+#[derive(Clone, Copy, PartialEq, Eq)]
 pub enum Event {
     /// A phase begins.
     Begins,
@@ -47,7 +47,7 @@ pub enum Event {
 }
 
 /// Whether a phase is open, where it starts, and how far it has come.
-#[derive(Clone, Copy, Debug, PartialEq, Eq)]
+#[derive(Clone, Copy, PartialEq, Eq)]
 pub struct Track {
     pub begun: bool,
     pub start: u64,

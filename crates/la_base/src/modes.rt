@@ -1,7 +1,7 @@
 // How tables of samples are read.
 
 /// What a record of a CSV capture stands for.
-#[derive(Clone, Copy, Debug, PartialEq, Eq)]
+#[derive(Clone, Copy, PartialEq, Eq)]
 pub enum CsvMode {
     /// One sample.
     Rows,

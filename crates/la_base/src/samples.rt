@@ -21,7 +21,7 @@ const PLACES: usize = MOST_PINS as usize;
 pub type Pins = ArrayVec<u32, PLACES>;
 
 /// `num / den` samples a second. Both are at least 1. Two rates are equal where both numbers are.
-#[derive(Clone, Copy, Debug, PartialEq, Eq)]
+#[derive(Clone, Copy, PartialEq, Eq)]
 pub struct Rate {
     pub num: u64,
     pub den: u64,

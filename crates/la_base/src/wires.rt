@@ -4,7 +4,7 @@ ghost use Rattle.std.specs.Prelude.{◌≡◌, ◌≤◌};
 use crate::Run;
 
 /// What a decoder reads: samples, packets of one protocol, or nothing.
-#[derive(Clone, Copy, Debug, PartialEq, Eq)]
+#[derive(Clone, Copy, PartialEq, Eq)]
 pub enum Wire {
     /// Samples.
     Logic,
@@ -24,7 +24,7 @@ pub enum Wire {
 
 /// What a packet is. The first part of a name says the protocol; `Ow` is the link of 1-Wire and
 /// `Net` its network.
-#[derive(Clone, Copy, Debug, PartialEq, Eq)]
+#[derive(Clone, Copy, PartialEq, Eq)]
 pub enum PacketKind {
     I2cStart,
     I2cStop,
@@ -47,7 +47,7 @@ pub enum PacketKind {
 
 /// What a decoder hands to those that are stacked on it: the samples from number `start` to number
 /// `end`, both counted, and two values whose meaning the kind says.
-#[derive(Clone, Copy, Debug, PartialEq, Eq)]
+#[derive(Clone, Copy, PartialEq, Eq)]
 pub struct Packet {
     pub kind: PacketKind,
     pub start: u64,
@@ -59,7 +59,7 @@ pub struct Packet {
 
 /// An annotation: a class of its decoder, the samples from number `start` to number `end`, both
 /// counted, and two values whose meaning the class says.
-#[derive(Clone, Copy, Debug, PartialEq, Eq)]
+#[derive(Clone, Copy, PartialEq, Eq)]
 pub struct Note {
     pub class: u16,
     pub start: u64,
@@ -71,7 +71,7 @@ pub struct Note {
 
 /// A byte of binary data: a class of its decoder, and the samples from number `start` to number
 /// `end`, both counted.
-#[derive(Clone, Copy, Debug, PartialEq, Eq)]
+#[derive(Clone, Copy, PartialEq, Eq)]
 pub struct Piece {
     pub class: u16,
     pub start: u64,
@@ -81,7 +81,7 @@ pub struct Piece {
 }
 
 /// An output of a decoder.
-#[derive(Clone, Copy, Debug, PartialEq, Eq)]
+#[derive(Clone, Copy, PartialEq, Eq)]
 pub enum Out {
     Note(Note),
     Piece(Piece),
@@ -89,7 +89,7 @@ pub enum Out {
 }
 
 /// What a decoder is fed with.
-#[derive(Clone, Copy, Debug, PartialEq, Eq)]
+#[derive(Clone, Copy, PartialEq, Eq)]
 pub enum Feed {
     Run(Run),
     Packet(Packet),
@@ -98,7 +98,7 @@ pub enum Feed {
 }
 
 /// What a decoder gives to those that collect its outputs.
-#[derive(Clone, Copy, Debug, PartialEq, Eq)]
+#[derive(Clone, Copy, PartialEq, Eq)]
 pub enum Mark {
     Note(Note),
     Piece(Piece),

@@ -2,7 +2,7 @@
 use la_base::Run;
 
 /// What one part of a capture gave its reader: a token or a line, or its end.
-#[derive(Clone, Copy, Debug, PartialEq, Eq)]
+#[derive(Clone, Copy, PartialEq, Eq)]
 pub enum Step {
     /// No samples.
     Went,

@@ -16,7 +16,7 @@ use std::alloc::Global;
 /// are passed over. The calls of `read`, counted from 0, whose numbers are in `fails` answer
 /// `Failed`. `read` says how many bytes each call moves: contracts name the pieces (`pieces_of`)
 /// and the place in them (`place_of`) before and behind it.
-#[derive(Debug, Drop)]
+#[derive(Drop)]
 pub struct MemSource {
     pieces: Vec<Vec<u8>>,
     piece: usize,
@@ -108,7 +108,7 @@ impl Source for MemSource {
 
 /// Bytes in memory. A write takes at most `most` bytes and no more than there is room for; it fails
 /// where no room is left, and where its number, counted from 0, is in `fails`.
-#[derive(Debug, Drop)]
+#[derive(Drop)]
 pub struct MemSink {
     bytes: Vec<u8>,
     most: usize,

@@ -6,7 +6,7 @@ use std::io::{Read, Write};
 
 /// Any reader as a source. Each error that it answers counts as one more fault. Of its content it
 /// tells what the reader tells: of a file or a terminal that is nothing, of bytes in memory all.
-#[derive(Debug, Drop)]
+#[derive(Drop)]
 pub struct StdSource<R: Read> {
     reader: R,
     faults: u64,
@@ -59,7 +59,7 @@ impl<R: Read> Source for StdSource<R> {
 
 /// Any writer as a sink. Each error that it answers counts as one more fault, and so does a write
 /// that takes nothing. Of what was written it tells what the writer tells.
-#[derive(Debug, Drop)]
+#[derive(Drop)]
 pub struct StdSink<W: Write> {
     writer: W,
     faults: u64,

@@ -5,7 +5,7 @@ use crate::give::give;
 use crate::{Failed, Sink, Source};
 
 /// Bytes in memory, and then the end. It never fails.
-#[derive(Debug, Drop)]
+#[derive(Drop)]
 pub struct SureSource {
     bytes: Vec<u8>,
     at: usize,
@@ -35,7 +35,7 @@ impl Source for SureSource {
 }
 
 /// A sink that takes each piece whole, keeps no byte and takes no memory. It never fails.
-#[derive(Clone, Copy, Debug, Default)]
+#[derive(Clone, Copy, Default)]
 pub struct SureSink;
 
 impl SureSink {

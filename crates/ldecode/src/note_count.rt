@@ -6,7 +6,7 @@ use note_lister::Watch;
 use note_order::Entry;
 
 /// Counts the notes that it is shown.
-#[derive(Clone, Copy, Debug, PartialEq, Eq)]
+#[derive(Clone, Copy, PartialEq, Eq)]
 pub(crate) struct NoteCount {
     count: u64,
 }

@@ -10,7 +10,7 @@ use stack_spec::{BindFault, StackFault};
 use words::WordFault;
 
 /// How a run ends.
-#[derive(Clone, Copy, Debug, PartialEq, Eq)]
+#[derive(Clone, Copy, PartialEq, Eq)]
 pub enum Status {
     /// The source was read to its end, and the whole listing is written.
     Done,

@@ -10,7 +10,7 @@ use la_io::{Failed, Sink, write_whole};
 use line_text::LineBuf;
 
 /// How many notes an instance gave, and the sum of their values modulo 2^32.
-#[derive(Clone, Copy, Debug, PartialEq, Eq)]
+#[derive(Clone, Copy, PartialEq, Eq)]
 pub struct Tally {
     pub count: u64,
     pub sum: u64,

@@ -38,7 +38,7 @@ pub trait Watch {
 }
 
 /// Nobody looks on: it sees nothing, and costs nothing.
-#[derive(Clone, Copy, Debug, PartialEq, Eq)]
+#[derive(Clone, Copy, PartialEq, Eq)]
 pub struct Unwatched;
 
 impl Watch for Unwatched {

@@ -2,7 +2,7 @@
 use la_base::Note;
 
 /// A note, and the number of the instance that gave it.
-#[derive(Clone, Copy, Debug, PartialEq, Eq)]
+#[derive(Clone, Copy, PartialEq, Eq)]
 pub struct Entry {
     pub instance: u32,
     pub note: Note,

@@ -4,7 +4,7 @@ ghost use Rattle.std.specs.Prelude.{◌≡◌, ◌≤◌};
 use la_base::Rate;
 
 /// A unit of time: a second, or 10^-3, 10^-6, 10^-9, 10^-12 or 10^-15 of it.
-#[derive(Clone, Copy, Debug, PartialEq, Eq)]
+#[derive(Clone, Copy, PartialEq, Eq)]
 pub enum TimeUnit {
     S,
     Ms,

@@ -6,7 +6,7 @@ use std::alloc::Global;
 const MOST: u64 = 1 << 20;
 
 /// A raw capture that grows, and how its channels stand.
-#[derive(Debug, Drop)]
+#[derive(Drop)]
 pub struct Drawing {
     bytes: Vec<u8>,
     // bit k is the level of channel k

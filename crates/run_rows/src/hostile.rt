@@ -26,7 +26,7 @@ struct Target<'a> {
 }
 
 // What a word comes to.
-#[derive(Debug, PartialEq, Eq, Drop)]
+#[derive(PartialEq, Eq, Drop)]
 enum Outcome {
     /// It is refused as no word of a checkpoint of these instances.
     Form,

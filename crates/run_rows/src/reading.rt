@@ -4,7 +4,7 @@ use anyhow::{Error, Result};
 use std::alloc::Global;
 
 /// A row, or why one can't be read, with its line.
-#[derive(Debug, Drop)]
+#[derive(Drop)]
 pub enum Found {
     Row(Row),
     Fault(String),

@@ -6,7 +6,7 @@ use anyhow::{Context, Result, bail, ensure};
 use std::alloc::Global;
 
 /// What stands behind the capture's last byte.
-#[derive(Clone, Copy, Debug, PartialEq, Eq)]
+#[derive(Clone, Copy, PartialEq, Eq)]
 pub enum Behind {
     /// Its end.
     End,
@@ -17,7 +17,7 @@ pub enum Behind {
 }
 
 /// A whole run, and what it has to give.
-#[derive(Debug, Drop)]
+#[derive(Drop)]
 pub struct Row {
     pub line: u32,
     pub name: String,
@@ -37,7 +37,7 @@ pub struct Row {
 }
 
 /// A row of which some statements are read.
-#[derive(Debug, Drop)]
+#[derive(Drop)]
 pub struct Draft {
     alloc: Global,
     line: u32,

@@ -4,14 +4,14 @@ use decoder_set::Kind;
 
 /// What an option is given: the reference of a channel, or a number, which for a choice is the
 /// place of a word.
-#[derive(Debug, Drop)]
+#[derive(Drop)]
 pub enum GivenValue {
     Channel(String),
     Number(u64),
 }
 
 /// An option that is given: its row among the options of the kind, and its value.
-#[derive(Debug, Drop)]
+#[derive(Drop)]
 pub struct GivenOption {
     pub row: usize,
     pub value: GivenValue,
@@ -19,7 +19,7 @@ pub struct GivenOption {
 
 /// A decoder in a stack: its kind, its number among those of the kind, the options that are given,
 /// and its parent's place.
-#[derive(Debug, Drop)]
+#[derive(Drop)]
 pub struct Instance {
     pub kind: Kind,
     pub number: u32,

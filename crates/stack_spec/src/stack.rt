@@ -8,7 +8,7 @@ use crate::instance::Instance;
 
 /// Decoders, each on samples or on an earlier one; which of them are shown, and whose binary data
 /// is wanted. Instances are numbered from 0 in the order of the words.
-#[derive(Debug, Drop)]
+#[derive(Drop)]
 pub struct Stack {
     pub(crate) instances: Vec<Instance>,
     pub(crate) shown: Option<Vec<u32>>,

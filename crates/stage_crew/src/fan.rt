@@ -7,7 +7,7 @@ use stage_ring::Tx;
 
 /// How far a row was handed out: all of it to the links before the place `child`, and `given` of it
 /// to the one there.
-#[derive(Clone, Copy, Debug, PartialEq, Eq)]
+#[derive(Clone, Copy, PartialEq, Eq)]
 pub(crate) struct Handed {
     pub(crate) child: usize,
     pub(crate) given: usize,

@@ -8,7 +8,7 @@ pub trait Pacer {
 }
 
 /// The same budget always.
-#[derive(Clone, Copy, Debug, PartialEq, Eq)]
+#[derive(Clone, Copy, PartialEq, Eq)]
 pub struct PlainPacer;
 
 impl Pacer for PlainPacer {

@@ -23,7 +23,7 @@ fn cores<R: Threads>(rt: &R) -> usize
 /// How one waits: how often one spins, each time twice as long up to 64 turns, and how long one then
 /// sleeps at first and at most, in microseconds. Nobody yields: beside programs that keep all cores
 /// busy, who yields comes last, and who has slept comes first.
-#[derive(Clone, Copy, Debug, PartialEq, Eq)]
+#[derive(Clone, Copy, PartialEq, Eq)]
 pub(crate) struct Naps {
     spins: u32,
     first: u64,

@@ -6,7 +6,7 @@ use stage_ring::Rx;
 /// `value` on the lower half of their lines, and on the upper half what was told last, 0 at first.
 /// A stretch of no samples tells the upper half of those behind it; it is the end where that was
 /// told already. So a run takes half the room that its whole value would, and mostly one item.
-#[derive(Clone, Copy, Debug, PartialEq, Eq)]
+#[derive(Clone, Copy, PartialEq, Eq)]
 pub struct Stretch {
     pub value: u64,
     pub len: u64,

@@ -3,7 +3,7 @@ ghost use Rattle.std.specs.Prelude.{◌≡◌};
 ghost use Rattle.stage_run.specs.Acts.{act_by};
 
 /// What a turn did.
-#[derive(Clone, Copy, Debug, PartialEq, Eq)]
+#[derive(Clone, Copy, PartialEq, Eq)]
 pub enum Turn {
     /// It gave or took something; or its budget was spent before a link had no room or nothing to
     /// take.
@@ -15,7 +15,7 @@ pub enum Turn {
 }
 
 /// What one act did.
-#[derive(Clone, Copy, Debug, PartialEq, Eq)]
+#[derive(Clone, Copy, PartialEq, Eq)]
 pub(crate) enum Act {
     /// It gave and took nothing, and didn't try to.
     Worked,
@@ -42,7 +42,7 @@ pub(crate) fn act_of(given: usize, kept: usize) -> Act
 }
 
 /// What several acts did.
-#[derive(Clone, Copy, Debug, PartialEq, Eq)]
+#[derive(Clone, Copy, PartialEq, Eq)]
 pub(crate) struct Went {
     /// Something was given or taken.
     pub(crate) passed: bool,

@@ -151,7 +151,7 @@ fn wide_values_and_long_runs_come_through(rt: HostRuntime) -> Result<(), Fail> {
         for instance in 0..3u32 {
             let want = alone.of(alloc, instance)?;
             let found = apart.of(alloc, instance)?;
-            assert!(rt; want.len() > 4, "{want:?}");
+            assert!(rt; want.len() > 4);
             assert!(rt; found.as_slice() == want.as_slice(), "{slots} slots");
         }
     }

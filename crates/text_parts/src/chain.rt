@@ -2,7 +2,7 @@
 
 /// A word of the command line that a grammar of its own reads: its number, counted from 0, and its
 /// text.
-#[derive(Debug, Drop)]
+#[derive(Drop)]
 pub struct ChainWord {
     pub word: u32,
     pub text: String,

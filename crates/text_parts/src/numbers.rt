@@ -6,7 +6,7 @@ ghost use Rattle.text_parts.specs.Numbers.{is_number, number_in};
 const MOST_DIGITS: usize = 19;
 
 /// Why a text is no number in a range.
-#[derive(Clone, Copy, Debug, PartialEq, Eq)]
+#[derive(Clone, Copy, PartialEq, Eq)]
 pub enum NumberWhy {
     /// It isn't decimal digits alone.
     Value,

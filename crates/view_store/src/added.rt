@@ -2,7 +2,7 @@
 use la_base::Note;
 
 /// A note with the number of its instance, or the end.
-#[derive(Clone, Copy, Debug)]
+#[derive(Clone, Copy)]
 pub enum Added {
     Note((u32, Note)),
     End,

@@ -20,7 +20,7 @@ pub use make::shelf;
 
 /// What a reader is answered: the notes of a range with the numbers of their instances, how many
 /// notes the listing had, and whether it was ended.
-#[derive(Debug, Drop)]
+#[derive(Drop)]
 pub struct Answer {
     pub notes: Vec<(u32, Note)>,
     pub seen: u64,

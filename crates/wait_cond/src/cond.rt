@@ -14,7 +14,7 @@ use std::marker::Model;
 
 /// 1 to 8 alternatives, at least one of which must be met. Contracts see their list, so that equal
 /// alternatives make equal conditions.
-#[derive(Debug, Drop)]
+#[derive(Drop)]
 pub struct Cond {
     alts: ArrayVec<Alt, 8>,
     // the lines of which the alternatives ask an edge, where each of them does; else 0

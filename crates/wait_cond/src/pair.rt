@@ -10,7 +10,7 @@ use la_base::{Word, high_half, low_half};
 /// What an alternative asks of the lines that the lower half of a sample has: of those of `care`
 /// the levels of `want`, and that of those of `asked` exactly those of `edge` change. Half a word,
 /// since 128 bits take twice the work.
-#[derive(Clone, Copy, Debug, PartialEq, Eq)]
+#[derive(Clone, Copy, PartialEq, Eq)]
 struct Masks {
     want: u64,
     care: u64,
@@ -59,7 +59,7 @@ pub fn says_all(alt: &Alt) -> bool
 
 /// One or two alternatives, by masks that say all of them. None is met while a value stands, since
 /// each asks an edge.
-#[derive(Clone, Copy, Debug, PartialEq, Eq)]
+#[derive(Clone, Copy, PartialEq, Eq)]
 pub struct Pair {
     // the lines that each of them asks to be high
     high: u64,

@@ -26,7 +26,7 @@ pub struct Waiter {
 }
 
 /// Where a wait stopped, or that it goes on behind the run.
-#[derive(Clone, Copy, Debug, PartialEq, Eq)]
+#[derive(Clone, Copy, PartialEq, Eq)]
 pub enum Scan {
     Met {
         at: u64,

@@ -4,7 +4,7 @@ ghost use Rattle.std.specs.Prelude.{◌≤◌, vec_len};
 use thiserror::Error;
 
 /// What is asked of a line at a sample.
-#[derive(Clone, Copy, Debug, PartialEq, Eq)]
+#[derive(Clone, Copy, PartialEq, Eq)]
 pub enum Letter {
     /// `l`: it is low.
     Low,
@@ -21,14 +21,14 @@ pub enum Letter {
 }
 
 /// A reference to a channel with its letter, or the number of a skip.
-#[derive(Debug, Drop)]
+#[derive(Drop)]
 pub enum Term {
     Line { reference: String, letter: Letter },
     Skip(u64),
 }
 
 /// The terms of one word, in their order.
-#[derive(Debug, Drop)]
+#[derive(Drop)]
 pub struct AltWords {
     pub terms: Vec<Term>,
     ghost few: { vec_len terms ≤ 4096 },

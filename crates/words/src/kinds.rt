@@ -2,7 +2,7 @@
 use thiserror::Error;
 
 /// What the program is to do.
-#[derive(Clone, Copy, Debug, PartialEq, Eq)]
+#[derive(Clone, Copy, PartialEq, Eq)]
 pub enum Job {
     /// Write the notes that the decoders of the words make of the capture.
     Decode,
@@ -16,14 +16,14 @@ pub enum Job {
 }
 
 /// How many chains of decoders, or alternatives of a condition, a job takes.
-#[derive(Clone, Copy, Debug, PartialEq, Eq)]
+#[derive(Clone, Copy, PartialEq, Eq)]
 pub struct WordCount {
     pub fewest: usize,
     pub most: usize,
 }
 
 /// The form of the capture.
-#[derive(Clone, Copy, Debug, PartialEq, Eq)]
+#[derive(Clone, Copy, PartialEq, Eq)]
 pub enum Format {
     /// One unit of bytes for each sample.
     Raw,

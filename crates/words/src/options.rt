@@ -8,7 +8,7 @@ use la_base::MOST_PINS;
 use std::fmt;
 
 /// An option: a word `--NAME VALUE` or `--NAME=VALUE`.
-#[derive(Clone, Copy, Debug, PartialEq, Eq)]
+#[derive(Clone, Copy, PartialEq, Eq)]
 pub enum Name {
     Job,
     Format,
@@ -28,7 +28,7 @@ pub enum Name {
 }
 
 /// The values that an option takes.
-#[derive(Clone, Copy, Debug)]
+#[derive(Clone, Copy)]
 pub enum Takes {
     /// One of these texts.
     OneOf(&'static [&'static str]),
@@ -63,7 +63,7 @@ impl fmt::Display for Takes {
 }
 
 /// One option as it is told to who asks for help, and as the words are read.
-#[derive(Clone, Copy, Debug)]
+#[derive(Clone, Copy)]
 pub struct OptionRow {
     /// What stands behind the `--`.
     pub name: &'static str,

@@ -9,7 +9,7 @@ use la_base::{CsvMode, Rate};
 use text_parts::ChainWord;
 
 /// The value of each option, and the words that are no options, in order.
-#[derive(Debug, Drop)]
+#[derive(Drop)]
 pub struct Settings {
     pub job: Job,
     pub format: Format,

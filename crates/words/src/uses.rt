@@ -2,7 +2,7 @@
 use crate::Name;
 
 /// The value of an option, or a word that is no option, with the number of the word that holds it.
-#[derive(Clone, Copy, Debug)]
+#[derive(Clone, Copy)]
 pub struct Given<'a> {
     pub name: Option<Name>,
     pub word: u32,

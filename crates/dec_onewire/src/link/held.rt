@@ -7,7 +7,7 @@ use super::{Lengths, OwLinkOpts};
 use la_base::Rate;
 
 /// A 1-Wire line: its options, and the rate of its samples.
-#[derive(Clone, Copy, Debug, PartialEq, Eq)]
+#[derive(Clone, Copy, PartialEq, Eq)]
 pub struct Line {
     pub opts: OwLinkOpts,
     pub rate: Rate,
@@ -15,7 +15,7 @@ pub struct Line {
 }
 
 /// What is kept between two edges.
-#[derive(Clone, Copy, Debug, PartialEq, Eq)]
+#[derive(Clone, Copy, PartialEq, Eq)]
 pub struct Held {
     /// Where the pulse began that hasn't ended yet.
     pub fall: Option<u64>,

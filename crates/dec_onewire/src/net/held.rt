@@ -1,11 +1,11 @@
 // What a decoder of the network is made of.
 
 /// A network has no options.
-#[derive(Clone, Copy, Debug, PartialEq, Eq)]
+#[derive(Clone, Copy, PartialEq, Eq)]
 pub struct OwNetOpts {}
 
 /// What bits of a segment are together.
-#[derive(Clone, Copy, Debug, PartialEq, Eq)]
+#[derive(Clone, Copy, PartialEq, Eq)]
 pub enum Role {
     /// The ROM command.
     Command,
@@ -20,7 +20,7 @@ pub enum Role {
 
 /// Bits that are too few yet for what they will be: how many, where the first of them starts, and
 /// the number that they say so far. Where there are none, all of this is 0.
-#[derive(Clone, Copy, Debug, PartialEq, Eq)]
+#[derive(Clone, Copy, PartialEq, Eq)]
 pub struct Begun {
     pub count: u8,
     pub start: u64,
@@ -28,7 +28,7 @@ pub struct Begun {
 }
 
 /// What is kept between two packets.
-#[derive(Clone, Copy, Debug, PartialEq, Eq)]
+#[derive(Clone, Copy, PartialEq, Eq)]
 pub enum Held {
     /// In no segment.
     Outside,
