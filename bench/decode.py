@@ -1,18 +1,17 @@
 #!/usr/bin/env python3
 """Prints how many samples a second the I2C decode takes on one thread, beside a `cat` of the same file.
 
-usage: bench/decode.py [TRANSACTIONS]
-
 The capture has 120 samples for each transaction, one byte a sample: SCL on D0, SDA on D1, a serial
 line on D2 that no decoder reads. Each transaction writes two bytes to an address; addresses and bytes
 are drawn from a generator of numbers that always gives the same. So each gives eight notes. Each time
 is the best of three, and both programs run in turn, in this one run.
 """
+import argparse
 import os
 import sys
 import tempfile
 
-from buses import LENGTH, NOTES, made
+from drawn import LENGTH, NOTES, made
 from program import built, seconds
 
 CHAIN = "i2c:scl=D0:sda=D1"
@@ -26,7 +25,12 @@ def make(path, count):
 
 
 def main():
-    count = int(sys.argv[1]) if len(sys.argv) > 1 else 100000
+    parser = argparse.ArgumentParser(
+        description=__doc__, formatter_class=argparse.RawDescriptionHelpFormatter
+    )
+    parser.add_argument("transactions", metavar="TRANSACTIONS", nargs="?", type=int, default=100000)
+    words = parser.parse_args()
+    count = words.transactions
     program = built()
     with tempfile.TemporaryDirectory() as folder:
         path = os.path.join(folder, "capture")

@@ -1,12 +1,11 @@
 #!/usr/bin/env python3
-"""Counts again what README has in instructions, a line for each figure.
-
-usage: bench/figures.py [WORD..]
+"""Counts again the figures of speed that are instructions, a line for each.
 
 valgrind counts them (its tool callgrind), so they don't depend on what else the machine does. What a run
 takes on no input at all is taken off. All decodes are on one thread, but for those of the last line. With
 words, only the lines that have one of them are counted. It takes some minutes.
 """
+import argparse
 import os
 import random
 import re
@@ -14,11 +13,8 @@ import subprocess
 import sys
 import tempfile
 
-import device_capture
-import modbus_capture
-import spi_capture
-from buses import OneWire, bits_of, draws, made, sampled
-from program import TOP, built
+from drawn import TOOLS, OneWire, bits_of, device_capture, draws, made, modbus_capture, sampled, spi_capture
+from program import built
 
 BUS = "i2c:scl=D0:sda=D1"
 SPI = "spi:sck=D0:mosi=D1:miso=D2:cs=D3"
@@ -86,8 +82,8 @@ def noise(channels, steady):
 
 
 def piped(script, *words):
-    """The bus, as a script of this folder writes it in another form."""
-    command = [sys.executable, os.path.join(TOP, "bench", script), *words]
+    """The bus, as a script of `tools/` writes it in another form."""
+    command = [sys.executable, os.path.join(TOOLS, script), *words]
     return subprocess.run(command, input=bus(), stdout=subprocess.PIPE, check=True).stdout
 
 
@@ -252,7 +248,11 @@ def threads_figure(folder):
 
 
 def main():
-    wanted = sys.argv[1:]
+    parser = argparse.ArgumentParser(
+        description=__doc__, formatter_class=argparse.RawDescriptionHelpFormatter
+    )
+    parser.add_argument("wanted", metavar="WORD", nargs="*", help="counts the lines alone that have one of these")
+    wanted = parser.parse_args().wanted
     built()
     with tempfile.TemporaryDirectory() as folder:
         for name, capture, words, without, units in FIGURES:

@@ -1,8 +1,6 @@
 #!/usr/bin/env python3
 """Prints how long `find` takes on 64 MB of raw samples, as a multiple of `cat FILE | wc -c`.
 
-usage: bench/find.py [MEGABYTES]
-
 Three files are made in a folder of their own, which is removed again:
 
   runs    each value stands for 65,536 samples
@@ -12,10 +10,10 @@ Three files are made in a folder of their own, which is removed again:
 
 Each time is the best of five, and both programs run in turn, in this one run.
 """
+import argparse
 import os
 import random
 import subprocess
-import sys
 import tempfile
 
 from program import built, seconds
@@ -41,12 +39,16 @@ def make(path, kind, size):
 
 
 def main():
-    megabytes = int(sys.argv[1]) if len(sys.argv) > 1 else 64
+    parser = argparse.ArgumentParser(
+        description=__doc__, formatter_class=argparse.RawDescriptionHelpFormatter
+    )
+    parser.add_argument("megabytes", metavar="MEGABYTES", nargs="?", type=int, default=64)
+    words = parser.parse_args()
     program = built()
     with tempfile.TemporaryDirectory() as folder:
         for kind, word in (("runs", "D0=r"), ("others", "D7=h"), ("noise", "D0=s")):
             path = os.path.join(folder, kind)
-            make(path, kind, megabytes * BLOCK)
+            make(path, kind, words.megabytes * BLOCK)
             plain, found = [], []
             for _ in range(5):
                 plain.append(seconds(f"cat {path} | wc -c", stdout=subprocess.DEVNULL))

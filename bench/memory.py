@@ -1,16 +1,15 @@
 #!/usr/bin/env python3
 """Prints the most memory that a decode takes, by the length of its capture.
 
-usage: bench/memory.py [TRANSACTIONS..]
-
 The capture is that of bench/decode.py, of 100,000 and of 1,000,000 transactions where none are named,
 and goes through a pipe as it is made. It is decoded as I2C, and as I2C with an EEPROM that stands on it
 and a serial line beside it. Exits with 1 where a run takes more than 12 MB.
 """
+import argparse
 import subprocess
 import sys
 
-from buses import LENGTH, made
+from drawn import LENGTH, made
 from program import built
 
 STACKS = [
@@ -42,7 +41,11 @@ def kilobytes(words, count):
 
 
 def main():
-    counts = [int(word) for word in sys.argv[1:]] or [100000, 1000000]
+    parser = argparse.ArgumentParser(
+        description=__doc__, formatter_class=argparse.RawDescriptionHelpFormatter
+    )
+    parser.add_argument("transactions", metavar="TRANSACTIONS", nargs="*", type=int, default=[100000, 1000000])
+    counts = parser.parse_args().transactions
     most = 0
     for words in STACKS:
         for count in counts:

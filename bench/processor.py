@@ -2,13 +2,12 @@
 """Prints how much processor time a bus that is decoded 24 times over takes with threads, as a multiple of
 what it takes on one thread, on two cores.
 
-usage: bench/processor.py [TRANSACTIONS]
-
 The capture is that of `bench/decode.py`, of 20,000 transactions. Each figure is the median of nine, and then
 the least of them; all ways run in turn, in this one run. Two cores of a virtual machine are often the two
 threads of one core, and each of them is slower while the other one works: so the run on one thread is
 measured alone, and beside another one that keeps the second core busy, as threads do.
 """
+import argparse
 import os
 import resource
 import statistics
@@ -16,7 +15,7 @@ import subprocess
 import sys
 import tempfile
 
-from buses import made
+from drawn import made
 from program import built
 
 INSTANCES = 24
@@ -39,7 +38,11 @@ def processor_seconds(words, path, places):
 
 
 def main():
-    count = int(sys.argv[1]) if len(sys.argv) > 1 else 20000
+    parser = argparse.ArgumentParser(
+        description=__doc__, formatter_class=argparse.RawDescriptionHelpFormatter
+    )
+    parser.add_argument("transactions", metavar="TRANSACTIONS", nargs="?", type=int, default=20000)
+    words = parser.parse_args()
     cores = sorted(os.sched_getaffinity(0))[:CORES]
     stack = ["i2c:scl=D0:sda=D1"] * INSTANCES
     ways = [
@@ -51,7 +54,7 @@ def main():
     with tempfile.TemporaryDirectory() as folder:
         path = os.path.join(folder, "capture")
         with open(path, "wb") as file:
-            file.writelines(made(count))
+            file.writelines(made(words.transactions))
         for _ in range(ROUNDS):
             for name, threads, places in ways:
                 took[name].append(processor_seconds(["--threads", threads, *stack], path, places))

@@ -1,8 +1,6 @@
 #!/usr/bin/env python3
 """Prints how long decodes take with a thread for each decoder, beside the same on one thread.
 
-usage: bench/threads.py [TRANSACTIONS]
-
 The capture is that of `bench/decode.py`, with the same bus on three pairs of lines, one of which is read
 as SPI too. Each time is the best of five, and both ways run in turn, in this one run. What is timed is written
 to nowhere, since whoever reads it would take one of the cores; before that, both ways must write the same
@@ -10,13 +8,14 @@ bytes. Then comes a capture of one transaction, in milliseconds: there threads c
 line tells what the cores give that are there: how long runs on one thread take side by side, one for each
 of them, beside one alone. It would be as long on cores that share nothing.
 """
+import argparse
 import os
 import subprocess
 import sys
 import tempfile
 import time
 
-from buses import made
+from drawn import made
 from program import built
 
 ROUNDS = 5
@@ -75,7 +74,11 @@ def side_by_side(words, path, count):
 
 
 def main():
-    count = int(sys.argv[1]) if len(sys.argv) > 1 else 100000
+    parser = argparse.ArgumentParser(
+        description=__doc__, formatter_class=argparse.RawDescriptionHelpFormatter
+    )
+    parser.add_argument("transactions", metavar="TRANSACTIONS", nargs="?", type=int, default=100000)
+    count = parser.parse_args().transactions
     built()
     with tempfile.TemporaryDirectory() as folder:
         path = os.path.join(folder, "capture")

@@ -1,8 +1,6 @@
 #!/usr/bin/env python3
 """Prints how long decodes take at which a viewer looks on, beside the same without one, and the memory.
 
-usage: bench/viewers.py [TRANSACTIONS..]
-
 The capture is that of `bench/decode.py`, decoded as a bus and a serial line: 9 notes a transaction, of
 2,000 and 111,112 transactions where none are named, which are 18,000 and 1,000,008 notes. The viewer asks
 for all notes of the listing all the time, so it keeps a core of its own busy. Each time is the best of
@@ -10,6 +8,7 @@ nine, and all ways run in turn; each run writes the same bytes, and is told that
 memory is the most that such a run took, with what the viewer was answered; what this script takes itself is the
 least that can be told.
 """
+import argparse
 import hashlib
 import os
 import subprocess
@@ -17,7 +16,7 @@ import sys
 import tempfile
 import time
 
-from buses import made
+from drawn import made
 from program import built
 
 ROUNDS = 9
@@ -60,7 +59,11 @@ def compare(path, count):
 
 
 def main():
-    counts = [int(word) for word in sys.argv[1:]] or [2000, 111112]
+    parser = argparse.ArgumentParser(
+        description=__doc__, formatter_class=argparse.RawDescriptionHelpFormatter
+    )
+    parser.add_argument("transactions", metavar="TRANSACTIONS", nargs="*", type=int, default=[2000, 111112])
+    counts = parser.parse_args().transactions
     with tempfile.TemporaryDirectory() as folder:
         path = os.path.join(folder, "capture")
         for count in counts:

@@ -1,15 +1,14 @@
 #!/usr/bin/env python3
 """Writes a raw capture, one byte a sample, as a CSV file.
 
-usage: bench/csv_capture.py [times] < CAPTURE > FILE
-
 The columns are D0, D1 and D2, the lowest bits of the samples, a record for each sample. With `times` the file
-is as Saleae Logic exports one: the columns are Channel 0, Channel 1 and Channel 2 behind one of times, with a
+is as Saleae Logic exports one: the columns are Channel 0, Channel 1 and Channel 2 after one of times, with a
 record for each change and one for the last sample, where a sample takes one microsecond.
 
-    bench/csv_capture.py < capture.raw > capture.csv
+    tools/csv_capture.py < capture.raw > capture.csv
     bin/ldecode --format csv i2c:scl=D0:sda=D1 < capture.csv
 """
+import argparse
 import sys
 
 
@@ -33,8 +32,13 @@ def changes(samples):
 
 
 def main():
+    parser = argparse.ArgumentParser(
+        description=__doc__, formatter_class=argparse.RawDescriptionHelpFormatter
+    )
+    parser.add_argument("form", nargs="?", choices=["rows", "times"], default="rows")
+    words = parser.parse_args()
     samples = sys.stdin.buffer.read()
-    lines = changes(samples) if sys.argv[1:] == ["times"] else rows(samples)
+    lines = changes(samples) if words.form == "times" else rows(samples)
     sys.stdout.writelines(lines)
 
 

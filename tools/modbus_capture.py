@@ -2,15 +2,14 @@
 """Writes samples of a serial line that carries messages of Modbus RTU, one byte a sample at 1 MHz, with the
 line on D0.
 
-usage: bench/modbus_capture.py MESSAGE.. > capture.raw
-
 Each word is a message: its bytes in hexadecimal, with commas between them, to which its CRC is added; with a
-`!` in front the lowest bit of the CRC's last byte is turned. A byte has a start bit, eight data bits and a
+`!` before it the lowest bit of the CRC's last byte is turned. A byte has a start bit, eight data bits and a
 stop bit at 19200 baud, and the bytes of a message follow one another without a pause. The line is high for
-5 ms before and behind each message.
+5 ms before and after each message.
 
-    bench/modbus_capture.py 11,03,00,6B,00,03 11,03,06,AE,41,56,52,43,40 > capture.raw
+    tools/modbus_capture.py 11,03,00,6B,00,03 11,03,06,AE,41,56,52,43,40 > capture.raw
 """
+import argparse
 import sys
 
 from buses import bits_of, sampled
@@ -37,10 +36,13 @@ def message(word):
 
 
 def main():
-    if len(sys.argv) < 2:
-        sys.exit(__doc__)
+    parser = argparse.ArgumentParser(
+        description=__doc__, formatter_class=argparse.RawDescriptionHelpFormatter
+    )
+    parser.add_argument("messages", nargs="+", metavar="MESSAGE", help="as 11,03,00,6B,00,03")
+    words = parser.parse_args()
     levels = list(PAUSE)
-    for word in sys.argv[1:]:
+    for word in words.messages:
         levels += list(bits_of(message(word))) + PAUSE
     sys.stdout.buffer.write(sampled(levels, RATE, BAUD))
 

@@ -1,16 +1,15 @@
 #!/usr/bin/env python3
 """Writes a raw capture of an I2C bus that is kept busy by one device: SCL is D0, SDA is D1.
 
-usage: bench/device_capture.py [TRANSACTIONS [ADDRESS]] > capture.raw
-
 Each transaction writes a byte that says where, and two bytes there, or reads two from where the last one
 ended; one of eight is for a part that isn't there, and isn't acknowledged. Bytes are drawn from a generator
 of numbers that always gives the same. A bit is four samples long, and a transaction 120 to 200. ADDRESS is
 the device's, in hexadecimal: 50, an EEPROM of one address byte, or 68, a clock, or 48, a thermometer.
 
-    bench/device_capture.py 100000 > capture.raw
+    tools/device_capture.py 100000 > capture.raw
     bin/ldecode i2c:scl=D0:sda=D1,eeprom24 < capture.raw
 """
+import argparse
 import sys
 
 from buses import I2c, draws
@@ -36,12 +35,18 @@ def transaction(address, kind, place, one, other):
 
 
 def main():
-    count = int(sys.argv[1]) if len(sys.argv) > 1 else 100000
-    address = int(sys.argv[2], 16) if len(sys.argv) > 2 else 0x50
+    parser = argparse.ArgumentParser(
+        description=__doc__, formatter_class=argparse.RawDescriptionHelpFormatter
+    )
+    parser.add_argument("transactions", metavar="TRANSACTIONS", nargs="?", type=int, default=100000)
+    parser.add_argument(
+        "address", metavar="ADDRESS", nargs="?", type=lambda word: int(word, 16), default=0x50
+    )
+    words = parser.parse_args()
     numbers = draws(7)
-    for _ in range(count):
+    for _ in range(words.transactions):
         drawn = next(numbers) % 8, next(numbers), next(numbers), next(numbers)
-        sys.stdout.buffer.write(transaction(address, *drawn))
+        sys.stdout.buffer.write(transaction(words.address, *drawn))
 
 
 if __name__ == "__main__":

@@ -1,16 +1,14 @@
 #!/usr/bin/env python3
 """Cuts a capture of raw samples into pieces: CAPTURE.0, CAPTURE.1 and so on.
 
-usage: bench/cut_capture.py [--channels N] SAMPLES CAPTURE
-
 Each piece has so many samples, and the last one those that are left; of an empty capture there is one
 empty piece. A sample has as many bytes as N channels need (8). What CAPTURE.* was there before is
 written over, but pieces of an earlier cut that are beyond the last one stay.
 
-The pieces are decoded one after another, each behind the checkpoint with which the one before it
+The pieces are decoded one after another, each after the checkpoint with which the one before it
 ended, and what is written is what the whole capture gives:
 
-    bench/cut_capture.py 1000000 capture.raw
+    tools/cut_capture.py 1000000 capture.raw
     from= piece=0
     while [ -e capture.raw.$piece ]; do
         bin/ldecode --job part ${from:+--from "$from"} i2c:scl=D0:sda=D1 < capture.raw.$piece > part || break
@@ -40,8 +38,8 @@ def main():
         description=__doc__, formatter_class=argparse.RawDescriptionHelpFormatter
     )
     parser.add_argument("--channels", type=int, choices=range(1, 129), default=8, metavar="N")
-    parser.add_argument("samples", type=int)
-    parser.add_argument("capture")
+    parser.add_argument("samples", metavar="SAMPLES", type=int)
+    parser.add_argument("capture", metavar="CAPTURE")
     words = parser.parse_args()
     if words.samples < 1:
         parser.error("a piece has at least one sample")

@@ -1,4 +1,4 @@
-"""The samples of buses and lines, for all scripts of this folder: each writes what it sends by these.
+"""The samples of buses and lines, by which all scripts draw.
 
 A bus is a list of samples, a byte each, with a line on each bit; a line is its levels, 0 and 1.
 """
@@ -15,7 +15,7 @@ def draws(seed):
 class I2c:
     """An I2C bus: SCL is bit 0, SDA bit 1.
 
-    SCL is low for `low` samples of a bit and then high for `high`; SDA changes `late` samples behind the fall
+    SCL is low for `low` samples of a bit and then high for `high`; SDA changes `late` samples after the fall
     of SCL.
     """
 

@@ -1,12 +1,11 @@
 #!/usr/bin/env python3
 """Writes a raw capture, one byte a sample, as a VCD file.
 
-usage: bench/vcd_capture.py [IDLE] < CAPTURE > FILE
-
 The file declares the scalars D0, D1, D2 and D7, the bits of the samples, and with IDLE so many more,
-which never change. A sample takes one microsecond. Each change stands on a line of its own, behind the
+which never change. A sample takes one microsecond. Each change stands on a line of its own, after the
 line of its time.
 """
+import argparse
 import sys
 
 BITS = (0, 1, 2, 7)
@@ -48,9 +47,13 @@ def changes(samples):
 
 
 def main():
-    idle = int(sys.argv[1]) if len(sys.argv) > 1 else 0
+    parser = argparse.ArgumentParser(
+        description=__doc__, formatter_class=argparse.RawDescriptionHelpFormatter
+    )
+    parser.add_argument("idle", metavar="IDLE", nargs="?", type=int, default=0)
+    words = parser.parse_args()
     samples = sys.stdin.buffer.read()
-    for line in header(idle):
+    for line in header(words.idle):
         sys.stdout.write(line)
     for line in changes(samples):
         sys.stdout.write(line)

@@ -1,22 +1,21 @@
 #!/usr/bin/env python3
 """Writes a raw capture of an I2C bus on which these bytes are sent: SCL is D0, SDA is D1.
 
-usage: bench/i2c_capture.py TRANSACTION.. > capture.raw
-
 Each word is one transaction, from a START to a STOP: segments with `/` between them, where a repeated
 START stands. A segment is an address and hexadecimal bytes, with commas between them. The address is
 
     A0, A1      a byte, of seven bits and the direction: 0 is write, 1 is read
     w150        a ten-bit address that is written to: its prefix and its lower eight bits
-    r150        the prefix of a ten-bit address that is read from, behind a segment that writes to it
+    r150        the prefix of a ten-bit address that is read from, after a segment that writes to it
     call        the general call
 
 The receiver acknowledges each byte, but for the last one that is read. A bit is eight samples long; SDA
-changes one sample behind the fall of SCL.
+changes one sample after the fall of SCL.
 
-    bench/i2c_capture.py A0,00,10,48,69 A0,00,10/A1,48,69 > capture.raw
-    bench/i2c_capture.py w150,10/r150,48,69 call,06 > capture.raw
+    tools/i2c_capture.py A0,00,10,48,69 A0,00,10/A1,48,69 > capture.raw
+    tools/i2c_capture.py w150,10/r150,48,69 call,06 > capture.raw
 """
+import argparse
 import sys
 
 from buses import I2c
@@ -43,9 +42,14 @@ def sent(segment):
 
 
 def main():
+    parser = argparse.ArgumentParser(
+        description=__doc__, formatter_class=argparse.RawDescriptionHelpFormatter
+    )
+    parser.add_argument("transactions", nargs="*", metavar="TRANSACTION", help="as A0,00,10/A1,48,69")
+    words = parser.parse_args()
     bus = I2c(late=1, low=4, high=4)
     bus.hold(1, 12)
-    for transaction in sys.argv[1:]:
+    for transaction in words.transactions:
         for segment in transaction.split("/"):
             bus.segment(sent(segment))
         bus.stop(12)
