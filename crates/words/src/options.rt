@@ -137,7 +137,7 @@ impl Name {
                 name: "rate",
                 takes: Takes::Rate,
                 usual: Some("1000000"),
-                help: "samples a second of a raw or csv capture",
+                help: "samples a second of a raw or csv capture; serial lines, 1-Wire lines and csv captures with times go by it",
             },
             Name::Down => OptionRow {
                 name: "down",
