@@ -85,8 +85,10 @@ SELECT = 8
 
 def spi_transaction(mosi, miso, half):
     """Bytes on an SPI bus: SCK is bit 0, MOSI 1, MISO 2, the select line 3. Half a bit has so many samples."""
+    if len(mosi) != len(miso):
+        raise ValueError("both lines of a transaction have as many bytes")
     line = [0, 0]
-    for out, back in zip(mosi, miso, strict=True):
+    for out, back in zip(mosi, miso):
         for place in range(7, -1, -1):
             data = (out >> place & 1) << 1 | (back >> place & 1) << 2
             line += [data] * half + [data | 1] * half
@@ -137,7 +139,8 @@ def transaction(address, one, other, serial):
     bus.segment([(address << 1, True), (one, True), (other, True)])
     bus.stop(4)
     line = sampled([1, *bits_of([serial]), 1], LENGTH // 12, 1)
-    return bytes(sample | level << 2 for sample, level in zip(bus.samples, line, strict=True))
+    assert len(line) == len(bus.samples)
+    return bytes(sample | level << 2 for sample, level in zip(bus.samples, line))
 
 
 def made(count):

@@ -36,7 +36,11 @@ def main():
     given = parser.parse_args()
     words = given.words
     times = int(words.pop()) if len(words) > 1 and ":" not in words[-1] else 1
-    sys.stdout.buffer.write(transactions(words, given.half, times))
+    try:
+        samples = transactions(words, given.half, times)
+    except ValueError as fault:
+        parser.error(str(fault))
+    sys.stdout.buffer.write(samples)
 
 
 if __name__ == "__main__":
