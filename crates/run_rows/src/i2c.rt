@@ -1,7 +1,7 @@
 // An I2C bus, from one that is free to one that is free again.
 use crate::drawing::Drawing;
 use crate::waves::byte_of;
-use anyhow::Result;
+use anyhow::{Result, bail};
 
 const SCL: usize = 0;
 
@@ -20,6 +20,12 @@ fn draw_bit(drawing: &mut Drawing, bit: bool) -> Result<()> {
     step(drawing, true, bit)
 }
 
+// The data leave this level while the clock stays high.
+fn turn(drawing: &mut Drawing, from: bool) -> Result<()> {
+    step(drawing, true, from)?;
+    step(drawing, true, !from)
+}
+
 // A byte of two hexadecimal digits, from its highest bit on, and its acknowledgement: with a hyphen
 // behind it, it isn't acknowledged.
 fn draw_byte(drawing: &mut Drawing, word: &str) -> Result<()> {
@@ -36,8 +42,7 @@ fn draw_byte(drawing: &mut Drawing, word: &str) -> Result<()> {
 
 /// Draws a transaction from a START to a STOP: a slash stands for a repeated START.
 pub fn draw_bus(drawing: &mut Drawing, text: &str) -> Result<()> {
-    step(drawing, true, true)?;
-    step(drawing, true, false)?;
+    turn(drawing, true)?;
     for word in text.split_whitespace() {
         if word == "/" {
             draw_bit(drawing, true)?;
@@ -49,4 +54,20 @@ pub fn draw_bus(drawing: &mut Drawing, text: &str) -> Result<()> {
     draw_bit(drawing, false)?;
     step(drawing, true, true)?;
     step(drawing, true, true)
+}
+
+/// Draws a bus letter by letter: `0` and `1` are a bit, `S` a START behind a clock that is high, and
+/// `P` a STOP behind a 0.
+pub fn draw_bits(drawing: &mut Drawing, text: &str) -> Result<()> {
+    for letter in text.bytes() {
+        match letter {
+            b'0' => draw_bit(drawing, false)?,
+            b'1' => draw_bit(drawing, true)?,
+            b'S' => turn(drawing, true)?,
+            b'P' => turn(drawing, false)?,
+            b' ' => {}
+            _ => bail!("{letter} is no letter of a bus"),
+        }
+    }
+    Ok(())
 }

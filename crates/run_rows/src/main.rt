@@ -26,11 +26,17 @@ use std::sync::Wait;
 use std::thread::Threads;
 
 // The files of rows.
-const FILES: [&str; 14] = [
+const FILES: [&str; 20] = [
     "i2c.txt",
+    "i2c_bits.txt",
+    "i2c_devices.txt",
     "spi_and_serial.txt",
+    "serial_devices.txt",
     "onewire.txt",
+    "ds18b20.txt",
+    "flash.txt",
     "devices.txt",
+    "stacks.txt",
     "binary.txt",
     "find.txt",
     "vcd.txt",

@@ -1,7 +1,7 @@
 // The statements of a row that draw its capture.
 use crate::drawing::Drawing;
-use crate::i2c::draw_bus;
-use crate::onewire::draw_onewire;
+use crate::i2c::{draw_bits, draw_bus};
+use crate::onewire::{draw_onewire, draw_wire};
 use crate::serial::draw_line;
 use crate::spi::draw_spi;
 use anyhow::{Context, Result, bail, ensure};
@@ -92,9 +92,11 @@ pub fn draw(drawing: &mut Drawing, alloc: Global, name: &str, text: &str) -> Res
         "low" => draw_levels(drawing, text, false),
         "rest" => drawing.hold(number_of(text)?),
         "bus" => draw_bus(drawing, text),
+        "bits" => draw_bits(drawing, text),
         "spi" => draw_spi(drawing, alloc, text),
         "line" => draw_line(drawing, alloc, text),
         "onewire" => draw_onewire(drawing, alloc, text),
+        "wire" => draw_wire(drawing, alloc, text),
         "half" => {
             drawing.set_half(number_of(text)?);
             Ok(())

@@ -43,7 +43,7 @@ impl Pacer for Turns {
 
 // With threads each read is handed from thread to thread and waits for all, which takes a while: the
 // longer the more decoders there are, and the busier the machine is.
-const PIECES: usize = 2_000;
+const PIECES: usize = 500;
 
 /// The ways, of which the first and the fourth read the capture in one piece.
 pub const WAYS: [Way; 6] = [
