@@ -63,17 +63,6 @@ const RUNS: &str = "\
 16 2 2 2 [0, 15] 018001 > [(3, 1)] > Some(Err(Failed))
 8 2 2 0 [0]  > [] > Some(Err(Failed))";
 
-// The same of a capture of any form: its samples, and the error behind them, if there is one.
-const ANY_FORM: &str = "\
-8 1 8 [7, 0] 8001818100 > [1, 2, 3, 3, 0] > None
-8 1 8 [] 0102 > [0, 0] > None
-1 1 8 [0]  > [] > None
-9 1 8 [8] 0000010102 > [0, 1] > Some(Fault(ShortUnit { at: 4 }))
-16 1 8 [0] 01 > [] > Some(Fault(ShortUnit { at: 0 }))
-64 1 8 [63] 0000000000000080 > [1] > None
-128 1 17 [127] 00*15 80 > [1] > None
-8 1 1 2 [0] 0100 > [1, 0] > Some(Read)";
-
 // The pins of these channels.
 fn chosen(rt: &impl Abort, channels: u32, pins: &[u64]) -> Pins
     ensures { (k : ℕ) → k < length result.items → slice_index result.items k < channels }
@@ -124,44 +113,6 @@ fn read_raw(
     Ok((runs, samples, last))
 }
 
-// The samples that a capture of any form gives of these bytes, and the error behind them. It isn't open then.
-fn read_any(
-    rt: &impl Abort,
-    alloc: Global,
-    (channels, pins): (u64, &[u64]),
-    bytes: &[u8],
-    size: usize,
-    fails: &[u64],
-) -> Result<String, Fail> {
-    assert!(rt; 1 <= channels && channels <= u64::from(MOST_PINS) && 1 <= size);
-    let mut source = source_of(alloc, bytes, size, fails)?;
-    let form = Form::Raw {
-        channels: channels as u32,
-        rate: RATE,
-    };
-    let mut capture = Capture::open(alloc, form, &mut source)?;
-    let pins = chosen(rt, capture.names().count(), pins);
-    capture.select(pins);
-    let mut samples = Vec::new(alloc);
-    let mut last = None;
-    for _ in 0..MANY {
-        if !capture.is_open() {
-            break;
-        }
-        match capture.next(&mut source) {
-            Ok(Some(run)) => {
-                for _ in 0..run.len {
-                    samples.push(run.value)?;
-                }
-            }
-            Ok(None) => {}
-            Err(error) => last = Some(error),
-        }
-    }
-    assert!(rt; !capture.is_open());
-    Ok(format!(in alloc; "{:?} > {:?}", samples.as_slice(), last)?)
-}
-
 // Whether a capture read as raw samples gives what a row says, by its runs or by its samples.
 fn read_holds(
     rt: &impl Abort,
@@ -179,7 +130,7 @@ fn read_holds(
 }
 
 // Whether a row holds, with its bytes in pieces of each size that it names.
-fn row_holds(rt: &impl Abort, alloc: Global, row: &str, any_form: bool) -> Result<bool, Fail> {
+fn row_holds(rt: &impl Abort, alloc: Global, row: &str) -> Result<bool, Fail> {
     let (numbers, pins, behind) = parts_of(row);
     let (bytes, want) = behind.split_once("> ").unwrap_or(("", ""));
     let bytes = bytes_of(alloc, bytes)?;
@@ -190,13 +141,7 @@ fn row_holds(rt: &impl Abort, alloc: Global, row: &str, any_form: bool) -> Resul
     };
     let of = (*channels, pins.as_slice());
     for size in *least as usize..=*most as usize {
-        let holds = if any_form {
-            let told = read_any(rt, alloc, of, &bytes, size, fails)?;
-            told.as_str() == want
-        } else {
-            read_holds(rt, alloc, of, &bytes, size, fails, want)?
-        };
-        if !holds {
+        if !read_holds(rt, alloc, of, &bytes, size, fails, want)? {
             return Ok(false);
         }
     }
@@ -205,11 +150,10 @@ fn row_holds(rt: &impl Abort, alloc: Global, row: &str, any_form: bool) -> Resul
 
 #[test]
 fn rows_of_captures(rt: HostRuntime) -> Result<(), Fail> {
-    let alloc = rt.alloc();
-    for (table, any_form) in [(SAMPLES, false), (RUNS, false), (ANY_FORM, true)] {
+    for table in [SAMPLES, RUNS] {
         for row in table.split('\n') {
             assert!(rt;
-                row.starts_with('#') || row_holds(&rt, alloc, row, any_form)?,
+                row.starts_with('#') || row_holds(&rt, rt.alloc(), row)?,
                 "{row}"
             );
         }

@@ -1,5 +1,5 @@
 // Value change dumps through their reader.
-use crate::rows::source_of;
+use crate::rows::{add_text, source_of};
 use capture_vcd::*;
 use la_base::{MOST_PINS, Pins, Run};
 use std::alloc::Global;
@@ -9,116 +9,81 @@ use std::test::Fail;
 // A header of one channel: 63 bytes.
 const ONE: &str = "$timescale 1 us $end $var wire 1 ! A $end $enddefinitions $end ";
 
-// So many units a sample, and what stands behind that header; the runs of the channel, and how it
-// ends.
-const BODIES: [(u64, &str, &str); 28] = [
-    (2, "#10 0! #13 1! #14 0! #17", "0x2 0x2 end"),
-    (1, "#0 0! #1099511627776 1!", "0x1099511627776 1x1 end"),
-    (1_000_000_000, "#7 1! #8", "1x1 end"),
-    // a change before the first time; times that are equal, that fall, that are large
-    (1, "1! #3 #5", "1x2 1x1 end"),
-    (1, "#5 1! #5 0! #6", "0x1 0x1 end"),
-    (
-        1,
-        "#0 0! #5 0! #3 0!",
-        "0x5 Fault(TimeBack { at: 75, was: 5, now: 3 })",
-    ),
-    (1, "#1152921504606846975 1!", "1x1 end"),
-    (1, "#1152921504606846976 1!", "Fault(TimeLarge { at: 63 })"),
-    (1, "#00000000000000000000000000001 1!", "1x1 end"),
-    (
-        1,
-        "#0 1! #99999999999999999999",
-        "Fault(TimeLarge { at: 69 })",
-    ),
-    // values: x and z are 0, the last digit is the lowest bit
-    (1, "#0 b10x1 ! #2 bx ! #3 Bz0 ! #4", "1x2 0x1 0x1 0x1 end"),
-    (1, "#0 1! #1 x! #2 1! #3 Z! #4", "1x1 0x1 1x1 0x1 0x1 end"),
-    // what is skipped: reals, texts, comments, keywords, codes that no variable has
-    (1, "#0 1! r1.5 ! s#1 #9 #2", "1x2 1x1 end"),
-    (
-        1,
-        "#0 $comment 1! #9 $end $dumpvars 1! $end #2",
-        "1x2 1x1 end",
-    ),
-    (1, "#0 1! $comment never ended #9", "1x1 end"),
-    (1, "#0 0? 1! b0 ?? #1", "1x1 1x1 end"),
-    (1, "#0 b1 $comment 1! #1", "1x1 1x1 end"),
-    // tokens that don't belong there
-    (1, "#0 b1", "Fault(Token { at: 66 })"),
-    (1, "#0 1! #2 r1", "1x2 Fault(Token { at: 72 })"),
-    (1, "#0 1! #3 1", "1x3 Fault(Token { at: 72 })"),
-    (1, "#", "Fault(Token { at: 63 })"),
-    (1, "#0x", "Fault(Token { at: 63 })"),
-    (1, "b !", "Fault(Token { at: 63 })"),
-    (1, "b2 !", "Fault(Token { at: 63 })"),
-    (1, "#0 \0", "Fault(Token { at: 66 })"),
-    // no samples; line ends; nothing behind the last token
-    (1, "1!", "end"),
-    (1, "", "end"),
-    (1, "#0 0!\r\n#1 1!\r\n#2", "0x1 1x1 1x1 end"),
-];
+// So many units a sample, what stands behind that header, in which a roof stands for a carriage return and a line feed; the runs
+// of the channel, and how it ends. A row behind a semicolon is a comment.
+const BODIES: &str = "\
+2|#10 0! #13 1! #14 0! #17|0x2 0x2 end
+1|#0 0! #1099511627776 1!|0x1099511627776 1x1 end
+1000000000|#7 1! #8|1x1 end
+; a change before the first time; times that are equal, that fall, that are large
+1|1! #3 #5|1x2 1x1 end
+1|#5 1! #5 0! #6|0x1 0x1 end
+1|#0 0! #5 0! #3 0!|0x5 Fault(TimeBack { at: 75, was: 5, now: 3 })
+1|#1152921504606846975 1!|1x1 end
+1|#1152921504606846976 1!|Fault(TimeLarge { at: 63 })
+1|#00000000000000000000000000001 1!|1x1 end
+1|#0 1! #99999999999999999999|Fault(TimeLarge { at: 69 })
+; values: x and z are 0, the last digit is the lowest bit
+1|#0 b10x1 ! #2 bx ! #3 Bz0 ! #4|1x2 0x1 0x1 0x1 end
+1|#0 1! #1 x! #2 1! #3 Z! #4|1x1 0x1 1x1 0x1 0x1 end
+; what is skipped: reals, texts, comments, keywords, codes that no variable has
+1|#0 1! r1.5 ! s#1 #9 #2|1x2 1x1 end
+1|#0 $comment 1! #9 $end $dumpvars 1! $end #2|1x2 1x1 end
+1|#0 1! $comment never ended #9|1x1 end
+1|#0 0? 1! b0 ?? #1|1x1 1x1 end
+1|#0 b1 $comment 1! #1|1x1 1x1 end
+; tokens that don't belong there
+1|#0 b1|Fault(Token { at: 66 })
+1|#0 1! #2 r1|1x2 Fault(Token { at: 72 })
+1|#0 1! #3 1|1x3 Fault(Token { at: 72 })
+1|#|Fault(Token { at: 63 })
+1|#0x|Fault(Token { at: 63 })
+1|b !|Fault(Token { at: 63 })
+1|b2 !|Fault(Token { at: 63 })
+1|#0 \0|Fault(Token { at: 66 })
+; no samples; line ends; nothing behind the last token
+1|1!|end
+1||end
+1|#0 0!^#1 1!^#2|0x1 1x1 1x1 end";
 
 // The same where samples are held back. Neighbouring runs of one value are joined here, since what is
 // held back is given before each read.
-const HELD: [(u64, &str, &str); 12] = [
-    // a fault, and the end, right behind samples that are held back
-    (1, "#0 0! #2 1! #5 #9 #", "0x2 1x7 Fault(Token { at: 81 })"),
-    (
-        1,
-        "#0 0! #2 1! #5 #9 #4",
-        "0x2 1x7 Fault(TimeBack { at: 81, was: 9, now: 4 })",
-    ),
-    (1, "#0 0! #2 1! #4 #6 b1", "0x2 1x4 Fault(Token { at: 81 })"),
-    (1, "#0 0! #2 1! #5 #9", "0x2 1x8 end"),
-    // times that give no sample, equal times, changes to the same value, other variables
-    (3, "#0 0! #1 1! #2 #3 0! #4 #7", "0x3 end"),
-    (3, "#1 1! #2 0! #3 #4 1! #5 #8 0!", "1x3 end"),
-    (1, "#0 0! #3 #3 1! #3 0! #3 #5", "0x6 end"),
-    (1, "#5 1! #5 #7 0! #7", "1x2 0x1 end"),
-    (1, "#0 1! #2 1! #4 1! #6", "1x7 end"),
-    (1, "#0 b0 ! #2 b1 ! #4 #6 b0 ? #8", "0x2 1x7 end"),
-    (1, "#0 0! #2 1! #4 0? #6 0! #8", "0x2 1x4 0x3 end"),
-    (
-        1,
-        "#0 0! #2 1! #4 r1 ! #6 $comment #7 $end #8",
-        "0x2 1x7 end",
-    ),
-];
+const HELD: &str = "\
+; a fault, and the end, right behind samples that are held back
+1|#0 0! #2 1! #5 #9 #|0x2 1x7 Fault(Token { at: 81 })
+1|#0 0! #2 1! #5 #9 #4|0x2 1x7 Fault(TimeBack { at: 81, was: 9, now: 4 })
+1|#0 0! #2 1! #4 #6 b1|0x2 1x4 Fault(Token { at: 81 })
+1|#0 0! #2 1! #5 #9|0x2 1x8 end
+; times that give no sample, equal times, changes to the same value, other variables
+3|#0 0! #1 1! #2 #3 0! #4 #7|0x3 end
+3|#1 1! #2 0! #3 #4 1! #5 #8 0!|1x3 end
+1|#0 0! #3 #3 1! #3 0! #3 #5|0x6 end
+1|#5 1! #5 #7 0! #7|1x2 0x1 end
+1|#0 1! #2 1! #4 1! #6|1x7 end
+1|#0 b0 ! #2 b1 ! #4 #6 b0 ? #8|0x2 1x7 end
+1|#0 0! #2 1! #4 0? #6 0! #8|0x2 1x4 0x3 end
+1|#0 0! #2 1! #4 r1 ! #6 $comment #7 $end #8|0x2 1x7 end";
 
 // Headers at fault, of one unit a sample.
-const HEADERS: [(u64, &str, &str); 18] = [
-    (1, "", "Fault(NoDefinitions)"),
-    (1, "$timescale 1 ns $end", "Fault(NoDefinitions)"),
-    (
-        1,
-        "$timescale 1 n s $end $enddefinitions",
-        "Fault(NoDefinitions)",
-    ),
-    (1, "$enddefinitions $end", "Fault(NoTimescale)"),
-    (
-        1,
-        "$version $enddefinitions $end $timescale",
-        "Fault(NoDefinitions)",
-    ),
-    (1, "$timescale $end", "Fault(Token { at: 11 })"),
-    (1, "$timescale 2 ns $end", "Fault(Token { at: 11 })"),
-    (1, "$timescale 1 1 ns $end", "Fault(Token { at: 11 })"),
-    (1, "$timescale 1000 s $end", "Fault(Token { at: 11 })"),
-    (1, "$timescale 100 ks $end", "Fault(Token { at: 11 })"),
-    (1, "$end x $var wire 1 ! $end", "Fault(Token { at: 7 })"),
-    (1, "$var wire 0 ! A $end", "Fault(Token { at: 0 })"),
-    (1, "$var wire 65536 ! A $end", "Fault(Token { at: 0 })"),
-    (1, "$var wire +1 ! A $end", "Fault(Token { at: 0 })"),
-    (1, "$var real x \u{7f} A $end", "Fault(Token { at: 0 })"),
-    (1, "$var real x ! A $end", "Fault(NoDefinitions)"),
-    (1, "$var wire 65535 ! A $end", "Fault(TooMany { at: 0 })"),
-    (
-        1,
-        "$var wire 4096 ! A $end $var wire 1 ! B $end",
-        "Fault(TooMany { at: 24 })",
-    ),
-];
+const HEADERS: &str = "\
+1||Fault(NoDefinitions)
+1|$timescale 1 ns $end|Fault(NoDefinitions)
+1|$timescale 1 n s $end $enddefinitions|Fault(NoDefinitions)
+1|$enddefinitions $end|Fault(NoTimescale)
+1|$version $enddefinitions $end $timescale|Fault(NoDefinitions)
+1|$timescale $end|Fault(Token { at: 11 })
+1|$timescale 2 ns $end|Fault(Token { at: 11 })
+1|$timescale 1 1 ns $end|Fault(Token { at: 11 })
+1|$timescale 1000 s $end|Fault(Token { at: 11 })
+1|$timescale 100 ks $end|Fault(Token { at: 11 })
+1|$end x $var wire 1 ! $end|Fault(Token { at: 7 })
+1|$var wire 0 ! A $end|Fault(Token { at: 0 })
+1|$var wire 65536 ! A $end|Fault(Token { at: 0 })
+1|$var wire +1 ! A $end|Fault(Token { at: 0 })
+1|$var real x \u{7f} A $end|Fault(Token { at: 0 })
+1|$var real x ! A $end|Fault(NoDefinitions)
+1|$var wire 65535 ! A $end|Fault(TooMany { at: 0 })
+1|$var wire 4096 ! A $end $var wire 1 ! B $end|Fault(TooMany { at: 24 })";
 
 // What is the last run behind this one, or behind the end: where they are joined and of one value, both as one, and else
 // the one before it is told.
@@ -148,12 +113,12 @@ fn read(
     rt: &impl Abort,
     alloc: Global,
     (down, wide, joined): (u64, u32, bool),
-    text: &str,
+    bytes: &[u8],
     size: usize,
     fails: &[u64],
 ) -> Result<String, Fail> {
     assert!(rt; 1 <= down && down <= 1_000_000_000 && wide <= MOST_PINS && 1 <= size);
-    let mut source = source_of(alloc, text.as_bytes(), size, fails)?;
+    let mut source = source_of(alloc, bytes, size, fails)?;
     let mut reader = match VcdReader::open(alloc, down, &mut source) {
         Ok(reader) => reader,
         Err(error) => return Ok(format!(in alloc; "{error:?}")?),
@@ -191,20 +156,39 @@ const WIDE: &str = "$timescale 10ns $end\n$var wire 4 ! q $end\n$var real 64 \" 
     $var wire 1 ! other [ 3 ] $end\n$enddefinitions $end\n\
     $dumpvars b1 ! r0 \" $end\n#4\n#5 b1010 !\n#6 bx1 !\n#7\n";
 
+// Whether a capture gives what its row says, read in pieces of each of these sizes.
+fn row_holds(
+    rt: &impl Abort,
+    alloc: Global,
+    row: &str,
+    header: &str,
+    joined: bool,
+) -> Result<bool, Fail> {
+    let mut parts = row.split('|');
+    let down = parts.next().unwrap_or("").parse().unwrap_or(0);
+    let mut file = header.as_bytes().to_vec(alloc)?;
+    add_text(&mut file, parts.next().unwrap_or(""))?;
+    let want = parts.next().unwrap_or("?");
+    for size in [1, 7, 1000] {
+        if read(rt, alloc, (down, 1, joined), &file, size, &[])?.as_str() != want {
+            return Ok(false);
+        }
+    }
+    Ok(true)
+}
+
 #[test]
 fn captures_of_changes(rt: HostRuntime) -> Result<(), Fail> {
-    let alloc = rt.alloc();
     for (table, header, joined) in [
-        (BODIES.as_slice(), ONE, false),
-        (HELD.as_slice(), ONE, true),
-        (HEADERS.as_slice(), "", false),
+        (BODIES, ONE, false),
+        (HELD, ONE, true),
+        (HEADERS, "", false),
     ] {
-        for (down, text, want) in table {
-            for size in [1, 7, 1000] {
-                let file = format!(in alloc; "{header}{text}")?;
-                let told = read(&rt, alloc, (*down, 1, joined), &file, size, &[])?;
-                assert!(rt; told.as_str() == *want, "{text}");
-            }
+        for row in table.split('\n') {
+            assert!(rt;
+                row.starts_with(';') || row_holds(&rt, rt.alloc(), row, header, joined)?,
+                "{row}"
+            );
         }
     }
     worked_files_hold();
@@ -223,9 +207,9 @@ fn captures_of_changes(rt: HostRuntime) -> Result<(), Fail> {
 fn runs_that_are_held(rt: HostRuntime) -> Result<(), Fail> {
     let alloc = rt.alloc();
     let text = format!(in alloc; "{ONE}#0 0! #2 1! #5 #9 #12 0! ")?;
-    let told = read(&rt, alloc, (1, 1, false), &text, 1000, &[])?;
+    let told = read(&rt, alloc, (1, 1, false), text.as_bytes(), 1000, &[])?;
     assert!(rt; told.as_str() == "0x2 1x10 0x1 end");
-    let told = read(&rt, alloc, (1, 1, true), &text, 1000, &[1])?;
+    let told = read(&rt, alloc, (1, 1, true), text.as_bytes(), 1000, &[1])?;
     assert!(rt; told.as_str() == "0x2 1x10 Read");
     Ok(())
 }
@@ -233,7 +217,7 @@ fn runs_that_are_held(rt: HostRuntime) -> Result<(), Fail> {
 #[test]
 fn vectors_and_reals(rt: HostRuntime) -> Result<(), Fail> {
     let alloc = rt.alloc();
-    let told = read(&rt, alloc, (1, 5, false), WIDE, 9, &[])?;
+    let told = read(&rt, alloc, (1, 5, false), WIDE.as_bytes(), 9, &[])?;
     assert!(rt; told.as_str() == "17x1 10x1 17x1 17x1 end");
     let mut source = source_of(alloc, WIDE.as_bytes(), 9, &[])?;
     if let Ok(reader) = VcdReader::open(alloc, 20, &mut source) {

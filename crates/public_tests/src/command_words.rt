@@ -2,167 +2,10 @@ use crate::rows::parts_of;
 use la_base::CsvMode;
 use std::alloc::Global;
 use std::test::Fail;
-use words::{Format, Job, Settings, WordsError, read_words};
+use words::{Format, Job, Settings, WordWhy, WordsError, read_words};
 
-// A row has words between brackets, before them how many words `a` stand in front, and behind them what
-// they give. In a word a star stands before the number of bytes `x` that go on; a dot stands for no word.
-
-// The number of the word at fault, the place of the fault in it, and why.
-pub const FAULTS: &str = "\
-# empty words, and words that begin with a hyphen and are no options
-[] 0 0 Empty
-[ i2c] 0 0 Empty
-[i2c ] 1 0 Empty
-[-] 0 0 Unknown
-[--] 0 0 Unknown
-[-j find] 0 0 Unknown
-[---job find] 0 0 Unknown
-[--=x] 0 0 Unknown
-[--é=x] 0 0 Unknown
-[--help] 0 0 Unknown
-[--version] 0 0 Unknown
-[--rat 5] 0 0 Unknown
-[--Job find] 0 0 Unknown
-[--seeds 1] 0 0 Unknown
-[--Seed 1] 0 0 Unknown
-[--chains x] 0 0 Unknown
-[i2c -x] 1 0 Unknown
-# an option is given once, with a value that it takes
-[--job] 0 0 NoValue
-[i2c --ring] 1 0 NoValue
-[--job --job=find] 0 0 NoValue
-[--channels -5] 0 0 NoValue
-[--job find --job=find] 2 0 Repeat
-[--job=find --job] 1 0 Repeat
-[--job=find --job=] 1 0 Repeat
-[--job=find --job=x] 1 0 Repeat
-[--show=all x --show all] 2 0 Repeat
-[--job=] 0 0 Empty
-[--show=] 0 0 Empty
-[--binary=] 0 0 Empty
-[--binary] 0 0 NoValue
-[--binary a --binary=b] 2 0 Repeat
-[--job ] 1 0 Empty
-[--show  i2c] 1 0 Empty
-[--job Find] 1 0 Value
-[--job=made] 0 0 Value
-[--job=find=] 0 0 Value
-[i2c --job seek] 2 0 Value
-[--format tsv] 1 0 Value
-[--csv lines] 1 0 Value
-[--header=Yes] 0 0 Value
-[--format=vcd,raw] 0 0 Value
-[--format=RAW] 0 0 Value
-[--threads maybe] 1 0 Value
-[--threads=Yes] 0 0 Value
-[--watch maybe i2c] 1 0 Value
-[--watch=Yes i2c] 0 0 Value
-[--job find --watch maybe D0=h] 3 0 Value
-[--job=make --watch=on] 1 0 Value
-[--watch] 0 0 NoValue
-[--watch=] 0 0 Empty
-[--watch yes i2c --watch=no] 3 0 Repeat
-[--watch=no --watch yes i2c] 1 0 Repeat
-# of two faults the first word's is told
-[--ring=x] 0 0 Value
-[--x --channels=0] 0 0 Unknown
-[--channels=0 --x] 0 0 Range
-[-y ] 0 0 Unknown
-[ -y] 0 0 Empty
-[--ring=x --rate=0] 0 0 Value
-[--rate=0 --ring=x] 0 0 Range
-[--threads= --job] 0 0 Empty
-[--job --threads=] 0 0 NoValue
-[--ring=1 --ring --x] 1 0 Repeat
-[--ring=1 --x --ring] 1 0 Unknown
-[i2c --ring 0 --job] 2 0 Range
-[i2c --job --ring 0] 1 0 NoValue
-[--show  --x] 1 0 Empty
-[--show x  --x] 2 0 Empty
-# numbers
-[--channels 0] 1 0 Range
-[--channels 129] 1 0 Range
-[--channels=+5] 0 0 Value
-[--channels=-5] 0 0 Value
-[--channels=8x] 0 0 Value
-[--channels=0x8] 0 0 Value
-[--channels=00000000000000000008] 0 0 Range
-[--channels 99999999999999999999] 1 0 Range
-[--channels 9999999999999999999x] 1 0 Value
-[--ring 0] 1 0 Range
-[--ring=16385] 0 0 Range
-[--ring=1e3] 0 0 Value
-[--ring ten] 1 0 Value
-[--down 0] 1 0 Range
-[--down=1000000001] 0 0 Range
-[--down 1/2] 1 0 Value
-[--job make --seed 2147483648] 3 0 Range
-[--job make --seed x] 3 0 Value
-[--job make --seed -1] 2 0 NoValue
-[--job make --count 0] 3 0 Range
-[--job make --count 1000001] 3 0 Range
-# rates: N is judged whole, and then D
-[--rate 0] 1 0 Range
-[--rate=1000000000000001] 0 0 Range
-[--rate=10000000000000000000] 0 0 Range
-[--rate=+5] 0 0 Value
-[--rate=1.5] 0 0 Value
-[--rate 5/] 1 0 Value
-[--rate=/5] 0 0 Value
-[--rate=/] 0 0 Value
-[--rate 5/1/1] 1 0 Value
-[--rate 1/+1] 1 0 Value
-[--rate=5/0] 0 0 Range
-[--rate=5/1000000001] 0 0 Range
-[--rate 0/x] 1 0 Range
-[--rate x/0] 1 0 Value
-[--rate=0/0] 0 0 Range
-[--rate=x/x] 0 0 Value
-# behind all words: too few, too many before what an alternative is, and faults of words before both
-[--threads=no] 1 0 Few
-[--watch=yes] 1 0 Few
-[--job decode] 2 0 Few
-[--job find] 2 0 Few
-[--job=find --ring 5 --rate=5] 4 0 Few
-[a a a a a a a a a a a a a a a a a a a a a a a a a] 24 0 Many
-[a a a a a a a a a a a a a a a a a a a a a a a a --ring 5 a a] 26 0 Many
-[a=h --job find a=h a=h a=h a=h a=h a=h a=h a=h a=h] 10 0 Many
-[--job=find a=q a=h a=h a=h a=h a=h a=h a=h a=h] 9 0 Many
-[--job find D0=q] 2 3 Cond
-[--job=find D0] 1 0 Cond
-[D0=h =r --job=find] 1 0 Cond
-[D0=h --job find D1=h D10=] 4 4 Cond
-[--job=find D0=x D1=y] 1 3 Cond
-[--job=find D0=h D10=hh D1=y] 2 4 Cond
-[D0=q --job=find --ring=0] 2 0 Range
-[--job=find D0=q --x] 2 0 Unknown
-[--job=find a a a a a a a a a --job] 10 0 Repeat
-# a job that takes no other words
-[--job make i2c] 2 0 Extra
-[i2c --job make uart] 0 0 Extra
-# a part reads raw samples and writes no binary data, which is judged behind all else
-[--job part --format vcd any] 5 0 Clash
-[a --format=csv --job=part] 3 0 Clash
-[--job part --binary a b] 5 0 Clash
-[--job part --format vcd] 4 0 Few
-[--job part --format vcd --from] 4 0 NoValue
-[--from a --from=b] 2 0 Repeat
-[--from=] 0 0 Empty
-# how many words there are is told before their bytes, and a value is judged as a word is
-[.] 0 0 Few
-255[a] 24 0 Many
-256[a] 256 0 Many
-256[a*4096] 256 0 Many
-255[--ring a] 256 0 Many
-255[--ring -a] 255 0 NoValue
-254[--ring a] 255 0 Value
-[a*4096] 0 0 Long
-1[-*4096] 1 0 Long
-[--show=*4089] 1 0 Few
-[--show=*4090] 0 0 Long
-[--show x*4095] 2 0 Few
-1[--show x*4096] 2 0 Long
-1[--show -*4096] 1 0 NoValue";
+// Settings that words make; which words are at fault is in the rows of `run_rows`. A row has words between brackets, and behind
+// them what they give. In a word a star stands before the number of bytes `x` that go on.
 
 // The job, the channels, the rate, whether there are threads, and the ring; for a VCD capture the units of
 // a sample besides, for a CSV capture what its records are, and whether the first one names its columns; for
@@ -243,16 +86,11 @@ fn word_of(alloc: Global, text: &str) -> Result<String, Fail> {
     Ok(word)
 }
 
-// So many words `a`, and behind them those of a line.
-fn words_of(alloc: Global, count: &str, line: &str) -> Result<Vec<String>, Fail> {
+// The words of a line. They stand between single blanks.
+fn words_of(alloc: Global, line: &str) -> Result<Vec<String>, Fail> {
     let mut words = Vec::new(alloc);
-    for _ in 0..count.parse::<u32>().unwrap_or(0) {
-        words.push(String::from_str(alloc, "a")?)?;
-    }
     for text in line.split(' ') {
-        if text != "." {
-            words.push(word_of(alloc, text)?)?;
-        }
+        words.push(word_of(alloc, text)?)?;
     }
     Ok(words)
 }
@@ -318,22 +156,24 @@ fn texts_of(alloc: Global, settings: &Settings) -> Result<String, Fail> {
     Ok(texts)
 }
 
-/// Whether words give what their row says: their fault, or what they set. They stand between single blanks, so that two
-/// blanks have an empty word between them.
+/// Whether words set what their row says.
 pub fn holds(alloc: Global, row: &str) -> Result<bool, Fail> {
-    let (count, line, want) = parts_of(row);
-    let words = words_of(alloc, count, line)?;
-    match read_words(alloc, &words) {
+    let (_, line, want) = parts_of(row);
+    match read_words(alloc, &words_of(alloc, line)?) {
         Ok(settings) => {
             let values = values_of(alloc, &settings)?;
             let texts = texts_of(alloc, &settings)?;
             Ok(values.as_str() == want || texts.as_str().trim_end() == want)
         }
-        Err(WordsError::Fault(fault)) => {
-            let told = format!(in alloc; "{} {} {:?}", fault.word, fault.at, fault.why)?;
-            Ok(told.as_str() == want)
-        }
-        Err(WordsError::NoMemory) => Ok(false),
+        Err(_) => Ok(false),
+    }
+}
+
+/// Whether a word asks for help or the version: where these are no first words of the program, they are no options.
+pub fn is_unknown(alloc: Global, word: &str) -> Result<bool, Fail> {
+    match read_words(alloc, &words_of(alloc, word)?) {
+        Err(WordsError::Fault(fault)) => Ok(fault.word == 0 && fault.why == WordWhy::Unknown),
+        _ => Ok(false),
     }
 }
 

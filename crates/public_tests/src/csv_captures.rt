@@ -2,7 +2,6 @@
 ghost use Rattle.std.specs.Prelude.{◌≤◌, ◌<◌, ℕ, length, slice_index};
 
 use crate::rows::{add_text, is_send, numbers_of, parts_of, source_of};
-use crate::runs::run_over;
 use capture_any::{Capture, Form, Runs};
 use capture_csv::CsvReader;
 use la_base::{CsvMode, Pins, Rate, Run, Word};
@@ -36,26 +35,6 @@ const ROWS: &str = "\
 1[times yes] t,A/0,0/0.002,1/ > [(0, 2)] > Some(Read)
 1[rows yes] A,B/0,1/1,1 > [(2, 1)] > Some(Read)
 1[rows yes] A,B > [] > Some(Read)";
-
-// How many columns a file has, the words of a run over it, and what that gives. The line of names is the second.
-const WIDE: [(u32, &str, &str); 4] = [
-    (4_096, "--format csv --job find any", "0 >  > 0: 0|"),
-    (
-        4_097,
-        "--format csv --job find any",
-        "3 > ldecode: capture at 2: TooMany| > ",
-    ),
-    (
-        4_097,
-        "--format csv --csv times --job find any",
-        "0 >  > 0: 0|",
-    ),
-    (
-        4_098,
-        "--format csv --csv times --job find any",
-        "3 > ldecode: capture at 2: TooMany| > ",
-    ),
-];
 
 // The first so many channels.
 fn first_pins(channels: u32) -> Pins
@@ -156,23 +135,6 @@ fn rows_of_csv_captures(rt: HostRuntime) -> Result<(), Fail> {
     capture_csv::worked_lines_hold();
     capture_csv::worked_rows_hold();
     capture_csv::worked_times_hold();
-    Ok(())
-}
-
-#[test]
-fn records_of_many_columns(rt: HostRuntime) -> Result<(), Fail> {
-    let alloc = rt.alloc();
-    for &(columns, words, want) in &WIDE {
-        let mut bytes = b"; wide\n".to_vec(alloc)?;
-        for _ in 0..2 {
-            for _ in 1..columns {
-                bytes.extend_from_slice(b"0,")?;
-            }
-            bytes.extend_from_slice(b"0\n")?;
-        }
-        let told = run_over(&rt, alloc, words, &bytes, 1_000, &[], 256, &[], 256)?;
-        assert!(rt; told.as_str() == want, "{columns}");
-    }
     Ok(())
 }
 

@@ -40,5 +40,3 @@ mod threads;
 mod tokens;
 #[cfg(test)]
 mod views;
-#[cfg(test)]
-mod wide;

@@ -10,8 +10,8 @@ use stack_spec::{ChainWord, Stack, read_stack};
 use std::alloc::Global;
 use std::test::Fail;
 
-// The stack of two serial lines, of which `uart-2` is the second.
-fn two_lines(
+/// The stack of two serial lines, of which `uart-2` is the second.
+pub fn two_lines(
     alloc: Global,
     show: Option<&ChainWord>,
     binary: Option<&ChainWord>,

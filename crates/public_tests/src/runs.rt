@@ -1,7 +1,7 @@
 // Whole runs through the public call.
 ghost use Rattle.std.specs.Prelude.{◌≤◌};
 
-use crate::rows::{barred, bytes_of, is_front, source_of, words_of};
+use crate::rows::{barred, bytes_of, is_front, numbers_of, source_of, words_of};
 use la_io::{CaptureFault, MemSink, MemSource};
 use ldecode::{PlainPacer, Status, exit_code, run, run_here};
 use std::alloc::Global;
@@ -85,10 +85,10 @@ fn told_by<R: Threads + Wait + Sync>(
     Ok(format!(in alloc; "{code} > {notices} > {written}")?)
 }
 
-/// What a run of these words over these bytes gives: the exit status, the notices and what is written. Reads take
-/// `length` bytes and writes `most`; those of these numbers fail; there is room for so many bytes. It is run without
-/// threads and with them, and where they give two things both are told.
-pub fn run_over<R: Threads + Wait + Sync>(
+// What a run of these words over these bytes gives: the exit status, the notices and what is written. Reads take
+// `length` bytes and writes `most`; those of these numbers fail; there is room for so many bytes. It is run without
+// threads and with them, and where they give two things both are told.
+fn run_over<R: Threads + Wait + Sync>(
     rt: &R,
     alloc: Global,
     words: &str,
@@ -114,72 +114,49 @@ pub fn run_over<R: Threads + Wait + Sync>(
     Ok(format!(in alloc; "{here} but with threads {apart}")?)
 }
 
-// The words of a run, and its bytes; the bytes of a read, the reads that fail, the bytes of a write, the writes that fail
-// and the room; and what it gives.
-const FAILURES: [(&str, &str, usize, &[u64], usize, &[u64], usize, &str); 6] = [
-    (
-        "--job find D0=h",
-        "01",
-        AMPLE,
-        &[0],
-        AMPLE,
-        &[],
-        AMPLE,
-        "2 > ldecode: read fault| > ",
-    ),
-    (
-        "--job find D0=h",
-        "01",
-        1,
-        &[],
-        AMPLE,
-        &[0],
-        AMPLE,
-        "4 > ldecode: write fault| > ",
-    ),
-    (
-        "--threads no i2c:scl=D0:sda=D1",
-        WRITE_OF_50,
-        1,
-        &[10],
-        AMPLE,
-        &[],
-        AMPLE,
-        "2 > ldecode: read fault| > 1-1 i2c-1: Start|",
-    ),
-    (
-        BUS,
-        WRITE_OF_50,
-        AMPLE,
-        &[],
-        1,
-        &[5],
-        AMPLE,
-        "4 > ldecode: write fault| > 1-1 i",
-    ),
-    // both streams fail
-    (
-        BUS,
-        WRITE_OF_50,
-        1,
-        &[23],
-        1,
-        &[0],
-        AMPLE,
-        "4 > ldecode: write fault| > ",
-    ),
-    // no room for the last byte
-    (
-        BUS,
-        WRITE_OF_50,
-        7,
-        &[],
-        AMPLE,
-        &[],
-        81,
-        "4 > ldecode: write fault| > 1-1 i2c-1: Start|3-17 i2c-1: Address write: 50|19-19 i2c-1: ACK|22-22 i2c-1: Stop",
-    ),
-];
+// The words of a run; its bytes; the bytes of a read, the read that fails, the bytes of a write, the write that fails, a hyphen
+// where none does, and the room; and what it gives. Of the last two both streams fail, and there is no room for the last byte.
+const FAILURES: &str = "\
+--job find D0=h;01;9 0 9 - 99;2 > ldecode: read fault| > 
+--job find D0=h;01;1 - 9 0 99;4 > ldecode: write fault| > 
+--threads no i2c:scl=D0:sda=D1;0301020300010203000100010001000100010001000103;1 10 99 - 99;2 > ldecode: read fault| > 1-1 i2c-1: Start|
+i2c:scl=D0:sda=D1;0301020300010203000100010001000100010001000103;99 - 1 5 99;4 > ldecode: write fault| > 1-1 i
+i2c:scl=D0:sda=D1;0301020300010203000100010001000100010001000103;1 23 1 0 99;4 > ldecode: write fault| > 
+i2c:scl=D0:sda=D1;0301020300010203000100010001000100010001000103;7 - 99 - 81;4 > ldecode: write fault| > 1-1 i2c-1: Start|3-17 i2c-1: Address write: 50|19-19 i2c-1: ACK|22-22 i2c-1: Stop";
+
+// What the run of a row gives.
+fn row_gives<R: Threads + Wait + Sync>(rt: &R, alloc: Global, row: &str) -> Result<String, Fail> {
+    let mut parts = row.split(';');
+    let words = parts.next().unwrap_or("");
+    let bytes = bytes_of(alloc, parts.next().unwrap_or(""))?;
+    let mut numbers = parts.next().unwrap_or("").split(' ');
+    let length = numbers
+        .next()
+        .unwrap_or("")
+        .parse()
+        .unwrap_or(1_usize)
+        .max(1);
+    let read_fails = numbers_of(alloc, numbers.next().unwrap_or(""))?;
+    let most = numbers
+        .next()
+        .unwrap_or("")
+        .parse()
+        .unwrap_or(1_usize)
+        .max(1);
+    let write_fails = numbers_of(alloc, numbers.next().unwrap_or(""))?;
+    let room = numbers.next().unwrap_or("").parse().unwrap_or(0);
+    run_over(
+        rt,
+        alloc,
+        words,
+        &bytes,
+        length,
+        &read_fails,
+        most,
+        &write_fails,
+        room,
+    )
+}
 
 // However a capture is cut into reads and a listing into writes, the same is written.
 fn cut_anyhow<R: Threads + Wait + Sync + Abort>(
@@ -269,22 +246,9 @@ fn any_cut_gives_the_same_and_a_failure_a_front(rt: HostRuntime) -> Result<(), F
 
 #[test]
 fn failures_have_their_notice_and_status(rt: HostRuntime) -> Result<(), Fail> {
-    let alloc = rt.alloc();
-    for &(words, capture, length, read_fails, most, write_fails, room, want) in &FAILURES {
-        let bytes = bytes_of(alloc, capture)?;
-        assert!(rt; length >= 1 && most >= 1);
-        let gave = run_over(
-            &rt,
-            alloc,
-            words,
-            &bytes,
-            length,
-            read_fails,
-            most,
-            write_fails,
-            room,
-        )?;
-        assert!(rt; gave.as_str() == want);
+    for row in FAILURES.split('\n') {
+        let (_, want) = row.rsplit_once(';').unwrap_or(("", "?"));
+        assert!(rt; row_gives(&rt, rt.alloc(), row)?.as_str() == want, "{row}");
     }
     let fault = Status::Capture(CaptureFault::Bytes);
     assert!(rt; exit_code(&fault) == 3 && exit_code(&Status::NoMemory) == 5);

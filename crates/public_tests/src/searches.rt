@@ -3,7 +3,7 @@ ghost use Rattle.la_base.specs.declared.samples.TheConstants.{MOST_PINS};
 ghost use Rattle.std.specs.Prelude.{◌≤◌, length};
 ghost use Rattle.wait_cond.specs.Binding.{AllBelow, Distinct};
 
-use crate::rows::{barred, is_front, parts_of, source_of};
+use crate::rows::{barred, is_front, source_of};
 use capture_any::{Capture, Form};
 use find_job::{find, find_buffered};
 use la_base::{Names, Pins, Rate};
@@ -21,17 +21,6 @@ static SAMPLES: [u8; 5] = [0x00, 0x01, 0x03, 0x03, 0x02];
 const WORDS: &str = "D0=r D1=h skip=2";
 
 const LINES: &str = "1: 0,2|2: 1|3: 1|4: 1|";
-
-// What conditions give over these samples.
-pub const CONDITIONS: &str = "\
-[any] 0: 0|1: 0|2: 0|3: 0|4: 0|
-[skip=3] 2: 0|
-[D0=s] 0: 0|2: 0|3: 0|
-[D0=e D1=e] 1: 0|2: 1|4: 0|
-[D0=h,D1=h] 2: 0|3: 0|
-[D1=r,D0=r]
-[D1=l D1=l D0=f] 0: 0,1|1: 0,1|4: 2|
-[D0=h,skip=3 D7=l,skip=2] 1: 1|3: 1|";
 
 // From so many samples on so many bytes of the lines are given.
 const SETTLED: [(usize, usize); 4] = [(2, 7), (3, 12), (4, 17), (5, 22)];
@@ -98,13 +87,6 @@ fn search(
     };
     let written = barred(alloc, sink.written())?;
     Ok(format!(in alloc; "{end:?} {written}")?)
-}
-
-/// Whether a search gives what its row says.
-pub fn holds(alloc: Global, row: &str) -> Result<bool, Fail> {
-    let (_, words, want) = parts_of(row);
-    let told = search(alloc, words, 8, 2, &[], AMPLE, &[], true)?;
-    Ok(told.as_str().strip_prefix("Done ") == Some(want))
 }
 
 #[test]

@@ -3,10 +3,11 @@ ghost use Rattle.std.specs.Prelude.{◌≡◌, ◌≤◌};
 ghost use Rattle.view_store.specs.Listings.{nothing};
 ghost use Rattle.view_store.specs.Views.{pending, published, reader_shelf, shelf_of};
 
+use super::shelves::starts_of;
 use la_base::NoMemory;
 use la_io::{MemSink, MemSource};
 use ldecode::{PlainPacer, exit_code, run_watched};
-use std::alloc::{AllocError, Global};
+use std::alloc::Global;
 use std::sync::Wait;
 use std::test::Fail;
 use std::thread::Threads;
@@ -35,15 +36,6 @@ struct Answers {
     before: Answer,
     some: Answer,
     none: Answer,
-}
-
-// Where the notes of an answer start.
-fn starts_of(alloc: Global, answer: &Answer) -> Result<Vec<u64>, AllocError> {
-    let mut starts = Vec::new(alloc);
-    for note in &answer.notes {
-        starts.push(note.1.start)?;
-    }
-    Ok(starts)
 }
 
 // Runs the words on the capture, onto a new shelf: the exit status.

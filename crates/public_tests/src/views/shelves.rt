@@ -44,8 +44,8 @@ fn fill<R: Wait>(
     writer.publish(rt)
 }
 
-// Where the notes of an answer start.
-fn starts_of(alloc: Global, answer: &Answer) -> Result<Vec<u64>, AllocError> {
+/// Where the notes of an answer start.
+pub fn starts_of(alloc: Global, answer: &Answer) -> Result<Vec<u64>, AllocError> {
     let mut starts = Vec::new(alloc);
     for note in &answer.notes {
         starts.push(note.1.start)?;

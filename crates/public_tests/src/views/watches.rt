@@ -1,16 +1,17 @@
 // What looks on as notes are listed adds them to a shelf.
-ghost use Rattle.std.specs.Prelude.{◌≡◌, ◌≤◌, IfOk, length};
-ghost use Rattle.std.specs.String.{string_bytes};
+ghost use Rattle.std.specs.Prelude.{◌≡◌, length};
 ghost use Rattle.stack_spec.specs.Stacks.{instances_in};
 ghost use Rattle.view_store.specs.Listings.{nothing};
 ghost use Rattle.view_store.specs.Views.{pending, published};
 
+use crate::listers::two_lines;
+use crate::stacks::word;
 use la_base::{Mark, NoMemory, Note};
 use la_io::{MarkTake, MemSink};
 use note_lister::{ListStop, Lister, Watch};
 use note_order::Entry;
 use shelf_watch::ShelfWatch;
-use stack_spec::{ChainWord, Stack, read_stack};
+use stack_spec::Stack;
 use std::alloc::Global;
 use std::sync::Wait;
 use std::test::Fail;
@@ -74,28 +75,6 @@ fn many_notes_are_published_at_once(rt: HostRuntime) -> Result<(), Fail> {
     assert_eq!(rt; (all.seen, all.ended), (1025, false));
     assert_eq!(rt; (ended.seen, ended.ended), (1025, true));
     Ok(())
-}
-
-fn word(alloc: Global, word: u32, text: &str) -> Result<ChainWord, Fail>
-    ensures { IfOk result (λ chain. length (string_bytes chain.text) ≤ 4096) }
-{
-    if text.len() > 4096 {
-        return Err("a text is too long".into());
-    }
-    let text = String::from_str(alloc, text)?;
-    Ok(ChainWord { word, text })
-}
-
-// The stack of two serial lines, of which the second is shown.
-fn two_lines(alloc: Global) -> Result<Stack, Fail> {
-    let first = word(alloc, 0, "uart:rx=D0")?;
-    let second = word(alloc, 1, "uart:rx=D1")?;
-    let show = word(alloc, 2, "uart-2")?;
-    let chains = [first, second];
-    match read_stack(alloc, &chains, Some(&show), None) {
-        Ok(stack) => Ok(stack),
-        Err(_) => Err("no stack".into()),
-    }
 }
 
 // Ends a shelf behind a listing that was stopped for this cause, if it was.
@@ -166,11 +145,12 @@ fn listed<R: Wait>(
     came
 }
 
-// A sink that takes 4 bytes at once and fails in its call of this number.
+// A sink that takes 4 bytes at once and fails in its call of this number; the second line is shown.
 #[test]
 fn a_note_is_seen_behind_its_line(rt: HostRuntime) -> Result<(), Fail> {
     let alloc = rt.alloc();
-    let stack = two_lines(alloc)?;
+    let show = word(alloc, 2, "uart-2")?;
+    let stack = two_lines(alloc, Some(&show), None)?;
     assert!(rt; stack.count() == 2);
     for (failed, bytes, seen) in [(100u64, 33usize, 2u64), (5, 20, 1), (3, 12, 0)] {
         let mut fails = Vec::new(alloc);
