@@ -1,5 +1,5 @@
-//! Tests of the decoders, of what stands below them, and of checkpoints, through their public calls:
-//! what no contract says, and values from outside.
+//! Tests of the decoders, of what stands below them, of checkpoints, and of links and stages, through
+//! their public calls: what no contract says, and values from outside.
 #![tactic(auto)]
 
 #[cfg(test)]
@@ -24,6 +24,8 @@ mod plain;
 mod rates;
 #[cfg(test)]
 mod serial;
+#[cfg(test)]
+mod stages;
 #[cfg(test)]
 mod waits;
 #[cfg(test)]

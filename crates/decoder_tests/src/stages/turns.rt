@@ -1,5 +1,5 @@
 // The answers of single turns.
-use crate::line::{opened_line, opened_midi};
+use super::line::{opened_line, opened_midi};
 use la_base::{Feed, Mark, Packet, PacketKind};
 use stage_ring::link;
 use stage_run::{Input, Stage, Stretch, Turn};

@@ -3,8 +3,8 @@
 ghost use Rattle.std.specs.Prelude.{◌≡◌, [], IfOk};
 ghost use Rattle.stage_ring.specs.Link.{received, sent};
 
-use crate::alone::{given_alone, shown};
-use crate::line::{BYTES, opened_line, opened_midi, opened_modbus, runs_of, stretches_of};
+use super::alone::{given_alone, shown};
+use super::line::{BYTES, opened_line, opened_midi, opened_modbus, runs_of, stretches_of};
 use decoder_core::Machine;
 use la_base::{Feed, Mark, Run};
 use stage_ring::{Rx, Tx, link};

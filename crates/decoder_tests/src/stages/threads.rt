@@ -2,7 +2,7 @@
 // one thread gives of it.
 ghost use Rattle.std.specs.Prelude.{◌≡◌, ◌≢◌, ◌≤◌};
 
-use crate::bus::{Marks, Samples, opened};
+use super::bus::{Marks, Samples, opened};
 use decoder_core::RunEnd;
 use decoder_set::Kind;
 use stack_direct::run_direct;

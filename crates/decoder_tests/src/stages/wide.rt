@@ -2,8 +2,8 @@
 // what each gives is what a run on one thread gives of it.
 ghost use Rattle.std.specs.Prelude.{◌≡◌, ◌≤◌, ◌-◌, ◌^◌, drop, take, vec_len};
 
-use crate::bus::Marks;
-use crate::line::opened_line_on;
+use super::bus::Marks;
+use super::line::opened_line_on;
 use dec_uart::Uart;
 use decoder_core::{Driver, RunEnd};
 use la_base::{Run, Word};

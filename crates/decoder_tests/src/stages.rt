@@ -1,0 +1,9 @@
+// Stages and their links, and whole runs of small trees, on one thread and with a thread for each decoder.
+mod alone;
+mod bus;
+mod line;
+mod links;
+mod threads;
+mod trees;
+mod turns;
+mod wide;
