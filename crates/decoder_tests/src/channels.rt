@@ -2,31 +2,6 @@
 use crate::moving::is_send;
 use la_base::*;
 
-const NAMES: [&str; 8] = ["SCL", "7", "SCL", "", "1", "0007", "sda", "D1"];
-
-// The channels that references find among these names.
-const REFERENCES: [(&str, Option<u32>); 16] = [
-    ("SCL", Some(0)),
-    ("D1", Some(7)),
-    // a name goes before a number
-    ("7", Some(1)),
-    ("1", Some(4)),
-    ("0007", Some(5)),
-    ("", Some(3)),
-    // numbers
-    ("0", Some(0)),
-    ("07", Some(7)),
-    ("0006", Some(6)),
-    // no number: five digits, the count, a sign, a letter
-    ("00006", None),
-    ("8", None),
-    ("9999", None),
-    ("+1", None),
-    ("1a", None),
-    ("scl", None),
-    ("SC", None),
-];
-
 const WIRES: [(PacketKind, Wire); 9] = [
     (PacketKind::I2cStart, Wire::I2c),
     (PacketKind::I2cAck, Wire::I2c),
@@ -39,19 +14,16 @@ const WIRES: [(PacketKind, Wire); 9] = [
     (PacketKind::NetByte, Wire::OwNet),
 ];
 
+// No word refers to the channel without a name; what others refer to is in the rows of `run_rows`.
 #[test]
-fn references_of_channels(rt: HostRuntime) {
+fn a_channel_without_a_name(rt: HostRuntime) {
     let mut names = Names::new(rt.alloc());
     is_send(&names);
-    assert!(rt; names.count() == 0);
-    for &name in &NAMES {
+    for name in ["SCL", "", "sda"] {
         assert!(rt; names.count() < 4096);
         names.push(name.as_bytes()).expect(&rt, "memory");
     }
-    assert!(rt; names.count() == 8);
-    for &(reference, want) in &REFERENCES {
-        assert!(rt; names.find(reference.as_bytes()) == want, "{reference}");
-    }
+    assert!(rt; names.find(b"") == Some(1) && names.find(b"SC").is_none());
 }
 
 #[test]

@@ -1,6 +1,5 @@
 // The table of kinds, by hand from the options and classes that each kind has.
-ghost use Rattle.std.specs.Prelude.{◌≡◌, ◌≤◌, ◌^◌, ◌++◌, ◌∷◌, [], None};
-
+use crate::decoders::feeds::{RATE, holds, opened, setup_of};
 use crate::moving::is_send;
 use decoder_core::{Machine, OptFault, Outs, Taken};
 use decoder_set::{
@@ -8,112 +7,62 @@ use decoder_set::{
     kind_name, kind_of, kinds_are_whole, kinds_read_their_wires, number_of,
     one_input_makes_one_decoder, options_of, output_of, values_in_range_fit,
 };
-use la_base::{Feed, Note, Out, Packet, PacketKind, Rate, Run, Wire};
+use la_base::{Feed, Run, Wire};
+use std::alloc::{AllocError, Global};
+use std::test::Fail;
 
-const RATE: Rate = Rate {
-    num: 1_000_000,
-    den: 1,
-};
+// Each kind, its options with their usual numbers; the kind whose packets it reads, if it reads any; and whether it gives packets
+// to others, or asks for options of the kind that it stands on.
+const KINDS: &str = "\
+i2c scl 0 sda 0||gives
+spi sck 0 mosi 0 miso 0 cs 0 cpol 0 cpha 0 bits 8 mode 0||gives
+uart rx 0 baud 9600 bits 8 parity 0 stop 1 sp 50||gives
+eeprom24 addr 0 size 0 page 0 gcall 0|i2c|
+onewire_link dq 0 reset 480000 window 100000 bit 20000||gives
+onewire_net|onewire_link|gives
+ds1307 gcall 0|i2c|
+lm75 addr 0 gcall 0|i2c|
+ds18b20|onewire_net|
+flash25|spi|asks
+modbus gap 4000000|uart|asks
+midi|uart|asks";
 
-// Each kind, what it reads and gives, and its options, each with its usual number.
-const KINDS: [(&str, Kind, Wire, Wire, &[(&str, u64)]); 12] = [
-    (
-        "i2c",
-        Kind::I2c,
-        Wire::Logic,
-        Wire::I2c,
-        &[("scl", 0), ("sda", 0)],
-    ),
-    (
-        "spi",
-        Kind::Spi,
-        Wire::Logic,
-        Wire::Spi,
-        &[
-            ("sck", 0),
-            ("mosi", 0),
-            ("miso", 0),
-            ("cs", 0),
-            ("cpol", 0),
-            ("cpha", 0),
-            ("bits", 8),
-            ("mode", 0),
-        ],
-    ),
-    (
-        "uart",
-        Kind::Uart,
-        Wire::Logic,
-        Wire::Uart,
-        &[
-            ("rx", 0),
-            ("baud", 9600),
-            ("bits", 8),
-            ("parity", 0),
-            ("stop", 1),
-            ("sp", 50),
-        ],
-    ),
-    (
-        "eeprom24",
-        Kind::Eeprom24,
-        Wire::I2c,
-        Wire::Nothing,
-        &[("addr", 0), ("size", 0), ("page", 0), ("gcall", 0)],
-    ),
-    (
-        "onewire_link",
-        Kind::OwLink,
-        Wire::Logic,
-        Wire::OwLink,
-        &[
-            ("dq", 0),
-            ("reset", 480_000),
-            ("window", 100_000),
-            ("bit", 20_000),
-        ],
-    ),
-    ("onewire_net", Kind::OwNet, Wire::OwLink, Wire::OwNet, &[]),
-    (
-        "ds1307",
-        Kind::Ds1307,
-        Wire::I2c,
-        Wire::Nothing,
-        &[("gcall", 0)],
-    ),
-    (
-        "lm75",
-        Kind::Lm75,
-        Wire::I2c,
-        Wire::Nothing,
-        &[("addr", 0), ("gcall", 0)],
-    ),
-    ("ds18b20", Kind::Ds18b20, Wire::OwNet, Wire::Nothing, &[]),
-    ("flash25", Kind::Flash25, Wire::Spi, Wire::Nothing, &[]),
-    (
-        "modbus",
-        Kind::Modbus,
-        Wire::Uart,
-        Wire::Nothing,
-        &[("gap", 4_000_000)],
-    ),
-    ("midi", Kind::Midi, Wire::Uart, Wire::Nothing, &[]),
-];
+// The name of a kind, and its options with their usual numbers.
+fn options_told(alloc: Global, kind: Kind) -> Result<String, AllocError> {
+    let mut told = String::from_str(alloc, kind_name(kind))?;
+    for row in options_of(kind) {
+        write!(told, " {} {}", row.name, number_of(row.form, None))?;
+    }
+    Ok(told)
+}
+
+// What a kind reads.
+fn reads(parent: &str) -> Wire {
+    match kind_of(parent.as_bytes()) {
+        Some(kind) => output_of(kind),
+        None => Wire::Logic,
+    }
+}
 
 #[test]
-fn kinds_have_their_names_wires_and_options(rt: HostRuntime) {
-    for &(name, kind, input, output, options) in &KINDS {
-        assert!(rt; kind_of(name.as_bytes()) == Some(kind));
-        assert!(rt; kind_name(kind) == name);
-        assert!(rt; input_of(kind) == input);
-        assert!(rt; output_of(kind) == output);
-        assert!(rt; asked_of(kind).is_empty() != ["flash25", "modbus", "midi"].contains(&name));
-        assert!(rt; options_of(kind).len() == options.len());
-        for (row, (option, usual)) in options_of(kind).iter().zip(options) {
-            assert!(rt; row.name == *option && number_of(row.form, None) == *usual);
-        }
+fn kinds_have_their_names_wires_and_options(rt: HostRuntime) -> Result<(), Fail> {
+    for row in KINDS.split('\n') {
+        let (options, rest) = row.split_once('|').unwrap_or(("", ""));
+        let (parent, more) = rest.split_once('|').unwrap_or(("", ""));
+        let name = options.split(' ').next().unwrap_or("");
+        let kind = kind_of(name.as_bytes()).ok_or("no kind")?;
+        assert!(rt; options_told(rt.alloc(), kind)?.as_str() == options);
+        assert!(rt; input_of(kind) == reads(parent), "{row}");
+        assert!(rt;
+            (output_of(kind) == Wire::Nothing) == (more != "gives"),
+            "{row}"
+        );
+        assert!(rt; asked_of(kind).is_empty() == (more != "asks"), "{row}");
     }
-    assert!(rt; groups_of(Kind::Spi).len() == 1);
+    assert!(rt; output_of(Kind::I2c) == Wire::I2c && output_of(Kind::Spi) == Wire::Spi);
+    assert!(rt; output_of(Kind::Uart) == Wire::Uart && output_of(Kind::OwNet) == Wire::OwNet);
+    assert!(rt; output_of(Kind::OwLink) == Wire::OwLink && groups_of(Kind::Spi).len() == 1);
+    Ok(())
 }
 
 #[test]
@@ -149,17 +98,18 @@ modbus data -
 midi data -";
 
 #[test]
-fn kinds_have_their_classes(rt: HostRuntime) {
+fn kinds_have_their_classes(rt: HostRuntime) -> Result<(), Fail> {
     for row in CLASSES.split('\n') {
         let (kind, rest) = row.split_once(' ').unwrap_or(("", ""));
         let (class, want) = rest.split_once(' ').unwrap_or(("", "?"));
-        let kind = kind_of(kind.as_bytes()).expect(&rt, "a kind");
-        let told = class_of(kind, class.as_bytes());
-        assert!(rt;
-            told == want.parse::<u16>().ok() && (want == "-" || told.is_some()),
-            "{row}"
-        );
+        let kind = kind_of(kind.as_bytes()).ok_or("no kind")?;
+        let told = match class_of(kind, class.as_bytes()) {
+            Some(class) => format!(in rt.alloc(); "{class}")?,
+            None => String::from_str(rt.alloc(), "-")?,
+        };
+        assert!(rt; told.as_str() == want, "{row}");
     }
+    Ok(())
 }
 
 // A row for each opening: the kind, its values, with a hyphen for one that isn't given, and the answer at a
@@ -239,29 +189,20 @@ midi > ok";
 // What becomes of a decoder with these values.
 fn answer_to(kind: Kind, values: OptValues) -> &'static str {
     match AnyDecoder::open(kind, values, RATE) {
-        Ok(decoder) => {
-            one_input_makes_one_decoder(&decoder, &decoder);
-            "ok"
-        }
+        Ok(_) => "ok",
         Err(OptFault::Range) => "range",
         Err(OptFault::Rate) => "rate",
     }
 }
 
 #[test]
-fn values_are_judged_by_their_rows(rt: HostRuntime) {
+fn values_are_judged_by_their_rows(rt: HostRuntime) -> Result<(), Fail> {
     for row in OPENINGS.split('\n') {
-        let (left, want) = row.split_once(" > ").unwrap_or(("", "?"));
-        let mut words = left.split(' ');
-        let kind = kind_of(words.next().unwrap_or("").as_bytes()).expect(&rt, "a kind");
-        let mut given = [None; MOST_OPTIONS];
-        for (place, word) in words.enumerate() {
-            if place < MOST_OPTIONS {
-                given[place] = word.parse::<u64>().ok();
-            }
-        }
-        assert!(rt; answer_to(kind, OptValues { given }) == want, "{row}");
+        let (setup, want) = row.split_once(" > ").unwrap_or(("", "?"));
+        let (kind, values) = setup_of(setup)?;
+        assert!(rt; answer_to(kind, values) == want, "{row}");
     }
+    Ok(())
 }
 
 #[test]
@@ -288,109 +229,48 @@ fn values_are_kept_as_given(rt: HostRuntime) {
     assert!(rt; values.number(options_of(Kind::I2c), 2) == 0);
 }
 
-// START: SDA falls while SCL is high.
+// What a decoder answers to a feed: what it hasn't taken of a run. A START: SDA falls while SCL is high.
 #[test]
-fn an_opened_decoder_takes_any_feed(rt: HostRuntime) {
-    let mut given = [None; MOST_OPTIONS];
-    given[0] = Some(1);
-    given[1] = Some(0);
-    match AnyDecoder::open(Kind::I2c, OptValues { given }, RATE) {
-        Ok(mut decoder) => {
-            is_send(&decoder);
-            one_input_makes_one_decoder(&decoder, &decoder);
-            let mut outs = Outs::new();
-            assert!(rt; decoder.wants() == Wire::Logic);
-            assert!(rt; decoder.floor() == 0);
-            let high = Feed::Run(Run { value: 3, len: 2 });
-            assert!(rt; decoder.step(high, &mut outs) == None);
-            assert!(rt; outs.list().is_empty());
-            let start = Feed::Run(Run { value: 2, len: 3 });
-            let left = Feed::Run(Run { value: 2, len: 2 });
-            assert!(rt; decoder.step(start, &mut outs) == Some(left));
-            let note = Note {
-                class: 0,
-                start: 2,
-                end: 2,
-                a: 0,
-                b: 0,
-            };
-            let packet = Packet {
-                kind: PacketKind::I2cStart,
-                start: 2,
-                end: 2,
-                a: 0,
-                b: 0,
-            };
-            assert!(rt; outs.list() == [Out::Note(note), Out::Packet(packet)].as_slice());
-            outs.clear();
-            assert!(rt; decoder.step(Feed::Packet(packet), &mut outs) == None);
-            assert!(rt; outs.list().is_empty());
-            outs.clear();
-            assert!(rt; decoder.step(Feed::End, &mut outs) == None);
-            assert!(rt; outs.list().is_empty());
-            assert!(rt; decoder.floor() == 3);
-            let low = [Run { value: 0, len: 2 }, Run { value: 1, len: 1 }];
-            outs.clear();
-            let taken = Taken {
-                count: 2,
-                rest: None,
-            };
-            assert!(rt; decoder.step_runs(&low, &mut outs) == taken);
-            assert!(rt; outs.list().is_empty());
-            assert!(rt; decoder.floor() == 6);
-        }
-        Err(_) => assert!(rt; false),
-    }
+fn a_decoder_answers_what_is_left(rt: HostRuntime) -> Result<(), Fail> {
+    let mut decoder = opened("i2c 1 0")?;
+    is_send(&decoder);
+    one_input_makes_one_decoder(&decoder, &decoder);
+    assert!(rt; decoder.wants() == Wire::Logic);
+    let mut outs = Outs::new();
+    let high = Feed::Run(Run { value: 3, len: 2 });
+    assert!(rt; decoder.step(high, &mut outs) == None);
+    outs.clear();
+    let start = Feed::Run(Run { value: 2, len: 3 });
+    let left = Feed::Run(Run { value: 2, len: 2 });
+    assert!(rt; decoder.step(start, &mut outs) == Some(left));
+    assert!(rt; outs.list().len() == 2);
+    outs.clear();
+    assert!(rt; decoder.step(Feed::End, &mut outs) == None && outs.list().is_empty());
+    outs.clear();
+    let low = [Run { value: 0, len: 2 }, Run { value: 1, len: 1 }];
+    let taken = Taken {
+        count: 2,
+        rest: None,
+    };
+    assert!(rt; decoder.step_runs(&low, &mut outs) == taken && decoder.floor() == 6);
+    Ok(())
 }
 
-// A byte of a word address, behind a START, an address and its acknowledge bit.
+// Feeds of other wires, and packets that stand before what was consumed, change nothing.
+const FEEDS: &str = "\
+i2c 1 0|=332 s@2-2 =01| 2-2 Start; 2-2 #s 0/0;
+eeprom24|s a50 k W00 d09@5-10 dA7| 50-59 Word address: 00A7;
+eeprom24|s a50 k =3 dA7| 40-49 Word address: 00A7;";
+
 #[test]
-fn a_decoder_of_packets_takes_any_feed(rt: HostRuntime) {
-    let values = OptValues {
-        given: [None; MOST_OPTIONS],
-    };
-    match AnyDecoder::open(Kind::Eeprom24, values, RATE) {
-        Ok(mut decoder) => {
-            is_send(&decoder);
-            one_input_makes_one_decoder(&decoder, &decoder);
-            let mut outs = Outs::new();
-            assert!(rt; decoder.wants() == Wire::I2c);
-            assert!(rt; decoder.floor() == 0);
-            for (kind, at, a) in [
-                (PacketKind::I2cStart, 10, 0),
-                (PacketKind::I2cAddress, 20, 0x50),
-                (PacketKind::I2cAck, 30, 0),
-                (PacketKind::SpiWord, 40, 0),
-                (PacketKind::I2cData, 5, 9),
-                (PacketKind::I2cData, 50, 0xA7),
-            ] {
-                outs.clear();
-                let packet = Packet {
-                    kind,
-                    start: at,
-                    end: at + 5,
-                    a,
-                    b: 0,
-                };
-                assert!(rt; decoder.step(Feed::Packet(packet), &mut outs) == None);
-                assert!(rt; outs.list().is_empty() == (at != 50));
-                assert!(rt; decoder.floor() == 10);
-            }
-            let word = Note {
-                class: 0,
-                start: 50,
-                end: 55,
-                a: 0xA7,
-                b: 0,
-            };
-            assert!(rt; outs.list() == [Out::Note(word)].as_slice());
-            outs.clear();
-            assert!(rt; decoder.step_run(Run { value: 3, len: 7 }, &mut outs) == None);
-            assert!(rt; outs.list().is_empty());
-            outs.clear();
-            assert!(rt; decoder.step(Feed::End, &mut outs) == None);
-            assert!(rt; outs.list().is_empty());
-        }
-        Err(_) => assert!(rt; false),
+fn a_decoder_takes_any_feed(rt: HostRuntime) -> Result<(), Fail> {
+    for row in FEEDS.split('\n') {
+        assert!(rt; holds(rt.alloc(), row)?, "{row}");
     }
+    let mut memory = opened("eeprom24")?;
+    assert!(rt; memory.wants() == Wire::I2c);
+    let mut outs = Outs::new();
+    let run = Run { value: 3, len: 7 };
+    assert!(rt; memory.step_run(run, &mut outs) == None && outs.list().is_empty());
+    Ok(())
 }

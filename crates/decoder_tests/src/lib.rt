@@ -23,8 +23,6 @@ mod plain;
 #[cfg(test)]
 mod rates;
 #[cfg(test)]
-mod serial;
-#[cfg(test)]
 mod stages;
 #[cfg(test)]
 mod waits;

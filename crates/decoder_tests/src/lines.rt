@@ -2,6 +2,8 @@
 ghost use Rattle.std.specs.Prelude.{◌≡◌, ◌<◌, ◌≤◌, ◌^◌};
 
 use line_text::{Decimal, LineBuf, ROOM, ShortText};
+use std::alloc::{AllocError, Global};
+use std::test::Fail;
 use text_parts::{
     NumberWhy, first_fault_is_answered, number_in, parts_fill_the_text, place_behind,
 };
@@ -10,17 +12,16 @@ use text_parts::{
 const DECIMALS: &str = "\
 0 7 99 100 107 199 200 10 1000000 12399 12300 12299 18446744073709551615 18446744073709551600 5";
 
-// Numbers in hexadecimal, in so many digits at least.
-const HEXADECIMALS: [(u64, u32, &str); 8] = [
-    (0, 1, "0"),
-    (0, 2, "00"),
-    (0xA0, 2, "A0"),
-    (0xEF40, 2, "EF40"),
-    (0x9FF, 4, "09FF"),
-    (0x10, 1, "10"),
-    (0xBCD, 16, "0000000000000BCD"),
-    (u64::MAX, 1, "FFFFFFFFFFFFFFFF"),
-];
+// Numbers, how many digits they have at least, and their text in hexadecimal.
+const HEXADECIMALS: &str = "\
+0 1 0
+0 2 00
+160 2 A0
+61248 2 EF40
+2559 4 09FF
+16 1 10
+3021 16 0000000000000BCD
+18446744073709551615 1 FFFFFFFFFFFFFFFF";
 
 // The text of a number with so many digits behind the point.
 #[tactic(auto, using(line_text::proofs::Widths::fixed_room))]
@@ -49,14 +50,24 @@ fn decimal_numbers_are_written(rt: HostRuntime) {
     }
 }
 
-#[test]
+// The text of a number in so many hexadecimal digits at least.
 #[tactic(auto, using(line_text::proofs::Widths::hex_room))]
+fn hex_line(number: u64, digits: u32) -> LineBuf
+    requires { (1 ≤ digits) × (digits ≤ 16) }
+{
+    let mut line = LineBuf::new();
+    line.push_hex(number, digits);
+    line
+}
+
+#[test]
 fn hexadecimal_numbers_are_written(rt: HostRuntime) {
-    for &(number, digits, text) in &HEXADECIMALS {
-        assert!(rt; 1 <= digits && digits <= 16);
-        let mut line = LineBuf::new();
-        line.push_hex(number, digits);
-        assert!(rt; line.bytes() == text.as_bytes(), "{number}");
+    for row in HEXADECIMALS.split('\n') {
+        let (number, rest) = row.split_once(' ').unwrap_or(("", ""));
+        let (digits, want) = rest.split_once(' ').unwrap_or(("", "?"));
+        let digits = digits.parse().unwrap_or(1_u32).clamp(1, 16);
+        let line = hex_line(number.parse().unwrap_or(0), digits);
+        assert!(rt; line.bytes() == want.as_bytes(), "{row}");
     }
 }
 
@@ -97,37 +108,45 @@ fn lines_are_pushed(rt: HostRuntime) {
     assert!(rt; line.bytes().len() == 256);
 }
 
-// A text, the least and the most number that it may be, and what is read.
-const NUMBERS: [(&str, u64, u64, Result<u64, NumberWhy>); 14] = [
-    ("0", 0, 9, Ok(0)),
-    ("007", 1, 64, Ok(7)),
-    ("64", 1, 64, Ok(64)),
-    ("0000000000000000064", 1, 64, Ok(64)),
-    (
-        "9999999999999999999",
-        1,
-        u64::MAX,
-        Ok(9_999_999_999_999_999_999),
-    ),
-    ("", 0, 9, Err(NumberWhy::Value)),
-    ("+5", 0, 9, Err(NumberWhy::Value)),
-    ("-5", 0, 9, Err(NumberWhy::Value)),
-    ("5 ", 0, 9, Err(NumberWhy::Value)),
-    ("1e3", 0, 9, Err(NumberWhy::Value)),
-    ("0", 1, 64, Err(NumberWhy::Range)),
-    ("65", 1, 64, Err(NumberWhy::Range)),
-    ("00000000000000000064", 1, 64, Err(NumberWhy::Range)),
-    ("99999999999999999999", 0, u64::MAX, Err(NumberWhy::Range)),
-];
+// The least and the most number that a text may be, the text between brackets, and what is read.
+const NUMBERS: &str = "\
+0 9[0]0
+1 64[007]7
+1 64[64]64
+1 64[0000000000000000064]64
+1 18446744073709551615[9999999999999999999]9999999999999999999
+0 9[]Value
+0 9[+5]Value
+0 9[-5]Value
+0 9[5 ]Value
+0 9[1e3]Value
+1 64[0]Range
+1 64[65]Range
+1 64[00000000000000000064]Range
+0 18446744073709551615[99999999999999999999]Range";
+
+// What is read of a row's text.
+fn read(alloc: Global, bounds: &str, text: &str) -> Result<String, AllocError> {
+    let (least, most) = bounds.split_once(' ').unwrap_or(("", ""));
+    let (least, most) = (least.parse().unwrap_or(0), most.parse().unwrap_or(0));
+    match number_in(text, least, most) {
+        Ok(number) => format!(in alloc; "{number}"),
+        Err(NumberWhy::Value) => String::from_str(alloc, "Value"),
+        Err(NumberWhy::Range) => String::from_str(alloc, "Range"),
+    }
+}
 
 #[test]
-fn numbers_are_read(rt: HostRuntime) {
-    for &(text, least, most, number) in &NUMBERS {
-        assert!(rt; number_in(text, least, most) == number);
+fn numbers_are_read(rt: HostRuntime) -> Result<(), Fail> {
+    for row in NUMBERS.split('\n') {
+        let (bounds, rest) = row.split_once('[').unwrap_or(("", ""));
+        let (text, want) = rest.split_once(']').unwrap_or(("", "?"));
+        assert!(rt; read(rt.alloc(), bounds, text)?.as_str() == want, "{row}");
     }
     for (place, text, behind) in [(0, "", 1), (0, "D0=r", 5), (5, "é", 8)] {
         assert!(rt; place_behind(place, text) == behind);
     }
     first_fault_is_answered::<u8, u16, u32>();
     parts_fill_the_text();
+    Ok(())
 }

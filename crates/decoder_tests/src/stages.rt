@@ -1,6 +1,6 @@
 // Stages and their links, and whole runs of small trees, on one thread and with a thread for each decoder.
 mod alone;
-mod bus;
+pub mod bus;
 mod line;
 mod links;
 mod threads;

@@ -1,8 +1,9 @@
 // Worked by hand from what each letter means.
-ghost use Rattle.std.specs.Prelude.{◌≤◌};
+ghost use Rattle.std.specs.Prelude.{◌≤◌, ◌<◌};
+ghost use Rattle.wait_cond.specs.Binding.{Distinct};
 
 use la_base::{MOST_PINS, Names, Pins, Run, Word};
-use std::alloc::Global;
+use std::alloc::{AllocError, Global};
 use std::process::Abort;
 use std::test::Fail;
 use wait_cond::{
@@ -116,113 +117,6 @@ fn scanned(
     Ok(stops)
 }
 
-// Samples 1 1 0 0 1 of line 0, and many samples.
-const BOTH: &[(Word, u64)] = &[(1, 2), (0, 2), (1, 1)];
-
-const LONG: &[(Word, u64)] = &[(0, 1 << 59)];
-
-// Alternatives, runs, and the first stops of each run, at most three.
-const STOPS: [(&[Alt], &[(Word, u64)], &[(u64, u8)]); 14] = [
-    (&[Alt { low: 1, ..NONE }], BOTH, &[(2, 1), (3, 1)]),
-    (&[Alt { high: 1, ..NONE }], BOTH, &[(0, 1), (1, 1), (4, 1)]),
-    (&[Alt { rise: 1, ..NONE }], BOTH, &[(4, 1)]),
-    (&[Alt { fall: 1, ..NONE }], BOTH, &[(2, 1)]),
-    (&[Alt { edge: 1, ..NONE }], BOTH, &[(2, 1), (4, 1)]),
-    (
-        &[Alt { steady: 1, ..NONE }],
-        BOTH,
-        &[(0, 1), (1, 1), (3, 1)],
-    ),
-    // before the first stop from place -1: 2, and then each third sample
-    (
-        &[Alt { skip: 3, ..NONE }],
-        &[(0, 4), (0, 5)],
-        &[(2, 1), (5, 1), (8, 1)],
-    ),
-    (
-        &[Alt {
-            high: 1,
-            skip: 2,
-            ..NONE
-        }],
-        &[(1, 1), (0, 2), (1, 3)],
-        &[(3, 1), (5, 1)],
-    ),
-    // all alternatives that are met
-    (
-        &[
-            Alt { high: 2, ..NONE },
-            Alt { low: 1, ..NONE },
-            Alt {
-                rise: 2,
-                skip: 3,
-                ..NONE
-            },
-        ],
-        &[(1, 3), (2, 3)],
-        &[(3, 0b111), (4, 0b011), (5, 0b011)],
-    ),
-    // a long run takes no longer
-    (&[Alt { rise: 1, ..NONE }], LONG, &[]),
-    (
-        &[Alt {
-            low: 1,
-            skip: u64::MAX,
-            ..NONE
-        }],
-        LONG,
-        &[],
-    ),
-    (
-        &[Alt {
-            low: 1,
-            skip: (1 << 59) + 1,
-            ..NONE
-        }],
-        LONG,
-        &[],
-    ),
-    (
-        &[Alt {
-            low: 1,
-            skip: 1 << 59,
-            ..NONE
-        }],
-        LONG,
-        &[((1 << 59) - 1, 1)],
-    ),
-    (
-        &[
-            Alt {
-                low: 1,
-                skip: 1 << 40,
-                ..NONE
-            },
-            Alt {
-                high: 1,
-                skip: 3,
-                ..NONE
-            },
-            Alt {
-                steady: 1,
-                skip: 1 << 30,
-                ..NONE
-            },
-            Alt {
-                low: 3,
-                skip: 1 << 30,
-                ..NONE
-            },
-        ],
-        LONG,
-        &[
-            ((1 << 30) - 1, 0b1100),
-            ((1 << 31) - 1, 0b1100),
-            (3 * (1 << 30) - 1, 0b1100),
-        ],
-    ),
-];
-
 // Compares the stops that a waiter finds in runs with the definition.
 fn compare(
     rt: &impl Abort,
@@ -242,62 +136,110 @@ fn compare(
     Ok(())
 }
 
-// By hand; and by the definition. Its conditions are all of one or two alternatives, each a letter of its lines with a
-// skip up to 4, over all lists of three runs of one line and of two runs of two lines. And over all lists of three runs
-// of two lines one alternative that asks a letter of each of them. A run has 1 to 3 samples; neighbours may have the
-// same value, so that a longer run comes cut.
-#[test]
-fn stops_of_runs(rt: HostRuntime) -> Result<(), Fail> {
-    let alloc = rt.alloc();
-    for &(alts, runs, stops) in &STOPS {
-        let found = scanned(&rt, alloc, alts, runs, 3, false)?;
-        assert!(rt; found.as_slice() == stops, "{alts:?} at {runs:?}");
+// The alternative that asks a letter of these lines, with a skip; its number tells both.
+fn one_of(number: usize, lines: Word) -> Alt {
+    let skips = Alt {
+        skip: (number / 6) as u64,
+        ..NONE
+    };
+    asks(skips, LETTERS[number % 6], lines)
+}
+
+// The list of so many runs that has a number: each has 1 to 3 samples, of one of so many values. Neighbours may have the same
+// value, so that a longer run comes cut.
+fn runs_of(
+    alloc: Global,
+    number: u64,
+    values: u64,
+    count: u32,
+) -> Result<Vec<(Word, u64)>, AllocError>
+    requires { 0 < values }
+{
+    let mut rest = number;
+    let mut runs = Vec::new(alloc);
+    for _ in 0..count {
+        runs.push((Word::from(rest % values), 1 + rest / values % 3))?;
+        rest = rest / values / 3;
     }
-    for (values, count, lists, second) in [(2, 3, 216, 0b01), (4, 2, 144, 0b10), (4, 3, 1728, 0)] {
-        assert!(rt; 1 <= values);
-        for number in 0..lists {
-            let mut rest: u64 = number;
-            let mut runs = Vec::new(alloc);
-            let mut samples = Vec::new(alloc);
-            for _ in 0..count {
-                let (value, len) = (Word::from(rest % values), 1 + rest / values % 3);
-                runs.push((value, len))?;
-                for _ in 0..len {
-                    samples.push(value)?;
-                }
-                rest = rest / values / 3;
-            }
-            for first in 0..30 {
-                let skips = Alt {
-                    skip: (first / 6) as u64,
-                    ..NONE
-                };
-                let one = asks(skips, LETTERS[first % 6], 0b01);
-                if second == 0 {
-                    for letter in LETTERS {
-                        // the same letter is asked of both lines together
-                        let both = if letter == LETTERS[first % 6] {
-                            0b11
-                        } else {
-                            0b10
-                        };
-                        compare(&rt, alloc, &[asks(one, letter, both)], &runs, &samples)?;
-                    }
-                    continue;
-                }
-                compare(&rt, alloc, &[one], &runs, &samples)?;
-                for other in 0..30 {
-                    let skips = Alt {
-                        skip: (other / 6) as u64,
-                        ..NONE
-                    };
-                    let two = [one, asks(skips, LETTERS[other % 6], second)];
-                    compare(&rt, alloc, &two, &runs, &samples)?;
-                }
-            }
+    Ok(runs)
+}
+
+// The samples of runs.
+fn samples_of(alloc: Global, runs: &[(Word, u64)]) -> Result<Vec<Word>, AllocError> {
+    let mut samples = Vec::new(alloc);
+    for (value, len) in runs {
+        for _ in 0..*len {
+            samples.push(*value)?;
+        }
+    }
+    Ok(samples)
+}
+
+// All conditions of one or two alternatives, each a letter of its lines with a skip up to 4.
+fn compare_pairs(
+    rt: &impl Abort,
+    alloc: Global,
+    second: Word,
+    runs: &[(Word, u64)],
+) -> Result<(), Fail> {
+    let samples = samples_of(alloc, runs)?;
+    for first in 0..30 {
+        let one = one_of(first, 0b01);
+        compare(rt, alloc, &[one], runs, &samples)?;
+        for other in 0..30 {
+            compare(rt, alloc, &[one, one_of(other, second)], runs, &samples)?;
         }
     }
     Ok(())
+}
+
+// Over all lists of three runs of one line and of two runs of two lines.
+#[test]
+fn stops_of_two_alternatives(rt: HostRuntime) -> Result<(), Fail> {
+    let alloc = rt.alloc();
+    for number in 0..216 {
+        compare_pairs(&rt, alloc, 0b01, &runs_of(alloc, number, 2, 3)?)?;
+    }
+    for number in 0..144 {
+        compare_pairs(&rt, alloc, 0b10, &runs_of(alloc, number, 4, 2)?)?;
+    }
+    Ok(())
+}
+
+// All conditions of one alternative that asks a letter of each of two lines; the same letter is asked of both together.
+fn compare_letters(rt: &impl Abort, alloc: Global, runs: &[(Word, u64)]) -> Result<(), Fail> {
+    let samples = samples_of(alloc, runs)?;
+    for first in 0..30 {
+        for letter in 0..6 {
+            let lines = if letter == first % 6 { 0b11 } else { 0b10 };
+            let both = asks(one_of(first, 0b01), LETTERS[letter], lines);
+            compare(rt, alloc, &[both], runs, &samples)?;
+        }
+    }
+    Ok(())
+}
+
+// Over all lists of three runs of two lines.
+#[test]
+fn stops_of_two_lines(rt: HostRuntime) -> Result<(), Fail> {
+    let alloc = rt.alloc();
+    for number in 0..1728 {
+        compare_letters(&rt, alloc, &runs_of(alloc, number, 4, 3)?)?;
+    }
+    Ok(())
+}
+
+// No word writes so long a skip.
+#[test]
+fn the_longest_skip_is_not_met(rt: HostRuntime) {
+    let alt = Alt {
+        low: 1,
+        skip: u64::MAX,
+        ..NONE
+    };
+    let mut waiter = Waiter::new(Cond::one(alt));
+    let long = Run { value: 0, len: FAR };
+    assert!(rt; waiter.scan(long) == Scan::Through);
 }
 
 #[test]
@@ -374,207 +316,144 @@ fn waits_without_masks_go_on(rt: HostRuntime) {
     }
 }
 
-// Words, and where their first fault is.
-const FAULTS: [(&str, u32, CondWhy); 29] = [
-    ("", 0, CondWhy::Empty),
-    (",", 0, CondWhy::Empty),
-    (",D0=r", 0, CondWhy::Empty),
-    ("D0=r,", 5, CondWhy::Empty),
-    ("D0=r,,D1=h", 5, CondWhy::Empty),
-    ("any,", 0, CondWhy::Term),
-    ("any,any", 0, CondWhy::Term),
-    ("D0=r,any", 5, CondWhy::Term),
-    ("D0", 0, CondWhy::Term),
-    ("skip", 0, CondWhy::Term),
-    ("=h", 0, CondWhy::Term),
-    ("D0=r,=", 5, CondWhy::Term),
-    ("D0=", 3, CondWhy::Level),
-    ("D0=q", 3, CondWhy::Level),
-    ("D0=R", 3, CondWhy::Level),
-    ("D0=rh", 3, CondWhy::Level),
-    ("D0=r=r", 3, CondWhy::Level),
-    ("\u{e9}=q", 3, CondWhy::Level),
-    ("D0=q,skip=0", 3, CondWhy::Level),
-    ("skip=1,D0=q", 10, CondWhy::Level),
-    ("skip=", 5, CondWhy::Skip),
-    ("skip=0", 5, CondWhy::Skip),
-    ("skip=r", 5, CondWhy::Skip),
-    ("skip=+1", 5, CondWhy::Skip),
-    ("skip=1x", 5, CondWhy::Skip),
-    // 2^60, and 20 digits
-    ("skip=1152921504606846976", 5, CondWhy::Skip),
-    ("skip=00000000000000000001", 5, CondWhy::Skip),
-    ("skip=1,skip=1", 12, CondWhy::Skip),
-    ("D0=r,skip=2,D1=h,skip=x", 22, CondWhy::Skip),
-];
+// The place of the first fault of a word, and why. Behind a star stand 62 further terms: the term behind 64 is one too many.
+const FAULTS: &str = "\
+0 Empty 
+0 Empty ,
+0 Empty ,D0=r
+5 Empty D0=r,
+5 Empty D0=r,,D1=h
+0 Term any,
+0 Term any,any
+5 Term D0=r,any
+0 Term D0
+0 Term skip
+0 Term =h
+5 Term D0=r,=
+3 Level D0=
+3 Level D0=q
+3 Level D0=R
+3 Level D0=rh
+3 Level D0=r=r
+3 Level é=q
+3 Level D0=q,skip=0
+10 Level skip=1,D0=q
+5 Skip skip=
+5 Skip skip=0
+5 Skip skip=r
+5 Skip skip=+1
+5 Skip skip=1x
+5 Skip skip=1152921504606846976
+5 Skip skip=00000000000000000001
+12 Skip skip=1,skip=1
+22 Skip D0=r,skip=2,D1=h,skip=x
+309 Many *,0=h,0=h
+309 Many *,0=h,
+309 Many *,0=h,skip=0
+305 Term *,0
+305 Empty *,";
 
-// 63 terms, of 304 bytes.
-const SIXTY_THREE: &str =
-    "0=h,1=h,2=h,3=h,4=h,5=h,6=h,7=h,8=h,9=h,10=h,11=h,12=h,13=h,14=h,15=h,16=h,17=h,18=h,\
-    19=h,20=h,21=h,22=h,23=h,24=h,25=h,26=h,27=h,28=h,29=h,30=h,31=h,32=h,33=h,34=h,35=h,\
-    36=h,37=h,38=h,39=h,40=h,41=h,42=h,43=h,44=h,45=h,46=h,47=h,48=h,49=h,50=h,51=h,52=h,\
-    53=h,54=h,55=h,56=h,57=h,58=h,59=h,60=h,61=h,62=h";
+// The word that a row writes: where it begins with a star, that stands for 63 terms, of 304 bytes.
+fn word_of(alloc: Global, text: &str) -> Result<String, Fail> {
+    let Some(behind) = text.strip_prefix('*') else {
+        return Ok(String::from_str(alloc, text)?);
+    };
+    let mut word = String::from_str(alloc, "0=h")?;
+    for channel in 1..63 {
+        write!(word, ",{channel}=h")?;
+    }
+    word.push_str(behind)?;
+    Ok(word)
+}
 
-// What stands behind them, and its first fault: the term behind 64 is one too many.
-const BEHIND_63: [(&str, u32, CondWhy); 5] = [
-    (",0=h,0=h", 309, CondWhy::Many),
-    (",0=h,", 309, CondWhy::Many),
-    (",0=h,skip=0", 309, CondWhy::Many),
-    (",0", 305, CondWhy::Term),
-    (",", 305, CondWhy::Empty),
-];
-
-// How many terms a good word has, and the number of its skip, or 0.
-const TERMS: [(&str, usize, u64); 11] = [
-    ("any", 0, 0),
-    ("D0=r", 1, 0),
-    ("skip=3", 1, 3),
-    ("skip=007", 1, 7),
-    ("skip=0000000000000000001", 1, 1),
-    ("skip=1152921504606846975", 1, 1152921504606846975),
-    ("D0=r,D1=h,skip=2", 3, 2),
-    ("skip=2,D1=l,D1=e,D1=l", 4, 2),
-    ("SKIP=e", 1, 0),
-    ("any=s", 1, 0),
-    (" =f", 1, 0),
-];
-
-fn words(alloc: Global, word: &str) -> Result<AltWords, Fail> {
+// What reading a word answers.
+fn answer(alloc: Global, word: &str) -> Result<Result<AltWords, CondError>, Fail> {
     if word.len() > 4096 {
         return Err("a long word".into());
     }
-    match read_alt(alloc, word) {
-        Ok(words) => Ok(words),
-        Err(_) => Err("a fault".into()),
+    Ok(read_alt(alloc, word))
+}
+
+// The first fault of a word.
+fn fault_of(alloc: Global, text: &str) -> Result<CondFault, Fail> {
+    match answer(alloc, word_of(alloc, text)?.as_str())? {
+        Err(CondError::Fault(fault)) => Ok(fault),
+        _ => Err("no fault".into()),
     }
 }
 
+// Where these faults are is in the rows of `run_rows`, too.
 #[test]
-fn words_are_read(rt: HostRuntime) -> Result<(), Fail> {
+fn words_have_their_first_fault(rt: HostRuntime) -> Result<(), Fail> {
+    for row in FAULTS.split('\n') {
+        let (at, rest) = row.split_once(' ').unwrap_or(("", ""));
+        let (why, text) = rest.split_once(' ').unwrap_or(("", ""));
+        let fault = fault_of(rt.alloc(), text)?;
+        let told = format!(in rt.alloc(); "{} {:?}", fault.at, fault.why)?;
+        assert!(rt;
+            told.as_str() == format!(in rt.alloc(); "{at} {why}")?.as_str(),
+            "{row}"
+        );
+    }
+    Ok(())
+}
+
+// Words, names and pins. A term is a channel and a letter, or a skip.
+#[test]
+fn terms_and_what_faults_say(rt: HostRuntime) -> Result<(), Fail> {
     let alloc = rt.alloc();
-    for (front, faults) in [("", FAULTS.as_slice()), (SIXTY_THREE, BEHIND_63.as_slice())] {
-        for (behind, at, why) in faults {
-            let word = format!(in alloc; "{front}{behind}")?;
-            let text = word.as_str();
-            assert!(rt; text.len() <= 4096);
-            match read_alt(alloc, text) {
-                Err(CondError::Fault(fault)) => {
-                    assert!(rt; fault.at == *at && fault.why == *why, "{text}")
-                }
-                _ => return Err("no fault".into()),
-            }
-        }
-    }
-    for &(word, count, skip) in &TERMS {
-        let words = words(alloc, word)?;
-        assert!(rt; words.terms.len() == count, "{word}");
-        let mut last = 0;
-        for term in &words.terms {
-            if let Term::Skip(number) = term {
-                last = *number;
-            }
-        }
-        assert!(rt; last == skip, "{word}");
-    }
-    let word = format!(in alloc; "{SIXTY_THREE},63=h")?;
-    assert!(rt; words(alloc, word.as_str())?.terms.len() == 64);
-    let words = words(alloc, "D0=r,skip=2")?;
+    let Ok(words) = answer(alloc, "D0=r,skip=2")? else {
+        return Err("a fault".into());
+    };
+    assert!(rt; words.terms.len() == 2 && matches!(words.terms[1], Term::Skip(2)));
     let Some(Term::Line { reference, letter }) = words.terms.first() else {
         return Err("no line".into());
     };
-    assert!(rt; reference.as_str() == "D0");
-    assert!(rt; *letter == Letter::Rise);
-    let fault = CondFault {
-        at: 3,
-        why: CondWhy::Level,
-    };
-    let text = format!(in alloc; "{}", CondError::Fault(fault))?;
+    assert!(rt; reference.as_str() == "D0" && *letter == Letter::Rise);
+    let text = format!(in alloc; "{}", CondError::Fault(fault_of(alloc, "D0=q")?))?;
     assert!(rt; text.as_str() == "byte 3: no such letter");
     Ok(())
 }
 
+// What is bound of a word.
+fn bound(
+    alloc: Global,
+    word: &str,
+    names: &Names,
+    pins: &mut Pins,
+) -> Result<Result<Alt, ItemFault>, Fail>
+    requires { Distinct pins.old.items }
+    ensures { Distinct pins.new.items }
+{
+    match answer(alloc, word)? {
+        Ok(words) => Ok(bind_alt(&words, names, pins)),
+        Err(_) => Err("a fault".into()),
+    }
+}
+
+// Pins stand in the order in which words use them, and a refusal leaves them as they were.
 #[test]
 fn words_are_bound(rt: HostRuntime) -> Result<(), Fail> {
     let alloc = rt.alloc();
-    let unknown = ItemFault {
-        item: 0,
-        why: BindWhy::Unknown,
-    };
-    let third = ItemFault { item: 2, ..unknown };
-    // by name and by number
     let mut names = Names::new(alloc);
-    for name in ["clk", "data", "clk", "4"] {
-        assert!(rt; names.count() < 4096);
-        names.push(name.as_bytes())?;
-    }
+    names.push(b"clk")?;
+    names.push(b"data")?;
     let mut pins = Pins::new();
-    for (word, bound) in [
-        ("data=r", Ok(Alt { rise: 0b1, ..NONE })),
-        ("2=l", Ok(Alt { low: 0b10, ..NONE })),
-        ("data=e", Ok(Alt { edge: 0b1, ..NONE })),
-        ("5=h", Err(unknown)),
-        (
-            "clk=s",
-            Ok(Alt {
-                steady: 0b100,
-                ..NONE
-            }),
-        ),
-        (
-            "4=f",
-            Ok(Alt {
-                fall: 0b1000,
-                ..NONE
-            }),
-        ),
-        ("any", Ok(Alt::default())),
-        (
-            "1=h,skip=4,3=h",
-            Ok(Alt {
-                high: 0b1001,
-                skip: 4,
-                ..NONE
-            }),
-        ),
-        ("skip=1,data=h,none=h", Err(third)),
-        ("skip=5", Ok(Alt { skip: 5, ..NONE })),
-    ] {
-        let found = bind_alt(&words(alloc, word)?, &names, &mut pins);
-        assert!(rt; found == bound, "{word}");
-    }
-    assert!(rt; pins.as_slice() == [1, 2, 0, 3].as_slice());
-    // no more channels than a sample has bits
-    let mut names = Names::new(alloc);
-    for _ in 0..MOST_PINS + 1 {
-        assert!(rt; names.count() < 4096);
-        names.push(b"x")?;
-    }
-    let mut pins = Pins::new();
-    let _ = bind_alt(&words(alloc, SIXTY_THREE)?, &names, &mut pins);
-    let mut others = String::new(alloc);
-    for channel in 63..MOST_PINS - 1 {
-        let comma = if channel == 63 { "" } else { "," };
-        others.push_str(format!(in alloc; "{comma}{channel}=h")?.as_str())?;
-    }
-    assert!(rt; others.len() <= 4096);
-    let _ = bind_alt(&words(alloc, others.as_str())?, &names, &mut pins);
-    assert!(rt; pins.len() == 127);
-    let many = ItemFault {
-        item: 2,
-        why: BindWhy::TooMany,
-    };
-    let bound = bind_alt(&words(alloc, "127=h,skip=1,128=h")?, &names, &mut pins);
-    assert!(rt; bound == Err(many));
-    assert!(rt; pins.len() == 127);
-    let bound = bind_alt(&words(alloc, "127=r,64=l")?, &names, &mut pins);
-    let last = Alt {
-        rise: 1 << 127,
-        low: 1 << 64,
+    let one = Alt { rise: 0b1, ..NONE };
+    assert!(rt; bound(alloc, "data=r", &names, &mut pins)? == Ok(one));
+    let two = Alt {
+        high: 0b1,
+        steady: 0b10,
+        skip: 4,
         ..NONE
     };
-    assert!(rt; bound == Ok(last) && pins.len() == 128);
-    let item = ItemFault { item: 1, ..unknown };
-    let text = format!(in alloc; "{item}")?;
-    assert!(rt; text.as_str() == "item 1: no such channel");
+    assert!(rt; bound(alloc, "1=h,skip=4,clk=s", &names, &mut pins)? == Ok(two));
+    let fault = ItemFault {
+        item: 2,
+        why: BindWhy::Unknown,
+    };
+    assert!(rt; bound(alloc, "skip=1,data=h,none=h", &names, &mut pins)? == Err(fault));
+    assert!(rt; pins.as_slice() == [1, 0].as_slice());
+    assert!(rt; format!(in alloc; "{fault}")?.as_str() == "item 2: no such channel");
     Ok(())
 }

@@ -1,117 +1,15 @@
 // A bus with two EEPROMs, as a tree: what each instance gives is what it gives alone.
-ghost use Rattle.std.specs.Prelude.{◌≡◌, ◌≢◌, ◌≤◌, ◌^◌};
+ghost use Rattle.std.specs.Prelude.{◌≢◌};
 
-use super::feeding::waves_of;
+use crate::stages::bus::{Marks, Samples, opened};
 use decoder_core::{Machine, Outs, RunEnd};
-use decoder_set::{AnyDecoder, Kind, MOST_OPTIONS, OptValues};
+use decoder_set::{AnyDecoder, Kind};
 use dev_eeprom24::Chip;
-use la_base::{Feed, Mark, Out, Packet, Rate, Run, Word};
-use la_io::{MarkTake, RunFeed, Stopped};
+use la_base::{Feed, Mark, Out, Packet, Run};
 use plain_devices::eeprom_outputs_of;
 use stack_direct::run_direct;
 use std::alloc::Global;
 use std::test::Fail;
-
-const RATE: Rate = Rate {
-    num: 1_000_000,
-    den: 1,
-};
-
-const MOST_CALLS: u64 = 1 << 60;
-
-// Gives samples as runs, three at a time. It stands for no list: the test looks at what is taken.
-#[derive(Drop)]
-struct Samples {
-    all: Vec<Word>,
-    next: usize,
-    given: u64,
-    held: Vec<Run>,
-    ended: bool,
-    ghost few: { given ≤ 2 ^ 60 },
-}
-
-impl RunFeed for Samples {
-    type Origin = ();
-
-    ghost gave = { λ _ _. ⊥ };
-
-    ghost given = { λ f. f.given };
-
-    ghost held = { λ f. f.held.items };
-
-    ghost at_end = { λ f. f.ended };
-
-    ghost origin = { λ _. tt };
-
-    fn next_runs(&mut self) -> bool {
-        self.held.clear();
-        if self.given >= MOST_CALLS || self.next >= self.all.len() {
-            self.ended = true;
-            return false;
-        }
-        for _ in 0..3u32 {
-            if self.next < self.all.len() {
-                let value = self.all[self.next];
-                if self.held.push(Run { value, len: 1 }).is_ok() {
-                    self.next += 1;
-                }
-            }
-        }
-        self.given += 1;
-        self.ended = false;
-        true
-    }
-
-    fn runs(&self) -> &[Run] {
-        self.held.as_slice()
-    }
-}
-
-// Takes marks, as far as there is memory. It stands for no lists: the test looks at what it holds.
-#[derive(Drop)]
-struct Marks {
-    taken: Vec<(u32, Mark)>,
-    most: usize,
-    stops: u64,
-}
-
-impl MarkTake for Marks {
-    type Origin = ();
-
-    ghost instances = { λ _. 3 };
-
-    ghost took = { λ _ _. ⊥ };
-
-    ghost stops = { λ m. m.stops };
-
-    ghost going = { λ _ _. ⊥ };
-
-    ghost origin = { λ _. tt };
-
-    fn take(&mut self, instance: u32, mark: Mark) -> Result<(), Stopped> {
-        if self.taken.len() < self.most && self.taken.push((instance, mark)).is_ok() {
-            return Ok(());
-        }
-        self.stops = self.stops.saturating_add(1);
-        Err(Stopped)
-    }
-}
-
-// A decoder of a kind with its first two options.
-fn opened(kind: Kind, first: Option<u64>, second: Option<u64>) -> Result<AnyDecoder, Fail> {
-    let mut given = [None; MOST_OPTIONS];
-    given[0] = first;
-    given[1] = second;
-    match AnyDecoder::open(kind, OptValues { given }, RATE) {
-        Ok(decoder) => Ok(decoder),
-        Err(_) => Err("not opened".into()),
-    }
-}
-
-// Bytes are written to one EEPROM and read from the other, and then from the first one.
-const SCRIPT: &str = "\
-S 10100000 0 00000110 0 00000001 0 00000010 0 00000011 0 0P 1S 10100011 0 01000001 0 01000010 1 1S \
-10100001 0 01000011 1 0P";
 
 // The marks of a decoder that is fed alone, so many feeds at once: notes and pieces, behind each time the
 // floor, and at the end the end.
@@ -145,7 +43,8 @@ fn marks_alone(
 // The samples of the script as feeds, one by one.
 fn samples_alone(alloc: Global) -> Result<Vec<Feed>, Fail> {
     let mut feeds = Vec::new(alloc);
-    for value in &waves_of(alloc, SCRIPT)? {
+    let samples = Samples::new(alloc)?;
+    for value in &samples.all {
         feeds.push(Feed::Run(Run {
             value: *value,
             len: 1,
@@ -191,18 +90,8 @@ fn run_until(alloc: Global, most: usize) -> Result<(RunEnd, Samples, Marks), Fai
     machines.push(opened(Kind::Eeprom24, None, None)?)?;
     machines.push(opened(Kind::Eeprom24, Some(1), None)?)?;
     let parents = [None, Some(0), Some(0)];
-    let mut feed = Samples {
-        all: waves_of(alloc, SCRIPT)?,
-        next: 0,
-        given: 0,
-        held: Vec::new(alloc),
-        ended: false,
-    };
-    let mut take = Marks {
-        taken: Vec::new(alloc),
-        most,
-        stops: 0,
-    };
+    let mut feed = Samples::new(alloc)?;
+    let mut take = Marks::new(alloc, most);
     let end = run_direct(&mut machines, &parents, &mut feed, &mut take);
     Ok((end, feed, take))
 }

@@ -23,30 +23,36 @@ S 10100000 0 00000110 0 00000001 0 00000010 0 00000011 0 0P 1S 10100011 0 010000
 /// Gives samples as runs, three at a time. It stands for no list: tests look at what is taken.
 #[derive(Drop)]
 pub struct Samples {
-    all: Vec<Word>,
+    pub all: Vec<Word>,
     next: usize,
-    given: u64,
+    pub given: u64,
     held: Vec<Run>,
     pub ended: bool,
     ghost few: { given ≤ 2 ^ 60 },
 }
 
+/// The samples of a script of a bus, line 0 SCL and line 1 SDA: 0 and 1 are a bit, for which SCL is low, then high. Behind a 1
+/// or at the front, S is SDA falling while SCL stays high: a START. Behind a 0, P is SDA rising so: a STOP.
+pub fn waves_of(alloc: Global, script: &str) -> Result<Vec<Word>, AllocError> {
+    let mut all = Vec::new(alloc);
+    for letter in script.bytes() {
+        let (first, second) = match letter {
+            b'0' => (0, 1),
+            b'1' => (2, 3),
+            b'S' => (3, 1),
+            b'P' => (1, 3),
+            _ => continue,
+        };
+        all.push(first)?;
+        all.push(second)?;
+    }
+    Ok(all)
+}
+
 impl Samples {
     pub fn new(alloc: Global) -> Result<Samples, AllocError> {
-        let mut all = Vec::new(alloc);
-        for letter in SCRIPT.bytes() {
-            let (first, second) = match letter {
-                b'0' => (0, 1),
-                b'1' => (2, 3),
-                b'S' => (3, 1),
-                b'P' => (1, 3),
-                _ => continue,
-            };
-            all.push(first)?;
-            all.push(second)?;
-        }
         Ok(Samples {
-            all,
+            all: waves_of(alloc, SCRIPT)?,
             next: 0,
             given: 0,
             held: Vec::new(alloc),

@@ -1,5 +1,0 @@
-use Rattle.std.proofs.Common.{◌≡◌}
-use Rattle.decoder_tests.proofs.decoders.trees.SamplesRunFeed.next_runs.Given as goal
-
-abbrev pub invariant-loop : goal.invariant-loop
-invariant-loop l = l.self.given ≡ l.initial.self.given
