@@ -20,7 +20,7 @@ ldecode reads a recorded logic capture on standard input.
 
 ldecode [OPTION..] CHAIN..
     decodes it, and prints a line for each note: FIRST-LAST INSTANCE: TEXT.
-    A chain is DECODER:OPTION=VALUE:OPTION=VALUE, and behind commas decoders of
+    A chain is DECODER:OPTION=VALUE:OPTION=VALUE, and after commas decoders of
     what the one before them gives. It may begin with an earlier instance, which
     is DECODER-NUMBER.
 ldecode --job find [OPTION..] ALTERNATIVE..
@@ -30,8 +30,8 @@ ldecode --job find [OPTION..] ALTERNATIVE..
     skip=SAMPLES.
 ldecode --job part [OPTION..] CHAIN..
     decodes a part of a capture of raw samples, which goes on where the part
-    before it ended if --from names its checkpoint, and prints behind the notes
-    the line checkpoint: WORD, whose word is for the part behind it.
+    before it ended if --from names its checkpoint, and prints after the notes
+    the line checkpoint: WORD, whose word is for the part after it.
 ldecode --job make [OPTION..]
     decodes a capture that is made, of transactions that a seed draws, and
     prints how many samples it has, and what its decoders give, in numbers. This
@@ -42,11 +42,11 @@ a value change dump, which names its channels and tells its rate; or with
 --format csv a table, whose first record names its columns.
 A channel is named, as D0 or A, or is a number, counted from 0.
 
-Options, as --NAME VALUE or --NAME=VALUE, before, between or behind the other
+Options, as --NAME VALUE or --NAME=VALUE, before, between or after the other
 words:
 ";
 
-// The columns for what an option sets, behind six blanks.
+// The columns for what an option sets, after six blanks.
 const MOST_SETS: usize = 74;
 
 // The heading of the decoders.
@@ -62,9 +62,11 @@ EEPROM:
     ldecode i2c:scl=D0:sda=D1,eeprom24 < capture.raw
 What a serial line says, as it was said:
     ldecode --binary uart-1:data uart:rx=D0 < capture.raw
+Messages of Modbus at 19200 baud, 3.5 characters apart; above that gap=1750000:
+    ldecode uart:rx=D0:baud=19200,modbus:gap=1822917 < capture.raw
 Where D0 rises while D3 is low:
     ldecode --job find D0=r,D3=l < capture.raw
-The first part of a capture, and the part behind it:
+The first part of a capture, and the part after it:
     ldecode --job part i2c:scl=D0:sda=D1 < first.raw
     ldecode --job part --from WORD i2c:scl=D0:sda=D1 < second.raw
 What the decoders give of a made capture:
@@ -75,8 +77,8 @@ Exit statuses:
   1  a fault of the words, the decoders, a channel, the rate or a checkpoint
   2  standard input failed; what came before is written
   3  a fault of the capture; what came before is written
-  4  standard output failed; a front of what comes is written
-  5  there was no memory; a front of what comes is written
+  4  standard output failed; a prefix of what comes is written
+  5  there was no memory; a prefix of what comes is written
   6  the system gave no words, or none that are UTF-8, or no memory for them
 ";
 
