@@ -152,7 +152,7 @@ FIGURES = [
         None,
         None,
     ),
-    ("Modbus, more", modbus, shown("uart-1", LINE + "19200,modbus"), [LINE + "19200"], None),
+    ("Modbus, more", modbus, shown("uart-1", f"{LINE}19200,modbus:gap={modbus_capture.GAP}"), [LINE + "19200"], None),
     ("MIDI, more", midi, shown("uart-1", LINE + "31250,midi"), [LINE + "31250"], None),
     ("a 1-Wire line", onewire, [ONEWIRE], None, None),
     (

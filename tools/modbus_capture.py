@@ -4,8 +4,8 @@ line on D0.
 
 Each word is a message: its bytes in hexadecimal, with commas between them, to which its CRC is added; with a
 `!` before it the lowest bit of the CRC's last byte is turned. A byte has a start bit, eight data bits and a
-stop bit at 19200 baud, and the bytes of a message follow one another without a pause. The line is high for
-5 ms before and after each message.
+stop bit at 19200 baud, and the bytes of a message follow one another without a pause. Before and after each
+message the line is high for 3.5 characters, the shortest silence that the standard has there.
 
     tools/modbus_capture.py 11,03,00,6B,00,03 11,03,06,AE,41,56,52,43,40 > capture.raw
 """
@@ -15,7 +15,9 @@ import sys
 from buses import bits_of, sampled
 
 RATE, BAUD = 1000000, 19200
-PAUSE = [1] * (5 * BAUD // 1000)
+PAUSE = [1] * 35
+# What parts the messages: that silence in nanoseconds.
+GAP = -(-35 * 10**9 // BAUD)
 
 
 def crc(data):

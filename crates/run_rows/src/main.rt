@@ -26,12 +26,13 @@ use std::sync::Wait;
 use std::thread::Threads;
 
 // The files of rows.
-const FILES: [&str; 20] = [
+const FILES: [&str; 21] = [
     "i2c.txt",
     "i2c_bits.txt",
     "i2c_devices.txt",
     "spi_and_serial.txt",
     "serial_devices.txt",
+    "silences.txt",
     "onewire.txt",
     "ds18b20.txt",
     "flash.txt",

@@ -3,7 +3,7 @@ use crate::cuts::check_cuts;
 use crate::row::{Behind, Row};
 use crate::ways::{ALONE, WAYS, WHOLE, Way};
 use anyhow::{Result, bail};
-use la_io::{MemSink, MemSource};
+use la_io::{Failed, MemSink, MemSource, Source};
 use ldecode_program::program;
 use std::alloc::Global;
 use std::sync::Wait;
@@ -55,6 +55,27 @@ fn sink_of(alloc: Global, way: &Way) -> Result<MemSink> {
     }
 }
 
+// A source in memory of which a read may have to wait, or never does.
+#[derive(Drop)]
+struct Paced {
+    source: MemSource,
+    waits: bool,
+}
+
+impl Source for Paced {
+    ghost left = { λ s. ⟦<MemSource as Source>⟧.left s.source };
+
+    ghost faults = { λ s. ⟦<MemSource as Source>⟧.faults s.source };
+
+    fn read(&mut self, buf: &mut [u8]) -> Result<usize, Failed> {
+        self.source.read(buf)
+    }
+
+    fn may_wait(&self) -> bool {
+        self.waits
+    }
+}
+
 /// Runs words over a source.
 pub fn run_words<R: Threads + Wait + Sync>(
     rt: &R,
@@ -63,7 +84,10 @@ pub fn run_words<R: Threads + Wait + Sync>(
     source: MemSource,
     way: &Way,
 ) -> Result<Given> {
-    let mut source = source;
+    let mut source = Paced {
+        source,
+        waits: way.waits,
+    };
     let mut sink = sink_of(alloc, way)?;
     let mut notices = sink_of(alloc, way)?;
     let status = program(

@@ -10,6 +10,8 @@ pub struct Way {
     /// word, whose reads may therefore give more; of more words, as many fewer.
     pub most: usize,
     pub pieces: usize,
+    /// Whether a read may have to wait, as one of a pipe and not of a file.
+    pub waits: bool,
     /// The most bytes that are written.
     pub room: usize,
     /// How much a decoder does in a turn of its thread.
@@ -45,13 +47,14 @@ impl Pacer for Turns {
 // longer the more decoders there are, and the busier the machine is.
 const PIECES: usize = 500;
 
-/// The ways, of which the first and the fourth read the capture in one piece.
+/// The ways, of which the first and the fourth read the capture in one piece, as a file.
 pub const WAYS: [Way; 6] = [
     Way {
         name: "with threads",
         option: ("--threads", "yes"),
         most: WHOLE,
         pieces: PIECES,
+        waits: false,
         room: WHOLE,
         turns: Turns::Many,
     },
@@ -60,6 +63,7 @@ pub const WAYS: [Way; 6] = [
         option: ("--threads", "yes"),
         most: 1,
         pieces: PIECES,
+        waits: true,
         room: WHOLE,
         turns: Turns::Many,
     },
@@ -68,6 +72,7 @@ pub const WAYS: [Way; 6] = [
         option: ("--ring", "1"),
         most: 7,
         pieces: PIECES,
+        waits: true,
         room: WHOLE,
         turns: Turns::Few,
     },
@@ -76,6 +81,7 @@ pub const WAYS: [Way; 6] = [
         option: ("--threads", "no"),
         most: WHOLE,
         pieces: WHOLE,
+        waits: false,
         room: WHOLE,
         turns: Turns::Many,
     },
@@ -84,6 +90,7 @@ pub const WAYS: [Way; 6] = [
         option: ("--threads", "no"),
         most: 1,
         pieces: WHOLE,
+        waits: true,
         room: WHOLE,
         turns: Turns::Many,
     },
@@ -92,6 +99,7 @@ pub const WAYS: [Way; 6] = [
         option: ("--threads", "no"),
         most: 7,
         pieces: WHOLE,
+        waits: true,
         room: WHOLE,
         turns: Turns::Many,
     },
@@ -103,6 +111,7 @@ pub const ALONE: Way = Way {
     option: ("--threads", "no"),
     most: WHOLE,
     pieces: WHOLE,
+    waits: true,
     room: 1 << 16,
     turns: Turns::Many,
 };
