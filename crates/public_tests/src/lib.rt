@@ -15,6 +15,8 @@ mod csv_captures;
 #[cfg(test)]
 mod floors;
 #[cfg(test)]
+mod forms;
+#[cfg(test)]
 mod listers;
 #[cfg(test)]
 mod made;
@@ -26,6 +28,8 @@ mod rows;
 mod runs;
 #[cfg(test)]
 mod searches;
+#[cfg(test)]
+mod side_by_side;
 #[cfg(test)]
 mod stacks;
 #[cfg(test)]

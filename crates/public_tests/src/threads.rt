@@ -7,7 +7,6 @@ use la_io::MemSink;
 use ldecode::{Pacer, exit_code, run};
 use std::alloc::Global;
 use std::sync::Wait;
-use std::sync::atomic::{AtomicBool, Ordering};
 use std::test::Fail;
 use std::thread::{Threads, yield_now};
 
@@ -20,9 +19,9 @@ fn told(alloc: Global, code: u8, notices: &MemSink, sink: &MemSink) -> Result<St
     Ok(format!(in alloc; "{code} > {notices} > {written}")?)
 }
 
-// What a run gives whose decoders go on as a pacer lets them: the exit status, the notices and what
-// is written.
-fn run_threaded<R: Threads + Wait + Sync, P: Pacer + Sync>(
+/// What a run gives whose decoders go on as a pacer lets them: the exit status, the notices and what
+/// is written.
+pub fn run_threaded<R: Threads + Wait + Sync, P: Pacer + Sync>(
     rt: &R,
     alloc: Global,
     words: &str,
@@ -46,46 +45,6 @@ fn run_threaded<R: Threads + Wait + Sync, P: Pacer + Sync>(
         pacer,
     );
     told(alloc, exit_code(&status), &notices, &sink)
-}
-
-// Lets neither of two stages go on before the other has begun.
-#[derive(Drop)]
-struct Gate {
-    begun: [AtomicBool; 2],
-    waited_out: AtomicBool,
-}
-
-impl Pacer for Gate {
-    fn turn(&self, stage: u32, turn: u64) -> u32 {
-        if turn == 0 {
-            let (own, other) = if stage == 0 { (0, 1) } else { (1, 0) };
-            self.begun[own].store(true, Ordering::SeqCst);
-            for _ in 0..1_000_000_000u32 {
-                if self.begun[other].load(Ordering::SeqCst) {
-                    return 64;
-                }
-                std::hint::spin_loop();
-            }
-            self.waited_out.store(true, Ordering::SeqCst);
-        }
-        64
-    }
-}
-
-#[test]
-fn decoders_run_side_by_side(rt: HostRuntime) -> Result<(), Fail> {
-    let alloc = rt.alloc();
-    let gate = Gate {
-        begun: [AtomicBool::new(false), AtomicBool::new(false)],
-        waited_out: AtomicBool::new(false),
-    };
-    let high = [3u8; 100];
-    let words = "uart:rx=D0 uart:rx=D1";
-    let told = run_threaded(&rt, alloc, words, &high, AMPLE, &gate)?;
-    assert!(rt; told.as_str() == "0 >  > ");
-    assert!(rt; gate.begun[0].load(Ordering::SeqCst) && gate.begun[1].load(Ordering::SeqCst));
-    assert!(rt; !gate.waited_out.load(Ordering::SeqCst));
-    Ok(())
 }
 
 // A flash memory on an SPI bus that is read: two bytes behind an address.
