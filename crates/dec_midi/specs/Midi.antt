@@ -3,7 +3,7 @@
 -- are cut at their statuses: a *part* is a status with all that follows it up to the next one. Real
 -- time messages may stand anywhere, also between a status and its data, and end nothing. Spans and
 -- the notes on stray and undefined bytes are this project's own.
-use Rattle.std.specs.Prelude.{ℕ, ◌+◌, ◌-◌, ◌*◌, ◌/◌, ◌^◌, min, nat_lt, Bool, true, false, ◌&&◌}
+use Rattle.std.specs.Prelude.{ℕ, ◌+◌, ◌-◌, ◌*◌, ◌/◌, ◌%◌, ◌^◌, min, nat_lt, Bool, true, false, ◌&&◌}
 use Rattle.std.specs.Prelude.{◌||◌, ◌==◌, if◌then◌else◌, List, [], ◌∷◌, ◌++◌, length, Option}
 use Rattle.std.specs.Prelude.{Some, None}
 use Rattle.std.specs.List.{filter, flat_map}
@@ -30,9 +30,16 @@ is_frame other = false
 abbrev pub is_byte : Packet → Bool
 is_byte packet = is_frame packet.kind && packet.b == 0
 
+-- of a frame's value the lowest eight bits are read
+abbrev pub as_byte : Packet → Packet
+as_byte packet = record packet { a = packet.a % 256 }
+
+abbrev pub byte_at : Packet → List Packet
+byte_at packet = if is_byte packet then as_byte packet ∷ [] else []
+
 -- the bytes among packets
 abbrev pub bytes_in : List Packet → List Packet
-bytes_in packets = filter is_byte packets
+bytes_in packets = flat_map byte_at packets
 
 -- a data byte is below 80h, a status from 80h to F7h, and real time from F8h on
 abbrev pub sort_of : ℕ → Sort

@@ -93,3 +93,8 @@ abbrev pub OpenExclusive : Type 0
 OpenExclusive =
     (midi_outs (bytes (144 ∷ 240 ∷ 1 ∷ 2 ∷ [])) ≡ [])
     × (midi_near (bytes (144 ∷ 240 ∷ 1 ∷ 2 ∷ [])) ≡ 10)
+
+-- of a value of nine bits the lowest eight are read
+abbrev pub NineBits : Type 0
+NineBits =
+    midi_outs (bytes (400 ∷ 316 ∷ 320 ∷ [])) ≡ span_note 1 0 29 (says 144 60 64) 0 ∷ []

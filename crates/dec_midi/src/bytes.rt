@@ -1,6 +1,6 @@
 // What a packet of a serial line is for MIDI.
 ghost use Rattle.std.specs.Prelude.{◌≡◌, ◌<◌};
-ghost use Rattle.dec_midi.specs.Midi.{is_byte, sort_of};
+ghost use Rattle.dec_midi.specs.Midi.{as_byte, is_byte, sort_of};
 
 use crate::Sort;
 use la_base::{Packet, PacketKind};
@@ -10,6 +10,19 @@ pub fn is_byte(packet: Packet) -> bool
     ensures { result ≡ is_byte packet }
 {
     matches!(packet.kind, PacketKind::UartFrame) && packet.b == 0
+}
+
+/// A frame as a byte: of its value the lowest eight bits are read.
+pub fn as_byte(frame: Packet) -> Packet
+    ensures { result ≡ as_byte frame }
+{
+    Packet {
+        kind: frame.kind,
+        start: frame.start,
+        end: frame.end,
+        a: frame.a % 256,
+        b: frame.b,
+    }
 }
 
 /// What a byte is.

@@ -11,6 +11,7 @@
 mod bytes;
 mod held;
 mod kept;
+mod laws;
 mod machine;
 mod rows;
 mod status;
@@ -18,5 +19,6 @@ mod texts;
 
 use held::Held;
 pub use held::{Midi, MidiOpts, Sort, Takes};
+pub use laws::real_time_changes_no_other_note;
 pub use rows::rows_hold;
 pub use texts::text;

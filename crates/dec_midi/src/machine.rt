@@ -10,7 +10,7 @@ ghost use Rattle.dec_midi.specs.laws.Steps.{sort_gives, sort_next, status_gives}
 ghost use Rattle.dec_midi.specs.laws.MidiLaws.{midi_few, midi_nothing, midi_on_wire, midi_order};
 ghost use Rattle.dec_midi.specs.laws.MidiLaws.{midi_prefix, one_midi};
 
-use crate::bytes::{is_byte, sort_of};
+use crate::bytes::{as_byte, is_byte, sort_of};
 use crate::status::{behind, by_two, give_message, takes};
 use crate::{Held, Midi, MidiOpts, Sort, Takes};
 use decoder_core::{Configured, Follower, OptFault, Outs, PacketMachine, is_send, span_note};
@@ -165,7 +165,7 @@ fn take(held: Held, packet: Packet, into: &mut Outs) -> Held
     ensures next { result ≡ next held packet }
 {
     if is_byte(packet) {
-        byte(held, packet, into)
+        byte(held, as_byte(packet), into)
     } else {
         held
     }

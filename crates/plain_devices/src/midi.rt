@@ -1,8 +1,8 @@
 //! MIDI: the bytes among packets, cut at their statuses, and what each gives with those before it.
 ghost use Rattle.std.specs.Prelude.{◌≡◌, ◌<◌, ◌++◌, ◌∷◌, [], None, Some, false, length, map};
 ghost use Rattle.std.specs.Prelude.{option_map, true, IfOk, OnOk, if◌then◌else◌};
-ghost use Rattle.dec_midi.specs.Midi.{byte_note, bytes_in, class_of, data_count, data_end, data_in};
-ghost use Rattle.dec_midi.specs.Midi.{datum_outs, exclusive_outs, is_byte, is_data_sort};
+ghost use Rattle.dec_midi.specs.Midi.{as_byte, byte_note, bytes_in, class_of, data_count, data_end};
+ghost use Rattle.dec_midi.specs.Midi.{data_in, datum_outs, exclusive_outs, is_byte, is_data_sort};
 ghost use Rattle.dec_midi.specs.Midi.{is_frame, is_status, message, midi_outs, of_one, of_two};
 ghost use Rattle.dec_midi.specs.Midi.{one_outs, ones_outs, own_outs, sort_of, starts, status_outs};
 ghost use Rattle.dec_midi.specs.Midi.{stray, takes, two_outs, twos_outs};
@@ -28,6 +28,19 @@ fn is_byte(packet: Packet) -> bool
     is_frame(packet.kind) && packet.b == 0
 }
 
+// A frame as a byte: of its value the lowest eight bits are read.
+fn as_byte(frame: Packet) -> Packet
+    ensures { result ≡ as_byte frame }
+{
+    Packet {
+        kind: frame.kind,
+        start: frame.start,
+        end: frame.end,
+        a: frame.a % 256,
+        b: frame.b,
+    }
+}
+
 // Appends a packet, if it is a byte.
 fn add_if_byte(packet: Packet, bytes: &mut Vec<Packet>) -> Result<(), AllocError>
     ensures { OnOk result (bytes.new.items ≡ bytes.old.items ++ bytes_in (packet ∷ [])) }
@@ -35,7 +48,7 @@ fn add_if_byte(packet: Packet, bytes: &mut Vec<Packet>) -> Result<(), AllocError
     if !is_byte(packet) {
         return Ok(());
     }
-    bytes.push(packet)?;
+    bytes.push(as_byte(packet))?;
     Ok(())
 }
 

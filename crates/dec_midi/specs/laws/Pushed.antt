@@ -26,7 +26,7 @@ use Rattle.dec_midi.specs.declared.held.Sort.{Sort}
 use Rattle.dec_midi.specs.declared.held.Sort.TheVariants.{Data, Status, RealTime}
 use Rattle.dec_midi.specs.declared.held.Takes.{Takes}
 use Rattle.dec_midi.specs.declared.held.Takes.TheVariants.{Nothing, One, Two, Ones, Twos, Any}
-use Rattle.dec_midi.specs.Midi.{is_byte, bytes_in, sort_of, is_status_sort, is_data_sort, is_status}
+use Rattle.dec_midi.specs.Midi.{is_byte, as_byte, byte_at, bytes_in, sort_of, is_status_sort, is_data_sort, is_status}
 use Rattle.dec_midi.specs.Midi.{data_in, takes, one_outs, two_outs, ones_outs, twos_outs}
 use Rattle.dec_midi.specs.Midi.{datum_outs, inside_outs, inside_by, outside_outs, outside_by}
 use Rattle.dec_midi.specs.Midi.{own_outs, data_end, data_count, behind_by, status_outs, part_outs}
@@ -370,23 +370,26 @@ module _ (p : Packet) (bytes : List Packet) where
 
 -- one more packet
 module _ (ps : List Packet) (p : Packet) where
+  abbrev q : Packet
+  q = as_byte p
+
   more : (midi_outs (ps ++ p ∷ []) ≡ midi_outs ps ++ gives (held_of ps) p)
       × (held_of (ps ++ p ∷ []) ≡ next (held_of ps) p)
   unfolding midi_outs held_of
   more =
       let both = by (is_byte p) in (
-        ap bytes_outs (filter-append is_byte ps (p ∷ [])) ∙ both.0,
-        ap kept_in (filter-append is_byte ps (p ∷ [])) ∙ both.1,
+        ap bytes_outs (flat_map-append byte_at ps (p ∷ [])) ∙ both.0,
+        ap kept_in (flat_map-append byte_at ps (p ∷ [])) ∙ both.1,
       )
     where
       by : (t : Bool)
-          → (bytes_outs (bytes_in ps ++ (if t then p ∷ [] else []))
+          → (bytes_outs (bytes_in ps ++ ((if t then q ∷ [] else []) ++ []))
           ≡ bytes_outs (bytes_in ps)
-          ++ (if t then sort_gives (sort_of p.a) (kept_in (bytes_in ps)) p else []))
-          × (kept_in (bytes_in ps ++ (if t then p ∷ [] else []))
-          ≡ (if t then sort_next (sort_of p.a) (kept_in (bytes_in ps)) p
+          ++ (if t then sort_gives (sort_of q.a) (kept_in (bytes_in ps)) q else []))
+          × (kept_in (bytes_in ps ++ ((if t then q ∷ [] else []) ++ []))
+          ≡ (if t then sort_next (sort_of q.a) (kept_in (bytes_in ps)) q
           else kept_in (bytes_in ps)))
-      by true = byte_goes p (bytes_in ps)
+      by true = byte_goes q (bytes_in ps)
       by false = (
         ap bytes_outs (append-nil (bytes_in ps)) ∙ sym (append-nil (bytes_outs (bytes_in ps))),
         ap kept_in (append-nil (bytes_in ps)),

@@ -1,5 +1,5 @@
 -- The walk over packets of a serial line is sound.
-use Rattle.std.proofs.Common.{◌≡◌, ℕ, ◌≤◌, Bool, true, false, if◌then◌else◌, ◌==◌, ◌||◌}
+use Rattle.std.proofs.Common.{◌%◌, ◌≡◌, ℕ, ◌≤◌, Bool, true, false, if◌then◌else◌, ◌==◌, ◌||◌}
 use Rattle.std.proofs.Common.{List, [], ◌∷◌, length, Some, None, refl, sym, subst, arith}
 use Rattle.std.proofs.Math.Nat.{le_refl}
 use Rattle.la_base.specs.declared.wires.Out.{Out}
@@ -15,7 +15,7 @@ use Rattle.dec_midi.specs.declared.held.Sort.{Sort}
 use Rattle.dec_midi.specs.declared.held.Sort.TheVariants.{Data, Status, RealTime}
 use Rattle.dec_midi.specs.declared.held.Takes.{Takes}
 use Rattle.dec_midi.specs.declared.held.Takes.TheVariants.{Nothing, One, Two, Ones, Twos, Any}
-use Rattle.dec_midi.specs.Midi.{is_byte, sort_of, takes, message, byte_note, own_outs}
+use Rattle.dec_midi.specs.Midi.{is_byte, as_byte, sort_of, takes, message, byte_note, own_outs}
 use Rattle.dec_midi.specs.laws.Steps.{by_two, runs, behind, first_gives, first_next}
 use Rattle.dec_midi.specs.laws.Steps.{data_gives, data_next, status_gives, opened}
 use Rattle.dec_midi.specs.laws.Steps.{sort_gives, sort_next, gives, next, near_by, midi_walk}
@@ -170,19 +170,24 @@ module _ (last : ℕ) (p : Packet) (after : last ≤ p.start) where
   later_sort Status h fit = later_opened (near_by h last) (takes p.a) (near_most h fit)
   later_sort RealTime h fit = (fits_on h fit, near_on h)
 
+module _ (last : ℕ) (p : Packet) (after : last ≤ p.start) where
+  abbrev q : Packet
+  q = as_byte p
+
   plain_gives : (h : Held) → midi_fits h last → Plain (near_by h last) (gives h p)
   plain_gives h fit = by (is_byte p)
     where
-      by : (t : Bool) → Plain (near_by h last) (if t then sort_gives (sort_of p.a) h p else [])
-      by true = plain_sort (sort_of p.a) h fit
+      by : (t : Bool) → Plain (near_by h last) (if t then sort_gives (sort_of q.a) h q else [])
+      by true = plain_sort last q after (sort_of q.a) h fit
       by false = no_outs (near_by h last)
 
-  later_next : (h : Held) → midi_fits h last → Later (near_by h last) (next h p)
+  later_next : (h : Held) → midi_fits h last → Later last p after (near_by h last) (next h p)
   later_next h fit = by (is_byte p)
     where
-      by : (t : Bool) → Later (near_by h last) (if t then sort_next (sort_of p.a) h p else h)
-      by true = later_sort (sort_of p.a) h fit
-      by false = (fits_on h fit, near_on h)
+      by : (t : Bool)
+          → Later last p after (near_by h last) (if t then sort_next (sort_of q.a) h q else h)
+      by true = later_sort last q after (sort_of q.a) h fit
+      by false = (fits_on last p after h fit, near_on last p after h)
 
 -- few outputs, and none a packet, also where a state doesn't fit
 abbrev Few : List Out → Type 0
@@ -234,8 +239,8 @@ few_sort RealTime h p = (omega arith, tt)
 few_gives : (h : Held) (p : Packet) → Few (gives h p)
 few_gives h p = by (is_byte p)
   where
-    by : (t : Bool) → Few (if t then sort_gives (sort_of p.a) h p else [])
-    by true = few_sort (sort_of p.a) h p
+    by : (t : Bool) → Few (if t then sort_gives (sort_of (p.a % 256)) h (as_byte p) else [])
+    by true = few_sort (sort_of (p.a % 256)) h (as_byte p)
     by false = (omega arith, tt)
 
 pub midi_sound : SoundPackets midi_walk NoWire midi_fits

@@ -1,5 +1,5 @@
 -- What a decoder of MIDI keeps between two packets, and how one packet changes that.
-use Rattle.std.specs.Prelude.{ℕ, ◌+◌, ◌-◌, ◌^◌, min, Bool, true, false, ◌==◌, if◌then◌else◌}
+use Rattle.std.specs.Prelude.{ℕ, ◌+◌, ◌-◌, ◌%◌, ◌^◌, min, Bool, true, false, ◌==◌, if◌then◌else◌}
 use Rattle.std.specs.Prelude.{List, [], ◌∷◌, Option, Some, None}
 use Rattle.la_base.specs.declared.wires.Out.{Out}
 use Rattle.la_base.specs.declared.wires.Packet.{Packet}
@@ -13,7 +13,7 @@ use Rattle.dec_midi.specs.declared.held.Sort.{Sort}
 use Rattle.dec_midi.specs.declared.held.Sort.TheVariants.{Data, Status, RealTime}
 use Rattle.dec_midi.specs.declared.held.Takes.{Takes}
 use Rattle.dec_midi.specs.declared.held.Takes.TheVariants.{Nothing, One, Two, Ones, Twos, Any}
-use Rattle.dec_midi.specs.Midi.{is_byte, bytes_in, sort_of, is_status, data_in, takes, message}
+use Rattle.dec_midi.specs.Midi.{is_byte, as_byte, bytes_in, sort_of, is_status, data_in, takes, message}
 use Rattle.dec_midi.specs.Midi.{byte_note, stray, starts, own_outs, data_end, data_count}
 
 -- whether a message has two data bytes, and whether another one may follow with no other status
@@ -126,10 +126,12 @@ sort_next RealTime held byte = held
 
 -- what a packet gives, and what is kept behind it
 abbrev pub gives : Held → Packet → List Out
-gives held packet = if is_byte packet then sort_gives (sort_of packet.a) held packet else []
+gives held packet =
+    if is_byte packet then sort_gives (sort_of (packet.a % 256)) held (as_byte packet) else []
 
 abbrev pub next : Held → Packet → Held
-next held packet = if is_byte packet then sort_next (sort_of packet.a) held packet else held
+next held packet =
+    if is_byte packet then sort_next (sort_of (packet.a % 256)) held (as_byte packet) else held
 
 -- where that starts which has begun and may still give notes; else where the last packet does
 abbrev pub near_by : Held → ℕ → ℕ

@@ -33,3 +33,7 @@ returns-clause-passed c = refl
 pub returns-clause-open : goal.returns-clause-open
 unfolding midi_outs midi_near
 returns-clause-open c = (refl, refl)
+
+pub returns-clause-nine : goal.returns-clause-nine
+unfolding midi_outs
+returns-clause-nine c = refl
