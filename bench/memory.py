@@ -1,9 +1,9 @@
 #!/usr/bin/env python3
-"""Prints the most memory that a decode takes, by the length of its capture.
+"""Prints the most memory that a decode takes, by the number of its decoders and the length of its capture.
 
-The capture is that of bench/decode.py, of 100,000 and of 1,000,000 transactions where none are named,
-and goes through a pipe as it is made. It is decoded as I2C, and as I2C with an EEPROM that stands on it
-and a serial line beside it. Exits with 1 where a run takes more than 12 MB.
+The capture is that of bench/decode.py, of 10,000 and of 100,000 transactions where none are named, and goes
+through a pipe as it is made. It is decoded by 1, 3, 8 and 24 decoders, with threads and without. Exits with
+1 where a run takes more than 3 MB and 1 MB a decoder.
 """
 import argparse
 import subprocess
@@ -12,11 +12,17 @@ import sys
 from drawn import LENGTH, made
 from program import built
 
-STACKS = [
-    ["i2c:scl=D0:sda=D1"],
-    ["i2c:scl=D0:sda=D1,eeprom24", "uart:rx=D2:baud=100000"],
-]
-MOST = 12 * 1000
+BUS = "i2c:scl=D0:sda=D1"
+STACKS = {
+    1: [BUS],
+    3: [BUS + ",eeprom24", "uart:rx=D2:baud=100000"],
+    8: [BUS] * 8,
+    24: [BUS] * 24,
+}
+
+# What a run may take, in kilobytes.
+BASE = 3000
+EACH = 1000
 
 
 def most_resident(process):
@@ -44,16 +50,18 @@ def main():
     parser = argparse.ArgumentParser(
         description=__doc__, formatter_class=argparse.RawDescriptionHelpFormatter
     )
-    parser.add_argument("transactions", metavar="TRANSACTIONS", nargs="*", type=int, default=[100000, 1000000])
+    parser.add_argument("transactions", metavar="TRANSACTIONS", nargs="*", type=int, default=[10000, 100000])
     counts = parser.parse_args().transactions
-    most = 0
-    for words in STACKS:
-        for count in counts:
-            taken = kilobytes(words, count)
-            most = max(most, taken)
-            print(f"{count * LENGTH} samples, {' '.join(words)}: {taken / 1000:.1f} MB")
-    if most > MOST:
-        sys.exit(1)
+    fits = True
+    for number, stack in STACKS.items():
+        for threads in ("yes", "no"):
+            for count in counts:
+                taken = kilobytes(["--threads", threads, *stack], count)
+                fits = fits and taken <= BASE + EACH * number
+                told = "with threads" if threads == "yes" else "without threads"
+                print(f"{number} decoders {told}, {count * LENGTH} samples: {taken / 1000:.1f} MB")
+    if not fits:
+        sys.exit("a run takes more memory than it may")
 
 
 if __name__ == "__main__":

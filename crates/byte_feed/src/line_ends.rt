@@ -17,7 +17,7 @@ const MARK: [u8; 3] = [239, 187, 191];
 
 /// How many bytes at the front are of one line, where `known` of them are known to be.
 #[inline(always)]
-fn line_at(bytes: &[u8], known: usize) -> usize
+pub fn line_at(bytes: &[u8], known: usize) -> usize
     requires within { known ≤ length bytes.now }
     requires one { AllIn bytes.now known }
     ensures within { result ≤ length bytes.now }

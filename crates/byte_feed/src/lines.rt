@@ -3,7 +3,7 @@ ghost use Rattle.std.specs.Prelude.{◌+◌, ◌-◌, ◌^◌, ◌≤◌, length
 
 use crate::FeedFault;
 use crate::filling::LONG;
-use crate::line_ends::{line_len, pass_mark};
+use crate::line_ends::{line_at, line_len, pass_mark};
 use la_base::NoMemory;
 use la_io::{Intake, Source};
 use std::alloc::Global;
@@ -118,6 +118,31 @@ impl Lines {
             return None;
         }
         Some(&rest[..len])
+    }
+
+    /// The next line, where all of it is held, with the line feed after it. Nothing is read.
+    #[inline(always)]
+    pub fn held(&self) -> Option<&[u8]>
+        ensures { IfSome result (λ text. Ahead self.now (length text.now)
+            × AllIn (rest_of self.now) (length text.now)
+            × (text.now ≡ take (length text.now) (rest_of self.now))) }
+    {
+        if self.number == 0 {
+            return None;
+        }
+        let rest = &self.intake.bytes()[self.over..];
+        let len = line_at(rest, 0);
+        if len >= rest.len() {
+            return None;
+        }
+        Some(&rest[..len])
+    }
+
+    /// How many lines were given.
+    pub fn number(&self) -> u64
+        ensures { result ≡ number_of self.now }
+    {
+        self.number
     }
 
     /// Takes these bytes as the next line, and answers its number. Nothing is read.

@@ -1,7 +1,8 @@
 -- Runs that are given one behind another.
-use Rattle.std.proofs.Common.{◌≡◌, ◌≤◌, ◌+◌, ◌^◌, length, arith, length-append, length-take-le, take, ℕ, Option, Some, None, Ok, List, [], ◌∷◌, ◌++◌, sym, ◌∙◌, ap, subst, append_assoc}
+use Rattle.std.proofs.Common.{◌≡◌, ◌≤◌, ◌<◌, ◌+◌, ◌^◌, Bool, true, false, Result, Err, length, arith, length-append, length-take-le, take, ℕ, Option, Some, None, Ok, List, [], ◌∷◌, ◌++◌, sym, ◌∙◌, ap, subst, append_assoc}
 use Rattle.std.proofs.lemmas.List.{append-nil, take-append-le}
 use Rattle.std.proofs.Math.Seq.{take-append-add}
+use Rattle.std.proofs.KnownBytes.{Consumes-nil}
 use borrow.Rule.Slice.PartMut.{put_mid, post_of}
 use Rattle.la_base.proofs.RunLemmas.{count_push, samples_len, samples_push}
 use Rattle.la_base.specs.Runs.{samples_of}
@@ -16,7 +17,9 @@ use Rattle.capture_any.specs.Reading.{Next, Stands, StandsIn, given_in}
 use Rattle.capture_any.specs.declared.reader.NamedRaw.{NamedRaw}
 use Rattle.capture_any.specs.declared.reader.Reader.{Reader}
 use Rattle.capture_any.specs.declared.reader.Reader.TheVariants.{Raw as OfRaw}
-use Rattle.capture_any.specs.Taking.{GaveHeld, GaveMore, RawGave}
+use Rattle.capture_any.specs.Taking.{GaveHeld, GaveMore, Gives, RawGave}
+use Rattle.la_io.specs.declared.fault.CaptureError.{CaptureError}
+use Rattle.capture_any.proofs.Telling.{later_still}
 use Rattle.la_io.specs.Reading.{run_samples}
 use Rattle.capture_any.specs.declared.capture.Capture.{Capture}
 
@@ -108,3 +111,42 @@ taken_behind room part at k count within few =
     ap (λ (n : ℕ). take (n + count) (front ++ (part ++ post_of at k room))) (sym (length-take-le at room within))
     ∙ take-append-add front (part ++ post_of at k room) count
     ∙ ap (λ (l : List Run). front ++ l) (take-append-le count part (post_of at k room) few)
+
+-- what was read already is given, and no byte is taken
+pub gave_at_hand : (old new : Capture) (left : Option (List ℕ)) (more : List ℕ) → GaveHeld old new more → GaveMore old new left left more
+gave_at_hand old new left more held = record {
+  bytes = [];
+  consumed = Consumes-nil left;
+  answers = λ before early given at st. (
+    early,
+    later_still early,
+    at,
+    subst (λ (l : List ℕ). Stands new l early (given ++ more)) (sym (append-nil before)) (held before early given st),
+  );
+}
+
+-- nothing was read already, and then more was asked for
+module _ (old mid new : Capture) (l m : Option (List ℕ)) (held : GaveHeld old mid []) where
+  stood : (before : List ℕ) (told : Told) (given : List ℕ) → Stands old before told given → Stands mid before told given
+  stood before told given st = subst (Stands mid before told) (append-nil given) (held before told given st)
+
+  next_behind : {r : Result (Option Run) CaptureError} → Next mid new l m r → Next old new l m r
+  next_behind next = record { bytes = next.bytes; consumed = next.consumed; answers = λ before told given at st. next.answers before told given at (stood before told given st) }
+
+  pub gives_behind : (runs : List Run) (result : Result Bool CaptureError) → Gives mid new l m runs result → Gives old new l m runs result
+  gives_behind runs (Ok true) gives = record { bytes = gives.bytes; consumed = gives.consumed; answers = λ before early given at st. gives.answers before early given at (stood before early given st) }
+  gives_behind runs (Ok false) gives = next_behind gives
+  gives_behind runs (Err error) gives = next_behind gives
+
+-- some run has some sample
+pub more_given : (run : Run) (old mid new more : ℕ) → old + length (run_samples (Some run)) ≤ mid → mid + more ≤ new → old < new
+more_given run old mid new more first second =
+    let len : length (samples run) ≡ run.len = samples_len run in
+    let some = run.not_empty in
+    omega (arith, len, some, first, second)
+
+-- the first run and those behind it
+pub counts_held : (run : Run) (more runs : List Run) (old mid new : ℕ) → runs ≡ run ∷ more → old + length (samples run) ≤ mid → mid + length (samples_of more) ≤ new → old + length (samples_of runs) ≤ new
+counts_held run more runs old mid new is first second =
+    let len : length (samples run) ≡ run.len = samples_len run in
+    counts_first run more runs old mid new is (omega (arith, len, first)) second

@@ -21,7 +21,7 @@ pub struct Capture {
 
 impl Capture {
     ghost use Rattle.std.specs.Prelude.{◌≡◌, ◌≢◌, ◌+◌, ◌^◌, ◌<◌, ◌≤◌, ℕ, List, [], ◌++◌, length};
-    ghost use Rattle.std.specs.Prelude.{slice_index, true, Bool, None, Ok, IfOk, IfSome};
+    ghost use Rattle.std.specs.Prelude.{slice_index, true, false, Bool, None, Ok, IfOk, IfSome, IsSome};
     ghost use Rattle.la_base.specs.Samples.{samples};
     ghost use Rattle.la_base.specs.declared.samples.Run.{Run};
     ghost use Rattle.la_base.specs.Runs.{samples_of};
@@ -168,6 +168,7 @@ impl Capture {
         ensures rate { rate_of self.new ≡ rate_of self.old }
         ensures progress { given_by self.old + length (run_samples result) ≤ given_by self.new }
         ensures few { given_by self.old ≤ 2 ^ 60 → given_by self.new ≤ 2 ^ 60 }
+        ensures some { IsSome result → given_by self.new ≤ 2 ^ 60 }
     {
         // A test of one form alone, since a choice of several is made anew for each run.
         if let Reader::Raw(raw) = &mut self.reader {
@@ -190,6 +191,7 @@ impl Capture {
         ensures rate { rate_of self.new ≡ rate_of self.old }
         ensures progress { given_by self.old + length (run_samples result) ≤ given_by self.new }
         ensures few { given_by self.old ≤ 2 ^ 60 → given_by self.new ≤ 2 ^ 60 }
+        ensures some { IsSome result → given_by self.new ≤ 2 ^ 60 }
     {
         match &mut self.reader {
             Reader::Raw(_) => None,
@@ -214,6 +216,31 @@ impl Capture {
             Reader::Raw(raw) => into.take_raw(&mut raw.reader),
             Reader::Vcd(reader) => take_vcd(reader, into),
             Reader::Csv(reader) => take_csv(reader, into),
+        }
+    }
+
+    /// Gives as many runs as are read already and there is room for, and answers whether there are
+    /// any. Nothing is read. What `into` held before is let go.
+    pub fn held_runs(&mut self, into: &mut Runs) -> bool
+        ensures gave { GaveHeld self.old self.new (samples_of into.new) }
+        ensures none { result ≡ false → into.new ≡ [] }
+        ensures is_open { is_open_of self.new ≡ is_open_of self.old }
+        ensures form { form_of self.new ≡ form_of self.old }
+        ensures pins { pins_of self.new ≡ pins_of self.old }
+        ensures names { names_of self.new ≡ names_of self.old }
+        ensures rate { rate_of self.new ≡ rate_of self.old }
+        ensures progress { result ≡ true → given_by self.old < given_by self.new }
+        ensures counts { given_by self.old + length (samples_of into.new) ≤ given_by self.new }
+        ensures few { result ≡ true → given_by self.new ≤ 2 ^ 60 }
+    {
+        into.clear();
+        match self.held_run() {
+            Some(run) => {
+                into.push(run);
+                self.take_held(into);
+                true
+            }
+            None => false,
         }
     }
 

@@ -17,4 +17,5 @@ pub mod Beginning
 pub mod Selecting
 pub mod Making
 pub mod Giving
+pub mod HeldLines
 pub mod Holding

@@ -227,6 +227,18 @@ GoesHeld old new more =
     (bytes : List ℕ) (told : Told) (given : List ℕ) → Going old bytes told given
     → Going new bytes told (given ++ more)
 
+-- what one line that is held answers: nothing was given and no line taken, or one that gave no
+-- samples, or these
+abbrev pub HeldLine : CsvReader → CsvReader → Option Step → Type 0
+HeldLine old new None =
+    GoesHeld old new [] × (held_in new.body ≡ false) × (csv_given old ≤ csv_given new)
+HeldLine old new (Some Went) =
+    GoesHeld old new [] × (left_of new.lines < left_of old.lines) × (csv_given old ≤ csv_given new)
+HeldLine old new (Some (Gave run)) =
+    GoesHeld old new (samples run) × (held_in new.body ≡ false)
+    × (csv_given old + run.len ≤ csv_given new)
+HeldLine old new (Some Over) = ⊥
+
 -- a sample that was held is given
 abbrev pub FlushedRun : CsvReader → CsvReader → Option Run → Type 0
 FlushedRun old new None = (new ≡ old) × (held_in old.body ≡ false)

@@ -195,6 +195,14 @@ pub record NewBody (mode : CsvMode) (rate : Rate) (want : ℕ) (body : Body) : T
   pub none_held : held_in body ≡ false
   pub none : at_in body ≡ 0
 
+-- it stands for the same, by other room for the levels of the next record
+pub record SameStands (old new : Body) : Type 0 where
+  pub form : SameBody old new
+  pub levels : new.levels.items ≡ old.levels.items
+  pub word : new.word ≡ old.word
+  pub span : new.span ≡ old.span
+  pub held : new.held ≡ old.held
+
 -- only its levels change
 pub record SameButLevels (old new : Body) : Type 0 where
   pub mode : new.mode ≡ old.mode

@@ -14,6 +14,7 @@ use csv::ByteRecord;
 use la_base::{CsvMode, NoMemory, Pins, Rate, Run, Word};
 use la_io::CaptureFault;
 use std::alloc::Global;
+use std::mem::swap;
 
 /// The most samples.
 const LARGE: u128 = 1 << 60;
@@ -26,8 +27,9 @@ pub struct Body {
     rate: Rate,
     // how many fields a record has
     want: usize,
-    // the levels of the last record, and their word
+    // the levels of the last record, and their word; and room for those of the next one
     levels: Vec<bool>,
+    spare: Vec<bool>,
     pins: Pins,
     word: Word,
     // the times
@@ -36,6 +38,7 @@ pub struct Body {
     held: bool,
     ghost few: { rate.num ≤ 10 ^ 15 },
     ghost fits: { length levels.items ≡ want - skips mode },
+    ghost spares: { length spare.items ≡ want - skips mode },
     ghost narrow: { want ≤ 65537 },
     ghost timed: { at_of span ≡ sample_of rate span },
     ghost rows: { held ≡ true → skips mode ≡ 0 },
@@ -52,7 +55,7 @@ impl Body {
     ghost use Rattle.capture_csv.specs.Simple.{HasFields, IsSimpleLine};
     ghost use Rattle.capture_csv.specs.Running.{BodyStands, EndSays, Flushes, FoundIs, LineSays};
     ghost use Rattle.capture_csv.specs.Running.{NewBody, RecordSays, RowLen, SameBody};
-    ghost use Rattle.capture_csv.specs.Running.{SameButLevels, TakenCounts, TakenSays, at_in};
+    ghost use Rattle.capture_csv.specs.Running.{SameButLevels, SameStands, TakenCounts, TakenSays, at_in};
     ghost use Rattle.capture_csv.specs.Running.{held_in, mode_in, pins_in, rate_in, want_in};
     ghost use Rattle.la_base.specs.declared.modes.CsvMode.TheVariants.{Rows, Times};
     ghost use Rattle.capture_csv.specs.declared.span.Found.{Found};
@@ -65,12 +68,15 @@ impl Body {
     {
         let mut levels = Vec::new(alloc);
         levels.resize(want.saturating_sub(skipped(mode)), false)?;
+        let mut spare = Vec::new(alloc);
+        spare.resize(want.saturating_sub(skipped(mode)), false)?;
         Ok(Body {
             alloc,
             mode,
             rate,
             want,
             levels,
+            spare,
             pins: Pins::new(),
             word: 0,
             span: None,
@@ -88,6 +94,7 @@ impl Body {
             → FoundIs (mode_in self.old) (map trimmed fields) self.new.levels.items result }
         ensures early { IfSome result.time (λ time. time < 2 * 10 ^ 22) }
         ensures form { SameButLevels self.old self.new }
+        ensures spare { self.new.spare ≡ self.old.spare }
     {
         match self.mode {
             CsvMode::Rows => Found {
@@ -136,6 +143,7 @@ impl Body {
         ensures form { SameBody self.old self.new }
         ensures held { held_in self.new ≡ held_in self.old }
         ensures counts { TakenCounts self.old self.new result }
+        ensures kept { IfErr result (λ _. self.new ≡ self.old) }
     {
         let time = match found.time {
             Some(time) => time,
@@ -188,6 +196,7 @@ impl Body {
         ensures says { TakenSays self.old self.new line found result }
         ensures form { SameBody self.old self.new }
         ensures counts { TakenCounts self.old self.new result }
+        ensures kept { IfErr result (λ _. self.new ≡ self.old) }
         ensures rows { IfOk result (λ run. run ≡ None) }
     {
         match found.bad {
@@ -206,6 +215,7 @@ impl Body {
         ensures says { TakenSays self.old self.new line found result }
         ensures form { SameBody self.old self.new }
         ensures counts { TakenCounts self.old self.new result }
+        ensures kept { IfErr result (λ _. self.new ≡ self.old) }
         ensures rows { IfOk result (λ run. IfSome run (λ _. mode_in self.old ≡ Times)) }
     {
         match self.mode {
@@ -285,6 +295,45 @@ impl Body {
         match field_count(text) {
             Some(have) => Ok(self.simple_record(line, text, have)),
             None => self.csv_record(line, text),
+        }
+    }
+
+    // Puts the levels aside, where those of the next record were read to, and the other way round.
+    #[inline(always)]
+    fn exchange(&mut self)
+        ensures levels { (self.new.levels ≡ self.old.spare) × (self.new.spare ≡ self.old.levels) }
+        ensures form { SameButLevels self.old self.new }
+    {
+        swap(&mut self.levels, &mut self.spare);
+    }
+
+    /// Reads the record of a line as `record` does, where that is no fault and takes no memory; else
+    /// it stands for the same as before, and `None` comes.
+    #[inline(always)]
+    pub fn sound_record(&mut self, line: u64, text: &[u8]) -> Option<Option<Run>>
+        requires some { 0 < length text.now }
+        requires few { length text.now ≤ 65536 }
+        ensures says { IfSome result (λ run. LineSays self.old self.new line text.now (Ok run)) }
+        ensures same { result ≡ None → SameStands self.old self.new }
+        ensures form { SameBody self.old self.new }
+        ensures counts { IfSome result (λ run. TakenCounts self.old self.new (Ok run)) }
+        ensures rows { IfSome result (λ run. IfSome run (λ _. mode_in self.old ≡ Times)) }
+    {
+        let have = match field_count(text) {
+            Some(have) => have,
+            None => return None,
+        };
+        if have != self.want {
+            return None;
+        }
+        self.exchange();
+        let found = self.find_simple(text);
+        match self.take(line, found) {
+            Ok(run) => Some(run),
+            Err(_) => {
+                self.exchange();
+                None
+            }
         }
     }
 

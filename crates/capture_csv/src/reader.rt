@@ -39,7 +39,7 @@ impl CsvReader {
     ghost use Rattle.capture_csv.specs.Running.{held_in, run_len};
     ghost use Rattle.la_io.specs.Reading.{run_samples, CaptureCause, stays_open};
     ghost use Rattle.capture_csv.specs.Reader.{CsvStands, FlushedRun, GaveHeld, Gives, GoesHeld};
-    ghost use Rattle.capture_csv.specs.Reader.{LineAnswers, LineGoes, MoreGiven, Nexts, SameReader};
+    ghost use Rattle.capture_csv.specs.Reader.{HeldLine, LineAnswers, LineGoes, MoreGiven, Nexts, SameReader};
     ghost use Rattle.capture_csv.specs.Reader.{Steps, WantsLater, WentOn, csv_given, csv_header};
     ghost use Rattle.capture_csv.specs.Reader.{csv_lines, csv_mode, csv_names, csv_open, csv_pins};
     ghost use Rattle.capture_csv.specs.Reader.{csv_rate};
@@ -369,8 +369,93 @@ impl CsvReader {
         self.flush()
     }
 
-    /// The next run of what is held, which are equal samples of lines of digits alone; `None` where
-    /// no such line is next. Nothing is read.
+    // Whether it is open and reads a body.
+    fn reads_body(&self) -> bool
+        ensures going { result ≡ true → self.now.phase ≡ Running }
+    {
+        match self.phase {
+            Phase::Running => self.is_open,
+            Phase::Ended => false,
+            Phase::Empty => false,
+            Phase::Refused(_) => false,
+        }
+    }
+
+    // Takes one line that is held, where it has no fault and takes no memory.
+    #[inline(always)]
+    fn held_line(&mut self) -> Option<Step>
+        requires going { self.old.phase ≡ Running }
+        requires held { held_in self.old.body ≡ false }
+        ensures goes { HeldLine self.old self.new result }
+        ensures phase { self.new.phase ≡ self.old.phase }
+        ensures form { SameReader self.old self.new }
+        ensures is_open { csv_open self.new ≡ csv_open self.old }
+    {
+        let number = self.lines.number();
+        let line = match self.lines.held() {
+            Some(line) => line,
+            None => return None,
+        };
+        let len = line.len();
+        let text = without_marks(line);
+        if is_passed(text) {
+            self.lines.pass(len);
+            return Some(Step::Went);
+        }
+        match self.body.sound_record(number + 1, text) {
+            None => None,
+            Some(None) => {
+                self.lines.pass(len);
+                Some(Step::Went)
+            }
+            Some(Some(run)) => {
+                self.lines.pass(len);
+                Some(Step::Gave(run))
+            }
+        }
+    }
+
+    // The next run of records that are held.
+    #[inline(never)]
+    fn held_record(&mut self) -> Option<Run>
+        requires going { self.old.phase ≡ Running }
+        requires held { held_in self.old.body ≡ false }
+        ensures given { GoesHeld self.old self.new (run_samples result) }
+        ensures counts { csv_given self.old + run_len result ≤ csv_given self.new }
+        ensures phase { self.new.phase ≡ self.old.phase }
+        ensures form { SameReader self.old self.new }
+        ensures is_open { csv_open self.new ≡ csv_open self.old }
+    {
+        'held: loop {
+            match self.held_line() {
+                None => return None,
+                Some(Step::Gave(run)) => return Some(run),
+                Some(Step::Over) => return None,
+                Some(Step::Went) => {}
+            }
+            match self.flush() {
+                Some(run) => return Some(run),
+                None => {}
+            }
+        }
+    }
+
+    // The same, where it reads a body of records with times.
+    fn held_timed(&mut self) -> Option<Run>
+        ensures given { GaveHeld self.old self.new (run_samples result) }
+        ensures counts { csv_given self.old + run_len result ≤ csv_given self.new }
+        ensures form { SameReader self.old self.new }
+        ensures is_open { csv_open self.new ≡ csv_open self.old }
+    {
+        if !self.reads_body() || self.body.is_held() {
+            return None;
+        }
+        self.held_record()
+    }
+
+    /// The next run of what is held: equal samples of lines of digits alone, or what one record of
+    /// another line gives; `None` where no record is held, or the next one has a fault or takes memory.
+    /// Nothing is read.
     #[inline(always)]
     pub fn held_run(&mut self) -> Option<Run>
         ensures given { GaveHeld self.old self.new (run_samples result) }
@@ -380,11 +465,11 @@ impl CsvReader {
         ensures is_open { csv_open self.new ≡ csv_open self.old }
     {
         if !self.reads_rows() {
-            return None;
+            return self.held_timed();
         }
         let first = match self.sample() {
             Some(run) => run,
-            None => return None,
+            None => return self.held_record(),
         };
         let value = first.value;
         let mut len = first.len;

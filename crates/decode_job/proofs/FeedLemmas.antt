@@ -166,6 +166,24 @@ module _ {S : Type 0} (left : S → Option (List ℕ)) (faults : S → ℕ) (old
         cause = subst (λ (b : Bool). Caused left faults b new.end new.first_source.value.now new.source.now) (sym is_open) (cause ∙ failed_so_far ∙ sym (ap faults same_from));
       }
 
+  -- nothing was at hand
+  pub feed_stays : is_open_of new.capture.now ≡ true → GaveMore old.capture.now new.capture.now (left old.source.now) (left new.source.now) [] → faults new.source.now ≡ faults old.source.now
+      → given_by old.capture.now ≤ given_by new.capture.now → GaveRuns left faults new before
+  feed_stays is_open gives cause stays =
+      let had = gave.count was_open in
+      let all = subst (λ (l : List ℕ). GaveMore from new.capture.now (left source_from) (left new.source.now) l) (append-nil (samples_of before))
+      (gave_on from old.capture.now new.capture.now (left source_from) (left old.source.now) (left new.source.now) (samples_of before) [] gave_so_far gives) in
+      record {
+        same_source = name_stays;
+        form = form_stays;
+        pins = pins_stay;
+        count = λ o. omega (arith, had, stays);
+        few = gave.few;
+        given = subst (λ (b : Bool). Given left faults b new.end new.first_capture.value.now new.capture.now new.first_source.value.now new.source.now (samples_of before)) (sym is_open)
+            (transport (λ i. GaveMore (sym same_capture i) new.capture.now (left (sym same_from i)) (left new.source.now) (samples_of before)) all);
+        cause = subst (λ (b : Bool). Caused left faults b new.end new.first_source.value.now new.source.now) (sym is_open) (cause ∙ failed_so_far ∙ sym (ap faults same_from));
+      }
+
   -- the capture came to its end
   pub feed_ends : new.runs ≡ [] → (runs : List Run) (answer : Result Bool CaptureError) → ended answer ≡ Some new.end → is_open_of new.capture.now ≡ false → Gives old.capture.now new.capture.now (left old.source.now) (left new.source.now) runs answer
       → CaptureCause (faults old.source.now) (faults new.source.now) answer → GaveRuns left faults new before

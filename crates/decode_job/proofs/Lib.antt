@@ -1,5 +1,4 @@
 pub mod FeedLemmas
-mod Growing
 mod Showing
 pub mod Seen
 pub mod Listed

@@ -43,7 +43,7 @@ use Rattle.note_lister.proofs.TakingLemmas.{begins_itself, bytes_in-append}
 use Rattle.tree_runs.specs.Listings.{notes_of}
 use Rattle.decode_job.specs.Listing.{bytes_by, bytes_of, given_behind, notes_to_list, output_of, rest_of}
 use Rattle.decode_job.specs.Seen.{WritesFrontSeen, WritesSeen}
-use Rattle.decode_job.proofs.Growing.{grows}
+use Rattle.check_laws.proofs.Growing.{grows}
 use Rattle.decode_job.proofs.Showing.{shown_notes}
 
 -- notes and pieces alone
@@ -191,7 +191,7 @@ begins_further : {X : Type 0} (a b c : List X) → Begins a b → Begins b c →
 begins_further a b c one other = (one.0 ++ other.0, sym (append_assoc a one.0 other.0) ∙ (ap (λ l. l ++ other.0) one.1 ∙ other.1))
 
 -- lists with the same elements at each place are one
-same_places : {X : Type 0} (xs ys : List X) → length xs ≡ length ys → ((j : ℕ) → j < length xs → slice_get xs j ≡ slice_get ys j) → xs ≡ ys
+pub same_places : {X : Type 0} (xs ys : List X) → length xs ≡ length ys → ((j : ℕ) → j < length xs → slice_get xs j ≡ slice_get ys j) → xs ≡ ys
 same_places [] [] len same = refl
 same_places [] (y ∷ ys) len same = absurd (omega (arith, len))
 same_places (x ∷ xs) [] len same = absurd (omega (arith, len))
@@ -225,14 +225,14 @@ rest_len (x ∷ was) [] same = absurd (omega (arith, same))
 rest_len (x ∷ was) (y ∷ now) same = ap (λ (k : ℕ). suc k) (rest_len was now (omega (arith, same)))
 
 module _ {S : Type 0} (outputs : S → List Item → List Out) (setups : List S) (parents : List (Option ℕ)) (forest : IsForest parents) (count : length setups ≡ length parents) where
-  behind_at : (earlier all : List ℕ) (j : ℕ) → j < length parents
+  pub behind_at : (earlier all : List ℕ) (j : ℕ) → j < length parents
       → slice_get (rest_of (given outputs earlier (nodes_of setups parents)) (given outputs all (nodes_of setups parents))) j
       ≡ Some (drop (length (whole_of outputs setups j (input_at outputs (nodes_of setups parents) earlier j))) (whole_of outputs setups j (input_at outputs (nodes_of setups parents) all j)))
   behind_at earlier all j within =
       rest_at (given outputs earlier (nodes_of setups parents)) (given outputs all (nodes_of setups parents)) j (whole_of outputs setups j (input_at outputs (nodes_of setups parents) earlier j)) (whole_of outputs setups j (input_at outputs (nodes_of setups parents) all j))
       (given_at outputs setups parents forest count earlier j within) (given_at outputs setups parents forest count all j within)
 
-  behind_len : (earlier all : List ℕ) → length (rest_of (given outputs earlier (nodes_of setups parents)) (given outputs all (nodes_of setups parents))) ≡ length parents
+  pub behind_len : (earlier all : List ℕ) → length (rest_of (given outputs earlier (nodes_of setups parents)) (given outputs all (nodes_of setups parents))) ≡ length parents
   behind_len earlier all =
       let mine = given_len outputs setups parents forest count earlier in
       let theirs = given_len outputs setups parents forest count all in

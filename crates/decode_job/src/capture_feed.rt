@@ -92,12 +92,26 @@ impl<'a, 'b, S: Source> RunFeed for CaptureFeed<'a, 'b, S> {
         }
     }
 
+    fn held_runs(&mut self) -> bool {
+        if !self.capture.is_open() {
+            self.runs.clear();
+            return false;
+        }
+        if self.capture.held_runs(&mut self.runs) {
+            return true;
+        }
+        false
+    }
+
     fn runs(&self) -> &[Run] {
         self.runs.list()
     }
 
-    // Where there was room for more, all that was read is given, and the next call reads.
     fn may_wait(&self) -> bool {
-        !self.runs.is_full() && self.source.may_wait()
+        self.source.may_wait()
+    }
+
+    fn waits_now(&self) -> bool {
+        self.source.waits_now()
     }
 }

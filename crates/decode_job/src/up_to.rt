@@ -112,4 +112,8 @@ impl<'a, 'b, S: Source> RunFeed for UpTo<'a, 'b, S> {
     fn may_wait(&self) -> bool {
         !self.past && self.feed.may_wait()
     }
+
+    fn waits_now(&self) -> bool {
+        self.feed.waits_now()
+    }
 }

@@ -1,10 +1,12 @@
 -- Steps over runs: one behind another, and the walk of a driver.
-use Rattle.std.proofs.Common.{◌≡◌, ◌+◌, ◌-◌, ◌^◌, ◌≤◌, ◌++◌, [], ℕ, List, Bool, true, false, Option, None, length, map, take, refl, sym, ◌∙◌, ap, subst, arith, append_assoc, length-append, not}
+use Rattle.std.proofs.Common.{◌≡◌, ◌+◌, ◌-◌, ◌^◌, ◌≤◌, ◌<◌, ◌++◌, [], ℕ, zero, suc, List, Bool, true, false, Option, None, length, map, take, get_or, refl, sym, ◌∙◌, ap, subst, arith, append_assoc, length-append, not}
 use Rattle.std.proofs.lemmas.List.{append-nil, map-append, nil_from_length, take_all}
+use Rattle.la_base.specs.Runs.{samples_of}
 use Rattle.la_base.specs.Samples.{samples}
 use Rattle.la_base.specs.declared.samples.Run.{Run}
 use Rattle.la_base.specs.declared.wires.Feed.TheVariants.{Run as RunFeed}
 use Rattle.la_base.specs.declared.wires.Out.{Out}
+use Rattle.la_base.proofs.RunLemmas.{count_more}
 use Rattle.wait_cond.specs.Waiting.{Waits, alts_of, consumed_by, wait_from}
 use Rattle.wait_cond.specs.Walks.{Walks, walk_from}
 use Rattle.wait_cond.specs.declared.alt.Alt.{Alt}
@@ -25,6 +27,16 @@ is_false false is = refl
 pub is_true : (t : Bool) → not t ≡ false → t ≡ true
 is_true true is = refl
 is_true false is = cc
+
+-- the samples of some runs are at least those of the last of them
+pub samples_behind : (runs : List Run) (count : ℕ) (run : Run) → run ≡ get_or runs (count - 1) run → count ≤ length runs → 0 < length (samples_of (take count runs)) → run.len ≤ length (samples_of (take count runs))
+samples_behind runs zero run is within some = absurd (omega (arith, some))
+samples_behind runs (suc k) run is within some =
+    let one : k + 1 ≡ suc k = omega arith in
+    let place : suc k - 1 ≡ k = omega arith in
+    let more = count_more runs k run (omega (arith, within)) (subst (λ (n : ℕ). run ≡ get_or runs n run) place is) in
+    let all = ap (λ (n : ℕ). length (samples_of (take n runs))) one in
+    omega (arith, more, all)
 
 module _ {before middle after : List Item → Type 0} {outputs : List Item → List Out} where
   -- one behind another

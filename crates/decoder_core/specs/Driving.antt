@@ -31,6 +31,11 @@ pub record StepsRuns (before after : List Item → Type 0) (outputs : List Item 
   pub consumes : (input : List Item) → before input → after (input ++ front)
   pub gives : (input : List Item) → before input → outputs (input ++ front) ≡ outputs input ++ into
 
+-- where runs that were taken have samples, fewer are left of the last one
+abbrev pub LeavesFewer : List ℕ → Option Run → Type 0
+LeavesFewer samples rest =
+    0 < length samples → length (left_items (left_feed rest)) < length samples
+
 -- a step goes on to the first stop or to the end of the feed: before the last item of what was
 -- consumed there is no stop, and where anything is left that item is one. `before` says of which
 -- inputs the machine stood, and `sleeps` of which items behind an input none is a stop

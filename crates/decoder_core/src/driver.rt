@@ -8,7 +8,8 @@ ghost use Rattle.la_base.specs.Runs.{samples_of};
 ghost use Rattle.wait_cond.specs.Waiting.{Waits, alts_of, wait_from, consumed_by, last_of};
 ghost use Rattle.decoder_core.specs.Inputs.{Item, Sample, counted_samples, items_of, left_feed};
 ghost use Rattle.decoder_core.specs.Inputs.{left_items};
-ghost use Rattle.decoder_core.specs.Driving.{Passes, ReachesStop, Steps, StepsRuns, StopsFirst};
+ghost use Rattle.decoder_core.specs.Driving.{LeavesFewer, Passes, ReachesStop, Steps, StepsRuns};
+ghost use Rattle.decoder_core.specs.Driving.{StopsFirst};
 ghost use Rattle.decoder_core.specs.Driving.{Drives, Sleeps, SameState};
 ghost use Rattle.decoder_core.specs.laws.CountedLaws.{nothing_counted, front_counted, few_counted};
 
@@ -108,6 +109,7 @@ impl<L: LogicMachine> Driver<L> {
             (Drives L.stands L.alts self.new.machine self.new.waiter)
             (λ input. L.outs (L.setup self.old.machine) (counted_samples input))
             (samples_of (take result.count runs.now)) result.rest into.new }
+        ensures fewer { LeavesFewer (samples_of (take result.count runs.now)) result.rest }
     {
         let pair = self.waiter.pair();
         let mut walk = self.waiter.walk();
@@ -136,6 +138,7 @@ impl<L: LogicMachine> Driver<L> {
             (Drives L.stands L.alts self.new.machine self.new.waiter)
             (λ input. L.outs (L.setup self.old.machine) (counted_samples input))
             (replicate (run.len - 1) run.value) result [] }
+        ensures few { length (left_items (left_feed result)) ≤ run.len - 1 }
     {
         match behind(run, 1) {
             Some(rest) => {
@@ -161,6 +164,7 @@ impl<L: LogicMachine> Driver<L> {
             (Drives L.stands L.alts self.new.machine self.new.waiter)
             (λ input. L.outs (L.setup self.old.machine) (counted_samples input))
             (samples_of (take result.count runs.now)) result.rest into.new }
+        ensures fewer { LeavesFewer (samples_of (take result.count runs.now)) result.rest }
     {
         let passed = self.waiter.pass_runs(runs);
         if passed >= runs.len() {

@@ -14,7 +14,7 @@ ghost use Rattle.decoder_core.specs.Promises.{StandsThere, OneMachine, OneLastSt
 ghost use Rattle.la_base.specs.declared.wires.Packet.{Packet};
 ghost use Rattle.decoder_core.specs.Packets.{AllCount, IsPacketFloor, OnePacketMachine};
 ghost use Rattle.decoder_core.specs.Packets.{PacketsStayInOrder, last_start};
-ghost use Rattle.decoder_core.specs.Driving.{ReachesStop, Steps, StepsRuns, StopsFirst};
+ghost use Rattle.decoder_core.specs.Driving.{LeavesFewer, ReachesStop, Steps, StepsRuns, StopsFirst};
 
 use crate::Outs;
 use la_base::{Feed, Packet, Run, Wire, Word};
@@ -230,7 +230,7 @@ pub trait Machine {
         ensures stops { StopsFirst (consumed self.old) (sleeps self.old) feed result };
 
     /// Takes runs, from the first one on, at least one where there is one, and consumes their
-    /// samples but for what it answers as left of the last of them. The outputs of what was
+    /// samples but for what it answers as left of the last of them, which isn't all. The outputs of what was
     /// consumed are put into `into`. How far it goes is speed alone; no clause says it.
     fn step_runs(&mut self, runs: &[Run], into: &mut Outs) -> Taken
         requires { into.old ≡ [] }
@@ -238,7 +238,8 @@ pub trait Machine {
         ensures within { result.count ≤ length runs.now }
         ensures some { 0 < length runs.now → 0 < result.count }
         ensures steps { StepsRuns (consumed self.old) (consumed self.new) (outputs (setup self.old))
-            (samples_of (take result.count runs.now)) result.rest into.new };
+            (samples_of (take result.count runs.now)) result.rest into.new }
+        ensures fewer { LeavesFewer (samples_of (take result.count runs.now)) result.rest };
 
     /// As `step`, for the feed of a run; but it may go on behind the first stop, as far as there is
     /// no other. So mostly nothing is left.

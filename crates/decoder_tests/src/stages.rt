@@ -3,6 +3,8 @@ mod alone;
 pub mod bus;
 mod line;
 mod links;
+mod pacers;
+mod pauses;
 mod threads;
 mod trees;
 mod turns;

@@ -138,10 +138,3 @@ written_on first_waiter before after stops list front more all old now new (Err 
 pub consumed_on : (result : Result (Unit {0}) Failed) (last now first front rest all : ℕ) → now ≡ first + front → front + rest ≡ all → OnOk result (last ≡ now + rest) → OnOk result (last ≡ first + all)
 consumed_on (Ok done) last now first front rest all count total more = omega (arith, count, total, more)
 consumed_on (Err failed) last now first front rest all count total more = tt
-
--- they were written, and then handed on
-pub written_handed : (after before : Waiter) (samples list : List ℕ) (stops : List Stop) (old mid new : Option (List ℕ)) (result : Result (Unit {0}) Failed) → AllWritten after (alts_of before) (list ++ samples) stops old mid → Keeps mid new
-    → Written after before samples list stops old new result
-written_handed after before samples list stops old mid new (Ok done) all kept = record { more = all.more; waits = all.waits; chain = all.chain; written = appends_kept old mid new (lines_of all.more) all.written kept }
-written_handed after before samples list stops old mid new (Err failed) all kept =
-    record { more = all.more; to = wait_from after; chain = all.chain; written = front_whole old new (lines_of all.more) (appends_kept old mid new (lines_of all.more) all.written kept) }

@@ -1,8 +1,10 @@
 -- The search for all stops, as it goes on.
 use Rattle.std.proofs.Common.{◌≡◌, ℕ, List, [], ◌++◌, Option, sym, subst}
-use Rattle.std.specs.Io.KnownBytes.{Appends}
+use Rattle.std.proofs.lemmas.List.{append-nil}
+use Rattle.std.specs.Io.KnownBytes.{Appends, Keeps}
 use Rattle.la_io.specs.Causes.{AppendsFront}
 use Rattle.la_io.specs.Grown.{appends_nothing, appends_on}
+use Rattle.la_io.proofs.Bytes.{appends_kept}
 use Rattle.wait_cond.specs.Stops.{Stop, Chain, AreStops}
 use Rattle.wait_cond.specs.Waiting.{Waits, alts_of, wait_from}
 use Rattle.wait_cond.specs.declared.alt.Alt.{Alt}
@@ -50,6 +52,27 @@ module _ (capture : Capture) (waiter : Waiter) (before : List ℕ) (then : Told)
     waits = written.waits;
     chain = subst (λ (a : List Alt). Chain (so_far.given ++ samples) a 0 (so_far.stops ++ written.more) (wait_from after)) (sym alts) written.chain;
     written = appends_on old now new (lines_of so_far.stops) (lines_of written.more) (lines_of (so_far.stops ++ written.more)) so_far.written written.written (sym (lines_append so_far.stops written.more));
+  }
+
+  -- what is written stays written
+  pub searching_kept : (new : Option (List ℕ)) → Keeps now new → Searching capture waiter before then left_old left_now old new
+  searching_kept new kept = record {
+    given = so_far.given;
+    stops = so_far.stops;
+    gave = so_far.gave;
+    waits = so_far.waits;
+    chain = so_far.chain;
+    written = appends_kept old now new (lines_of so_far.stops) so_far.written kept;
+  }
+
+  -- nothing more was written
+  pub cut_nothing : (new : Option (List ℕ)) → Keeps now new → CutOff (alts_of waiter) (so_far.given ++ []) so_far.stops now new
+  cut_nothing new kept = record {
+    more = [];
+    to = wait_from waiter;
+    chain = subst (λ (l : List ℕ). Chain l (alts_of waiter) 0 (so_far.stops ++ []) (wait_from waiter)) (sym (append-nil so_far.given))
+        (subst (λ (l : List Stop). Chain so_far.given (alts_of waiter) 0 l (wait_from waiter)) (sym (append-nil so_far.stops)) so_far.chain);
+    written = front_whole now new (lines_of []) (appends_kept now now new (lines_of []) (appends_nothing now) kept);
   }
 
   module _ (alts : List Alt) (same : alts_of waiter ≡ alts) where

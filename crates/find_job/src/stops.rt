@@ -8,7 +8,6 @@ ghost use Rattle.wait_cond.specs.Stops.{Stop, Chain};
 ghost use Rattle.wait_cond.specs.Waiting.{Waits, alts_of, wait_from, consumed_by};
 ghost use Rattle.find_job.specs.Stopping.{Written};
 
-use capture_any::Runs;
 use la_base::Run;
 use la_io::{Failed, Sink};
 use listing_out::StopLine;
@@ -122,8 +121,8 @@ fn write_exact<K: Sink>(
     Ok(())
 }
 
-// Writes the line of each stop in runs. `Failed` comes where the sink failed.
-fn write_runs<K: Sink>(
+/// Writes the line of each stop in runs. `Failed` comes where the sink failed.
+pub fn write_runs<K: Sink>(
     waiter: &mut Waiter,
     runs: &[Run],
     line: &mut StopLine,
@@ -151,34 +150,4 @@ fn write_runs<K: Sink>(
         }
     }
     Ok(())
-}
-
-/// Writes the line of each stop in runs. Where the next ones have to be read first, it may be long
-/// until they come, so the sink hands on what it keeps back. `Failed` comes where the sink failed.
-pub fn write_settled<K: Sink>(
-    waiter: &mut Waiter,
-    runs: &Runs,
-    line: &mut StopLine,
-    sink: &mut K,
-) -> Result<(), Failed>
-    requires { consumed_by waiter.old + length (samples_of runs.now) ≤ 2 ^ 60 }
-    ensures written { (list : List ℕ) (stops : List Stop) → Waits waiter.old list
-        → Chain list (alts_of waiter.old) 0 stops (wait_from waiter.old)
-        → Written waiter.new waiter.old (samples_of runs.now) list stops (K.written sink.old)
-        (K.written sink.new) result }
-    ensures consumed { OnOk result
-        (consumed_by waiter.new ≡ consumed_by waiter.old + length (samples_of runs.now)) }
-    ensures alts { alts_of waiter.new ≡ alts_of waiter.old }
-    ensures cause { HasCause (K.faults sink.old) (K.faults sink.new) result }
-    ensures goes_on { K.goes_on sink.old sink.new }
-{
-    match write_runs(waiter, runs.list(), line, sink) {
-        Ok(()) => {
-            if runs.is_full() {
-                return Ok(());
-            }
-            sink.hand_on()
-        }
-        Err(Failed) => Err(Failed),
-    }
 }

@@ -1,6 +1,6 @@
 -- What a tree of decoders is fed with, and the marks that are taken of it.
-use Rattle.std.specs.Prelude.{ℕ, ◌≡◌, ◌≢◌, ◌<◌, ◌≤◌, ◌^◌, Bool, true, false, List, [], ◌∷◌, ◌++◌}
-use Rattle.std.specs.Prelude.{length}
+use Rattle.std.specs.Prelude.{ℕ, ◌≡◌, ◌≢◌, ◌<◌, ◌≤◌, ◌^◌, ◌⊎◌, Bool, true, false, List, [], ◌∷◌}
+use Rattle.std.specs.Prelude.{◌++◌, length}
 use Rattle.la_base.specs.Runs.{samples_of}
 use Rattle.la_base.specs.declared.samples.Run.{Run}
 use Rattle.la_base.specs.declared.wires.Mark.{Mark}
@@ -26,6 +26,15 @@ pub record GivesRuns (more : Bool) (old new : List (List Run) → Type 0) (runs 
     : Type 0 where
   pub gave : (before : List (List Run)) → old before → new (before ++ given_now more runs)
   pub few : (all : List (List Run)) → new all → length (samples_of (together all)) ≤ 2 ^ 60
+
+-- runs that were at hand are one list more; or nothing was given, and those that were given last are
+-- kept or let go
+abbrev pub GivesHeld : Bool → (List (List Run) → Type 0) → (List (List Run) → Type 0) → List Run
+    → List Run → Type 0
+GivesHeld true old new held_old held_new = GivesRuns true old new held_new
+GivesHeld false old new held_old held_new =
+    ((before : List (List Run)) → old before → new before)
+    × ((held_new ≡ held_old) ⊎ (held_new ≡ []))
 
 -- a count grows where there was more to give, and has an end
 pub record Counts (more : Bool) (old new : ℕ) : Type 0 where

@@ -1,10 +1,10 @@
 // What a tree of decoders reads from, and what takes its marks.
-ghost use Rattle.std.specs.Prelude.{◌≡◌, ◌<◌, List, ℕ, Bool, true};
+ghost use Rattle.std.specs.Prelude.{◌≡◌, ◌<◌, ◌≤◌, ◌^◌, List, ℕ, Bool, true, false};
 ghost use Rattle.std.specs.Result.{is_ok};
 ghost use Rattle.la_base.specs.declared.samples.Run.{Run};
 ghost use Rattle.la_base.specs.declared.wires.Mark.{Mark};
 ghost use Rattle.la_io.specs.Causes.{HasCause};
-ghost use Rattle.la_io.specs.Feeds.{Counts, GivesRuns, TakesMark, TellsMore};
+ghost use Rattle.la_io.specs.Feeds.{Counts, GivesHeld, GivesRuns, TakesMark, TellsMore};
 
 use la_base::{Mark, Run};
 
@@ -20,7 +20,7 @@ pub trait RunFeed {
     /// every feed ends. It is told also of a feed that stands for no runs.
     ghost given: { Self → ℕ };
 
-    /// The runs that the last call of `next_runs` gave.
+    /// The runs that were given last.
     ghost held: { Self → List Run };
 
     /// The last call of `next_runs` answered that there are no more.
@@ -37,18 +37,39 @@ pub trait RunFeed {
         ensures counts { Counts result (given self.old) (given self.new) }
         ensures origin { origin self.new ≡ origin self.old };
 
-    /// The runs that the last call of `next_runs` gave.
+    /// Gives the next runs, as many as can be had without waiting for any, and answers whether there
+    /// were some. Where there were none, nothing was given, and the runs that were given last are kept
+    /// or let go. A feed that keeps nothing at hand gives none here.
+    fn held_runs(&mut self) -> bool
+        ensures gives { GivesHeld result (gave self.old) (gave self.new) (held self.old) (held self.new) }
+        ensures grows { result ≡ true → given self.old < given self.new }
+        ensures stays { given self.old ≤ given self.new }
+        ensures within { result ≡ true → given self.new ≤ 2 ^ 60 }
+        ensures more { result ≡ true → at_end self.new ≡ false }
+        ensures none { result ≡ false → at_end self.new ≡ at_end self.old }
+        ensures origin { origin self.new ≡ origin self.old }
+    {
+        false
+    }
+
+    /// The runs that the last call of `next_runs` or `held_runs` gave.
     fn runs(&self) -> &[Run]
         ensures { result.now ≡ held self.now };
 
-    /// Whether the next call may have to wait for what it is to give.
+    /// Whether a call of `next_runs` may have to wait for what it is to give, where nothing is at hand.
     fn may_wait(&self) -> bool {
         false
     }
+
+    /// Whether it has to wait now, as far as that is known: what has come may not be enough. Asked only
+    /// of a feed that may have to wait.
+    fn waits_now(&self) -> bool {
+        true
+    }
 }
 
-/// The one that takes the marks wants no more of them: its count of stops rose. The mark that it
-/// was handed in that call counts as taken.
+/// The one that takes the marks wants no more of them: its count of stops rose. A mark that it was
+/// handed in that call counts as taken.
 #[derive(Clone, Copy, Debug, PartialEq, Eq)]
 pub struct Stopped;
 
@@ -66,9 +87,8 @@ pub trait MarkTake {
     /// How often it has stopped. It never falls.
     ghost stops: { Self → ℕ };
 
-    /// With true: it has stopped at no mark yet. With false: it stopped at the last mark that it
-    /// was handed, and at none before. Of one that was handed a mark behind a stop neither is
-    /// known.
+    /// With true: it has stopped in no call yet. With false: it stopped in the last call, and in none
+    /// before. Of one that was called after a stop neither is known.
     ghost going: { Self → Bool → Type 0 };
 
     /// What it was made over. No call changes it.
@@ -84,12 +104,14 @@ pub trait MarkTake {
         ensures origin { origin self.new ≡ origin self.old };
 
     /// It may be long until the next mark comes: hands on what it keeps back, where it keeps
-    /// anything back. A failure is told at the next mark.
-    fn pause(&mut self)
+    /// anything back. `Stopped` comes where that failed.
+    fn pause(&mut self) -> Result<(), Stopped>
         ensures took { (marks : ℕ → List Mark) → took self.old marks → took self.new marks }
         ensures instances { instances self.new ≡ instances self.old }
-        ensures stops { stops self.new ≡ stops self.old }
-        ensures going { (still : Bool) → going self.old still → going self.new still }
+        ensures cause { HasCause (stops self.old) (stops self.new) result }
+        ensures going { going self.old true → going self.new (is_ok result) }
         ensures origin { origin self.new ≡ origin self.old }
-    {}
+    {
+        Ok(())
+    }
 }

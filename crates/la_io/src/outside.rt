@@ -28,6 +28,12 @@ pub trait Source {
     fn may_wait(&self) -> bool {
         true
     }
+
+    /// Whether a read would have to wait now, as far as it can tell: where no byte has come, nor the
+    /// end. Asked only of one that may have to wait.
+    fn waits_now(&self) -> bool {
+        true
+    }
 }
 
 /// Bytes that are appended.

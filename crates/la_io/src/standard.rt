@@ -10,7 +10,6 @@ use std::io::{Read, Write};
 pub struct StdSource<R: Read> {
     reader: R,
     faults: u64,
-    waits: bool,
 }
 
 impl<R: Read> StdSource<R> {
@@ -18,22 +17,7 @@ impl<R: Read> StdSource<R> {
     pub fn new(reader: R) -> StdSource<R>
         ensures { ⟦<StdSource<R> as Source>⟧.faults result ≡ 0 }
     {
-        StdSource {
-            reader,
-            faults: 0,
-            waits: true,
-        }
-    }
-
-    /// The same over a reader whose bytes are all there, as those of a file: no read waits.
-    pub fn at_hand(reader: R) -> StdSource<R>
-        ensures { ⟦<StdSource<R> as Source>⟧.faults result ≡ 0 }
-    {
-        StdSource {
-            reader,
-            faults: 0,
-            waits: false,
-        }
+        StdSource { reader, faults: 0 }
     }
 }
 
@@ -50,10 +34,6 @@ impl<R: Read> Source for StdSource<R> {
                 Err(Failed)
             }
         }
-    }
-
-    fn may_wait(&self) -> bool {
-        self.waits
     }
 }
 

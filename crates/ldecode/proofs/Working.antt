@@ -1,5 +1,5 @@
 -- What a run's status says, from what its parts say.
-use Rattle.std.proofs.Common.{◌≡◌, ℕ, ◌≤◌, ◌⊎◌, inl, inr, List, [], ◌++◌, Option, Ok, Err, refl, sym, ◌∙◌, ap, subst, arith}
+use Rattle.std.proofs.Common.{◌≡◌, ◌≢◌, ℕ, ◌≤◌, ◌⊎◌, inl, inr, List, [], ◌++◌, Option, Ok, Err, refl, sym, ◌∙◌, ap, subst, arith}
 use Rattle.std.proofs.KnownBytes.{Consumes-nil, Consumes-trans}
 use Rattle.std.proofs.Props.{props}
 use Rattle.la_base.specs.declared.samples.Rate.{Rate}
@@ -7,7 +7,7 @@ use Rattle.la_io.specs.Capture.{Told, AtEnd, Cut, Head}
 use Rattle.la_io.specs.Grown.{appends_nothing}
 use Rattle.la_io.specs.declared.fault.CaptureError.{CaptureError}
 use Rattle.la_io.specs.declared.fault.CaptureError.TheVariants as error
-use Rattle.capture_any.specs.Captures.{HasNoHead, IsForm, Later, capture_of}
+use Rattle.capture_any.specs.Captures.{HasNoHead, IsForm, Later, TakesNoMemory, capture_of}
 use Rattle.std.proofs.lemmas.List.{append-nil}
 use Rattle.capture_any.specs.Listings.{Lists, ReadCause, Says, WriteCause}
 use Rattle.capture_any.specs.Reading.{Opens, form_of as capture_form, names_of, pins_of, rate_of}
@@ -192,16 +192,16 @@ module _ (saves : Saves) (values : Values) (form : Form) (named : IsFormOf value
       as_opened Whole Front end lists = transport (λ i. Lists (form_stays i) (pins_are i) Whole Front opens.bytes opens.opened.0 left_mid left_new end) lists
 
       -- a search came to its end
-      pub search_ends : (alts : List Alt) (end : ListingEnd) → AsksFor values (names_of capture) pins alts
+      pub search_ends : (alts : List Alt) (end : ListingEnd) → AsksFor values (names_of capture) pins alts → (TakesNoMemory (capture_form now) → end ≢ ends.NoMemory)
           → Lists (capture_form now) (pins_of now) (λ samples. WholeListing samples alts old new) (λ samples. ListingFront samples alts old new) opens.bytes opens.opened.0 left_mid left_new end → WorksOn saves values left_old left_new old new (status_of end)
-      search_ends alts end asks lists =
+      search_ends alts end asks memory lists =
           let l = as_opened (λ samples. WholeListing samples alts old new) (λ samples. ListingFront samples alts old new) end lists in
           record {
             bytes = opens.bytes ++ l.bytes;
             told = l.told;
             taken = Consumes-trans left_old left_mid left_new opens.bytes l.bytes opens.consumed l.taken;
             at_end = l.at_end;
-            works = worked saves values (opens.bytes ++ l.bytes) l.told old new end (λ is. read_is_cut form pins (λ samples. WholeListing samples alts old new) (λ samples. ListingFront samples alts old new) (opens.bytes ++ l.bytes) l.told end is l.says) (inl (record { head = record { form = form; names = names_of capture; rate = rate_of capture; form_is = named; is = head_on l.bytes l.told l.later }; pins = pins; alts = alts; asks = asks; says = l.says }));
+            works = worked saves values (opens.bytes ++ l.bytes) l.told old new end (λ is. read_is_cut form pins (λ samples. WholeListing samples alts old new) (λ samples. ListingFront samples alts old new) (opens.bytes ++ l.bytes) l.told end is l.says) (inl (record { head = record { form = form; names = names_of capture; rate = rate_of capture; form_is = named; is = head_on l.bytes l.told l.later }; pins = pins; alts = alts; asks = asks; says = l.says; memory = λ takes_none. memory (subst TakesNoMemory (sym form_stays) takes_none) }));
           }
 
       -- the decoding of a part came to its end

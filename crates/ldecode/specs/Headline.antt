@@ -6,16 +6,17 @@
 -- a listing is (`Decoding`, and `Listing` of decode_job), how the bytes of a capture settle samples
 -- (`Captures` and `Listings` of capture_any), parts and their checkpoints (`Parting`, `Parts`), made
 -- captures (`Making`), the lines that tell of a run (`Notices`), and what viewers see (`Watching`).
-use Rattle.std.specs.Prelude.{ℕ, ◌≡◌, ◌≤◌, ◌⊎◌, true, List, [], Option, Some, None, Ok, Err}
+use Rattle.std.specs.Prelude.{ℕ, ◌≡◌, ◌≢◌, ◌≤◌, ◌⊎◌, true, List, [], Option, Some, None, Ok, Err}
 use Rattle.std.specs.Prelude.{length}
 use Rattle.std.specs.Io.KnownBytes.{Appends, Consumes}
 use Rattle.la_io.specs.Capture.{Told, AtEnd, Cut, Bad, Unread, Clean}
 use Rattle.la_io.specs.Causes.{AppendsFront, Rose}
 use Rattle.la_io.specs.declared.fault.CaptureFault.{CaptureFault}
-use Rattle.capture_any.specs.Captures.{IsForm, ToldAt}
+use Rattle.capture_any.specs.Captures.{IsForm, TakesNoMemory, ToldAt}
 use Rattle.capture_any.specs.Listings.{Fails, Says}
 use Rattle.capture_any.specs.declared.end.ListingEnd.{ListingEnd}
 use Rattle.capture_any.specs.declared.end.ListingEnd.TheVariants as end
+use Rattle.capture_any.specs.declared.end.ListingEnd.TheVariants.{NoMemory as Short}
 use Rattle.find_job.specs.Finding.{WholeListing, ListingFront}
 use Rattle.wait_cond.specs.declared.alt.Alt.{Alt}
 use Rattle.words.specs.Lexer.{Text}
@@ -57,7 +58,8 @@ stream bytes faults old new =
 abbrev pub DidFail : Stream → Type 0
 DidFail s = Rose s.failed_old s.failed_new
 
--- the search that the values ask for came to this end
+-- the search that the values ask for came to this end; for want of memory only over a form whose
+-- samples take some
 pub record Searched (values : Values) (bytes : List ℕ) (told : Told) (old new : Option (List ℕ))
     (end : ListingEnd) : Type 0 where
   pub head : ReadHead values bytes told
@@ -66,6 +68,7 @@ pub record Searched (values : Values) (bytes : List ℕ) (told : Told) (old new 
   pub asks : AsksFor values head.names pins alts
   pub says : Says head.form pins (λ samples. WholeListing samples alts old new)
       (λ samples. ListingFront samples alts old new) bytes told end
+  pub memory : TakesNoMemory head.form → end ≢ Short
 
 -- the decoding of a whole capture that the values ask for came to this end, and this holds of its
 -- stack and of the samples: `Whole` of all of them, or `Front` of those that some bytes settle

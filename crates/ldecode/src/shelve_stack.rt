@@ -12,6 +12,7 @@ ghost use Rattle.ldecode.specs.Watching.{EndsShelf, ShelvesOn};
 
 use crate::decode_stack::decode_stack_as_asked;
 use crate::status::{Status, status_by};
+use crossbeam_utils::sync::EventCount;
 use la_base::NoMemory;
 use la_io::{Sink, Source};
 use shelf_watch::ShelfWatch;
@@ -52,7 +53,8 @@ fn goes_back<T>(lent: &mut T)
 {}
 
 /// Decodes the capture under the stack that the settings ask for, with a thread for each decoder
-/// where they ask for threads, and adds each note of the listing to a new shelf behind its line.
+/// where they ask for threads, and adds each note of the listing to a new shelf after its line. `shown`
+/// is notified whenever more was published.
 pub(crate) fn shelve_stack<R: Threads + Wait + Sync, P: Pacer + Sync, S: Source + Send, K: Sink>(
     rt: &R,
     alloc: Global,
@@ -61,6 +63,7 @@ pub(crate) fn shelve_stack<R: Threads + Wait + Sync, P: Pacer + Sync, S: Source 
     sink: &mut K,
     pacer: &P,
     shelf: &mut ViewWriter,
+    shown: &EventCount,
 ) -> Status
     requires job { settings.now.job ≡ Decode }
     requires readable { IsReadable Decode settings.now.chains.items }
@@ -76,7 +79,7 @@ pub(crate) fn shelve_stack<R: Threads + Wait + Sync, P: Pacer + Sync, S: Source 
     ensures read { SourceCause (S.faults source.old) (S.faults source.new) result }
     ensures write { SinkCause (K.faults sink.old) (K.faults sink.new) result }
 {
-    let watch = ShelfWatch::new(rt, shelf);
+    let watch = ShelfWatch::new(rt, shelf, shown);
     let (ended, watch) = decode_stack_as_asked(rt, alloc, settings, source, sink, pacer, watch);
     let (shelf, status) = end_shelf(status_by(ended), watch);
     goes_back(shelf);

@@ -15,6 +15,7 @@ use crate::note_count::NoteCount;
 use crate::outcome::Outcome;
 use crate::shelve_stack::shelve_stack;
 use crate::status::{Status, status_by};
+use crossbeam_utils::sync::EventCount;
 use decoder_core::Keep;
 use decoder_set::AnyDecoder;
 use la_base::NoMemory;
@@ -78,11 +79,13 @@ pub(crate) fn count_stack<S: Source, K: Sink>(
     }
 }
 
-// Asks for all notes until no more come, there is no memory for them, or the run is over.
-fn view<R: Wait>(rt: &R, reader: &mut ViewReader, over: &AtomicBool)
+// Asks for all notes whenever more were published, until no more come, there is no memory for them, or
+// the run is over.
+fn view<R: Wait>(rt: &R, reader: &mut ViewReader, over: &AtomicBool, shown: &EventCount)
     ensures { reader_shelf reader.new ≡ reader_shelf reader.old }
 {
     for _ in rt.forever() {
+        let next = shown.prepare_wait();
         if over.load(Ordering::SeqCst) {
             return;
         }
@@ -94,6 +97,7 @@ fn view<R: Wait>(rt: &R, reader: &mut ViewReader, over: &AtomicBool)
             }
             Err(NoMemory) => return,
         }
+        next.wait(rt);
     }
     unreachable!()
 }
@@ -126,11 +130,13 @@ fn shelve_beside<R: Threads + Wait + Sync, P: Pacer + Sync, S: Source + Send, K:
 {
     let over = AtomicBool::new(false);
     let flag = &over;
+    let longer = EventCount::new();
+    let shown = &longer;
     let (_, status) = join_mut(
         rt,
         &mut ||
             ensures { reader_shelf reader.exit.now ≡ reader_shelf reader.entry.now }
-        { view(rt, reader, flag) },
+        { view(rt, reader, flag, shown) },
         &mut || -> Status
             requires sync { IsSync R.row × IsSync P.row }
             requires job { settings.now.job ≡ Decode }
@@ -147,8 +153,9 @@ fn shelve_beside<R: Threads + Wait + Sync, P: Pacer + Sync, S: Source + Send, K:
                 × SourceCause (S.faults source.entry.now) (S.faults source.exit.now) result
                 × SinkCause (K.faults sink.entry.now) (K.faults sink.exit.now) result }
         {
-            let status = shelve_stack(rt, alloc, settings, source, sink, pacer, writer);
+            let status = shelve_stack(rt, alloc, settings, source, sink, pacer, writer, shown);
             flag.store(true, Ordering::SeqCst);
+            shown.notify_all();
             status
         },
     );

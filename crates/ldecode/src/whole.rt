@@ -15,6 +15,7 @@ use crate::shelve_stack::shelve_stack;
 use crate::status::Status;
 use crate::view_stack::{count_stack, is_watched, lists_notes, view_stack};
 use crate::work::{work_aside, work_here};
+use crossbeam_utils::sync::EventCount;
 use decoder_core::Keep;
 use decoder_set::AnyDecoder;
 use la_io::{Failed, Sink, Source, write_whole};
@@ -134,7 +135,8 @@ fn shelve_words<R: Threads + Wait + Sync, S: Source + Send, K: Sink, P: Pacer + 
         Err(error) => return refused(error),
     };
     if lists_notes(&settings) {
-        return shelve_stack(rt, alloc, &settings, source, sink, pacer, shelf);
+        let shown = EventCount::new();
+        return shelve_stack(rt, alloc, &settings, source, sink, pacer, shelf, &shown);
     }
     work_aside(rt, alloc, &settings, source, sink, pacer)
 }

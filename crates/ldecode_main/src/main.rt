@@ -4,7 +4,10 @@
 ghost use Rattle.std.specs.Prelude.{◌≡◌};
 ghost use Rattle.std.specs.Process.{exit_status};
 
-use la_io::{StdSink, StdSource};
+mod input;
+
+use input::StandardInput;
+use la_io::StdSink;
 use ldecode::PlainPacer;
 use ldecode_program::program;
 use std::alloc::{AllocError, Global};
@@ -45,11 +48,7 @@ fn main(rt: HostRuntime) -> ExitCode {
     let Ok(words) = words_behind_name(rt.alloc(), args) else {
         return no_words(&rt);
     };
-    let mut source = if is_file(&rt) {
-        StdSource::at_hand(rt.stdin())
-    } else {
-        StdSource::new(rt.stdin())
-    };
+    let mut source = StandardInput::new(rt.stdin(), is_file(&rt));
     let mut sink = StdSink::new(rt.stdout());
     let mut notices = StdSink::new(rt.stderr());
     let code = program(

@@ -159,6 +159,13 @@ module _ (accepted : Accepted) where
         let had = never_stopped merge cause stops saw_mid old mid failed_old failed_mid marks never w in
         ((omega (arith, had.1, later), subst (λ (n : ℕ). Rose n failed_new) had.1 rose, stopped_now (count_of merge) saw old new marks (all_front accepted.binary refl merge saw old new marks all_still)), all_still)
 
+  -- it was stopped before, and again in a pause
+  pub paused_again : (merge : Merge) (cause : Option ListStop) (stops more : ℕ) (saw : List Entry → Type 0) (old new : Option (List ℕ)) (failed_old failed_new : ℕ) (marks : ℕ → List Mark) → IsSome cause → more ≢ 0 → Writes accepted merge cause stops saw old new failed_old failed_new marks
+      → Writes accepted merge cause more saw old new failed_old failed_new marks
+  paused_again merge None stops more saw old new failed_old failed_new marks some again w = absurd cc
+  paused_again merge (Some Write) stops more saw old new failed_old failed_new marks some again w = w
+  paused_again merge (Some NoMemory) stops more saw old new failed_old failed_new marks some again w = (again, w.1, w.2)
+
   module _ (before after : ℕ → List Mark) (instance : ℕ) (mark : Mark) (adds : AddsMark before after instance mark) where
     -- it was stopped before
     front_later : (count : ℕ) (saw : List Entry → Type 0) (old new : Option (List ℕ)) → WritesFront accepted count saw old new before → WritesFront accepted count saw old new after

@@ -39,8 +39,8 @@ WritesAll accepted None merge saw old new marks = WritesLines accepted merge saw
 WritesAll accepted (Some wanted) merge saw old new marks =
     Appends old new (bytes_in wanted.1 (marks wanted.0)) × saw []
 
--- the taking was stopped at the last of these marks: a front of what was to be written at once of
--- them is written, and the first of the notes of its lines were seen
+-- the taking was stopped at the last of these marks, or after it: a front of what was to be written
+-- at once of them is written, and the first of the notes of its lines were seen
 pub record WritesFrontOf (accepted : Accepted) (count : ℕ) (saw : List Entry → Type 0)
     (old new : Option (List ℕ)) (marks : ℕ → List Mark) : Type 0 where
   pub out : List ℕ
@@ -128,7 +128,7 @@ pub record Took {K W : Type 0} (written : K → Option (List ℕ)) (faults : K �
   pub at_pause : lister.stops ≡ 0 → WritesAll (stack_meaning lister.stack.now)
       (stack_meaning lister.stack.now).binary lister.merge (saw lister.watch)
       (written (first_sink lister)) (written (sink_of lister)) marks
-  -- where it was stopped once, that was at the last of these marks
+  -- where it was stopped once, that was at the last of these marks, or in a pause after it
   pub at_stop : lister.stops ≡ 1 → WritesFrontOf (stack_meaning lister.stack.now)
       (count_of lister.merge) (saw lister.watch) (written (first_sink lister))
       (written (sink_of lister)) marks

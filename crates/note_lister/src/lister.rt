@@ -21,7 +21,7 @@ pub struct Lister<'a, 'b, K, W> {
     pub watch: W,
     pub(crate) merge: Merge,
     pub(crate) line: NoteLine,
-    /// Why nothing more is written; none where there was no fault. The next mark is stopped for it.
+    /// Why nothing more is written; none where there was no fault.
     pub cause: Option<ListStop>,
     pub(crate) stops: u64,
     // Each mark goes to the merge: notes are listed, and there was no fault.

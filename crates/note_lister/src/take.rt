@@ -1,11 +1,11 @@
 // Taking marks.
-ghost use Rattle.std.specs.Prelude.{◌≡◌, ◌≢◌, ◌<◌, [], IfOk, IsErr, IsSome, None, OnErr, OnOk};
-ghost use Rattle.std.specs.Prelude.{Some};
-ghost use Rattle.std.specs.Prelude.{false, length, true};
+ghost use Rattle.std.specs.Prelude.{◌≡◌, ◌≢◌, ◌<◌, [], ℕ, List, IfOk, IsErr, IsSome, None, OnErr, OnOk};
+ghost use Rattle.std.specs.Prelude.{Some, false, length, true};
 ghost use Rattle.annot_merge.specs.Held.{Stands, count_of, held_in};
 ghost use Rattle.std.specs.Result.{is_ok};
 ghost use Rattle.std.specs.Io.KnownBytes.{Appends};
-ghost use Rattle.la_io.specs.Causes.{AppendsFront, HasCause};
+ghost use Rattle.la_base.specs.declared.wires.Mark.{Mark as MarkIs};
+ghost use Rattle.la_io.specs.Causes.{AppendsFront, HasCause, Rose};
 ghost use Rattle.la_io.specs.Feeds.{TakesMark};
 ghost use Rattle.stack_spec.specs.Stacks.{instances_in, stack_meaning};
 ghost use Rattle.note_lister.specs.Data.{wanted_by};
@@ -130,6 +130,7 @@ impl<'a, 'b, K: Sink, W: Watch> Lister<'a, 'b, K, W> {
         ensures cause { HasCause (stops_of self.old) (stops_of self.new) result }
         ensures going { Goes true self.old → Goes (is_ok result) self.new }
         ensures origin { SameOrigin W.origin self.old self.new }
+        ensures ok { OnOk result (cause_of self.new ≡ None) }
         ensures why { OnErr result (StopsFor (cause_of self.new)
             (K.faults (sink_of self.old)) (K.faults (sink_of self.new))) }
     {
@@ -169,6 +170,7 @@ impl<'a, 'b, K: Sink, W: Watch> Lister<'a, 'b, K, W> {
         ensures cause { HasCause (stops_of self.old) (stops_of self.new) result }
         ensures going { Goes true self.old → Goes (is_ok result) self.new }
         ensures origin { SameOrigin W.origin self.old self.new }
+        ensures ok { OnOk result (cause_of self.new ≡ None) }
         ensures why { OnErr result (StopsFor (cause_of self.new)
             (K.faults (sink_of self.old)) (K.faults (sink_of self.new))) }
     {
@@ -194,6 +196,7 @@ impl<'a, 'b, K: Sink, W: Watch> Lister<'a, 'b, K, W> {
         ensures cause { HasCause (stops_of self.old) (stops_of self.new) result }
         ensures going { Goes true self.old → Goes (is_ok result) self.new }
         ensures origin { SameOrigin W.origin self.old self.new }
+        ensures ok { OnOk result (cause_of self.new ≡ None) }
         ensures why { cause_of self.old ≡ None → OnErr result (StopsFor (cause_of self.new)
             (K.faults (sink_of self.old)) (K.faults (sink_of self.new))) }
         ensures behind { IsSome (cause_of self.old) → StaysStopped self.old self.new result }
@@ -211,7 +214,8 @@ impl<'a, 'b, K: Sink, W: Watch> Lister<'a, 'b, K, W> {
         self.merge.held()
     }
 
-    /// Why nothing more is written; none where there was no fault.
+    /// Why nothing more is written; none exactly where neither a mark was stopped nor handing on in
+    /// a pause failed.
     pub fn cause(&self) -> Option<ListStop>
         ensures { result ≡ cause_of self.now }
     {
@@ -274,6 +278,7 @@ impl<'a, 'b, K: Sink, W: Watch> MarkTake for Lister<'a, 'b, K, W> {
         ensures cause { HasCause (stops_of self.old) (stops_of self.new) result }
         ensures going { Goes true self.old → Goes (is_ok result) self.new }
         ensures origin { SameOrigin W.origin self.old self.new }
+        ensures ok { OnOk result (cause_of self.new ≡ None) }
         ensures why { cause_of self.old ≡ None → OnErr result (StopsFor (cause_of self.new)
             (K.faults (sink_of self.old)) (K.faults (sink_of self.new))) }
         ensures behind { IsSome (cause_of self.old) → StaysStopped self.old self.new result }
@@ -285,18 +290,35 @@ impl<'a, 'b, K: Sink, W: Watch> MarkTake for Lister<'a, 'b, K, W> {
         }
     }
 
-    /// Has the sink hand on what it keeps back, and then what looks on. Where the sink fails, the
-    /// next mark is stopped for it.
-    fn pause(&mut self) {
+    /// Has the sink hand on what it keeps back, and then what looks on. It stops where the sink fails.
+    fn pause(&mut self) -> Result<(), Stopped>
+        ensures took { (marks : ℕ → List MarkIs)
+            → Took K.written K.faults K.goes_on W.saw self.old marks
+            → Took K.written K.faults K.goes_on W.saw self.new marks }
+        ensures instances { instances_of self.new ≡ instances_of self.old }
+        ensures cause { HasCause (stops_of self.old) (stops_of self.new) result }
+        ensures going { Goes true self.old → Goes (is_ok result) self.new }
+        ensures origin { SameOrigin W.origin self.old self.new }
+        ensures ok { OnOk result (cause_of self.new ≡ None) }
+        ensures why { cause_of self.old ≡ None → OnErr result
+            ((cause_of self.new ≡ Some ListStop.Write)
+            × Rose (K.faults (sink_of self.old)) (K.faults (sink_of self.new))) }
+        ensures behind { IsSome (cause_of self.old) → StaysStopped self.old self.new result }
+    {
         if self.cause.is_some() {
-            return;
+            return stop_again(&mut self.stops);
         }
         match self.sink.hand_on() {
-            Ok(()) => self.watch.pause(),
-            Err(Failed) => {
-                self.cause = Some(ListStop::Write);
-                self.merges = false;
+            Ok(()) => {
+                self.watch.pause();
+                Ok(())
             }
+            Err(Failed) => stop(
+                &mut self.cause,
+                &mut self.stops,
+                &mut self.merges,
+                ListStop::Write,
+            ),
         }
     }
 }

@@ -5,6 +5,7 @@ ghost use Rattle.view_store.specs.Views.{pending, published, shelf_of};
 ghost use Rattle.note_lister.specs.Watching.{SeesNone};
 ghost use Rattle.shelf_watch.specs.Shelves.{ended_with};
 
+use crossbeam_utils::sync::EventCount;
 use la_base::NoMemory;
 use note_lister::Watch;
 use note_order::Entry;
@@ -27,10 +28,13 @@ fn end_shelf<R: Wait>(rt: &R, shelf: &mut ViewWriter) -> Result<(), NoMemory>
 }
 
 /// Adds each note that it is shown to a shelf that was lent. It publishes once 1,024 notes wait, and
-/// in a pause. It may wait for a reader of the shelf that is inside an `ask`.
+/// in a pause, and notifies those who wait for that. It may wait for a reader of the shelf that is
+/// inside an `ask`.
 pub struct ShelfWatch<'a, R: Wait> {
     shelf: &'a mut ViewWriter,
     rt: &'a R,
+    // On which viewers wait for a longer listing.
+    shown: &'a EventCount,
     // How many notes were added since the last publishing.
     waiting: u32,
     // There was no memory in a pause: the next call tells it.
@@ -46,6 +50,7 @@ impl<'a, R: Wait> Drop for ShelfWatch<'a, R> {
         let ShelfWatch {
             shelf: _,
             rt: _,
+            shown: _,
             waiting: _,
             short: _,
             lent: _,
@@ -56,8 +61,8 @@ impl<'a, R: Wait> Drop for ShelfWatch<'a, R> {
 impl<'a, R: Wait> ShelfWatch<'a, R> {
     ghost use Rattle.shelf_watch.specs.Watches.{Saw, lent_ref, shelf_ref};
 
-    /// It has seen nothing, and the shelf is new.
-    pub fn new(rt: &'a R, shelf: &'a mut ViewWriter) -> ShelfWatch<'a, R>
+    /// It has seen nothing, and the shelf is new. `shown` is notified of each publishing.
+    pub fn new(rt: &'a R, shelf: &'a mut ViewWriter, shown: &'a EventCount) -> ShelfWatch<'a, R>
         requires pending { pending shelf.old ≡ nothing }
         requires published { published shelf.old ≡ nothing }
         ensures saw { Saw result [] }
@@ -68,6 +73,7 @@ impl<'a, R: Wait> ShelfWatch<'a, R> {
         ShelfWatch {
             shelf,
             rt,
+            shown,
             waiting: 0,
             short: false,
             lent,
@@ -83,6 +89,7 @@ impl<'a, R: Wait> ShelfWatch<'a, R> {
         match self.shelf.publish(self.rt) {
             Ok(()) => {
                 self.waiting = 0;
+                self.shown.notify_all();
                 Ok(())
             }
             Err(NoMemory) => Err(NoMemory),
@@ -117,6 +124,7 @@ impl<'a, R: Wait> ShelfWatch<'a, R> {
         let ShelfWatch {
             shelf,
             rt,
+            shown,
             waiting: _,
             short,
             lent: _,
@@ -125,6 +133,7 @@ impl<'a, R: Wait> ShelfWatch<'a, R> {
             return (shelf, Err(NoMemory));
         }
         let ended = end_shelf(rt, shelf);
+        shown.notify_all();
         (shelf, ended)
     }
 
@@ -136,6 +145,7 @@ impl<'a, R: Wait> ShelfWatch<'a, R> {
         let ShelfWatch {
             shelf,
             rt: _,
+            shown: _,
             waiting: _,
             short: _,
             lent: _,

@@ -1,5 +1,6 @@
 -- What is done with a tree of machines, and with what takes its marks.
-use Rattle.std.specs.Prelude.{ℕ, ◌≡◌, ◌∷◌, [], List, Option, Result, length, map}
+use Rattle.std.specs.Prelude.{ℕ, ◌≡◌, ◌∷◌, [], Bool, true, false, List, Option, Result, Ok, Err}
+use Rattle.std.specs.Prelude.{length, map}
 use Rattle.std.specs.Result.{is_ok}
 use Rattle.la_base.specs.declared.samples.Run.{Run}
 use Rattle.la_base.specs.declared.wires.Out.{Out}
@@ -10,6 +11,8 @@ use Rattle.tree_runs.specs.Machines.{Definitions, Stand, defined}
 use Rattle.tree_runs.specs.Passing.{Hands, Feeds, Consumes, Gives}
 use Rattle.tree_runs.specs.Runs.{FedRuns}
 use Rattle.tree_runs.specs.Taking.{GoesOn, KeepsOn}
+use Rattle.stack_direct.specs.declared.run.Halt.{Halt}
+use Rattle.stack_direct.specs.declared.run.Halt.TheVariants.{AtMark, InPause}
 use Rattle.stack_direct.specs.declared.tree.Tree.{Tree}
 
 abbrev pub machines_of : {M : Type 0} → Tree M → List M
@@ -72,8 +75,17 @@ module _ {M S A O R E : Type 0} (m : MachineGhosts M S) (g : TakeGhosts A O) (ol
       Gives (is_ok result) (defined_in m old) (stand_in m old) (stand_in m new) (parents_of old)
       (g.took take_old) (g.took take_new) i outs
 
+-- whether the runs were handed on whole, where they were given: they were unless it was stopped at a
+-- mark
+abbrev pub handed_whole : Result (Unit {0}) Halt → Bool
+handed_whole (Ok done) = true
+handed_whole (Err AtMark) = false
+handed_whole (Err InPause) = true
+
+module _ {M S A O : Type 0} (m : MachineGhosts M S) (g : TakeGhosts A O) (old new : Tree M)
+    (take_old take_new : A) (result : Result (Unit {0}) Halt) where
   -- lists of runs were given, and handed to those that stand on nothing
   abbrev pub TreeFed : (List (List Run) → Type 0) → (List (List Run) → Type 0) → Type 0
   TreeFed gave_old gave_new =
-      FedRuns (is_ok result) (defined_in m old) (stand_in m old) (stand_in m new) (parents_of old)
-      gave_old gave_new (g.took take_old) (g.took take_new)
+      FedRuns (handed_whole result) (defined_in m old) (stand_in m old) (stand_in m new)
+      (parents_of old) gave_old gave_new (g.took take_old) (g.took take_new)

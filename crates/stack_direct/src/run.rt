@@ -1,14 +1,15 @@
 // The run of a tree.
-ghost use Rattle.std.specs.Prelude.{◌≡◌, ◌≤◌, ◌<◌, [], ℕ, List, OnErr, OnOk, false, length, map};
-ghost use Rattle.std.specs.Prelude.{true};
-ghost use Rattle.std.specs.Result.{is_ok};
+ghost use Rattle.std.specs.Prelude.{◌≡◌, ◌≤◌, ◌<◌, ◌^◌, [], ℕ, List, Err, IfOk, OnErr, OnOk, not};
+ghost use Rattle.std.specs.Prelude.{true, false, length, map};
 ghost use Rattle.decoder_core.specs.declared.end.RunEnd.TheVariants.{Ended, Stopped as RunStopped};
+ghost use Rattle.la_base.specs.declared.samples.Run.{Run};
 ghost use Rattle.la_base.specs.declared.wires.Mark.{Mark};
 ghost use Rattle.la_io.specs.Causes.{Rose};
+ghost use Rattle.la_io.specs.Feeds.{GivesRuns};
 ghost use Rattle.tree_runs.specs.Machines.{Stand, defined};
 ghost use Rattle.tree_runs.specs.Runs.{FedRuns, RunsOn, TookEnds, is_ended};
 ghost use Rattle.tree_runs.specs.Taking.{IsTree};
-ghost use Rattle.stack_direct.specs.Trees.{GoesStill, SameTree, TakesAll, TakesOn, TreeFed};
+ghost use Rattle.stack_direct.specs.Trees.{SameTree, TakesAll, TakesOn, TreeFed};
 
 use crate::parts::mark;
 use crate::tree::Tree;
@@ -16,13 +17,46 @@ use decoder_core::{Machine, Outs, RunEnd};
 use la_base::Mark;
 use la_io::{MarkTake, RunFeed, Stopped};
 
-// Tells what takes the marks of the pause, where the next call of the feed may have to wait.
-fn pause<F: RunFeed, G: MarkTake>(feed: &F, take: &mut G)
+/// Where the handing on of runs was stopped.
+#[derive(Clone, Copy, PartialEq, Eq)]
+pub(crate) enum Halt {
+    /// At a mark.
+    AtMark,
+    /// In a pause, with all runs handed on whole.
+    InPause,
+}
+
+// Tells what takes the marks of the pause, where the feed may have to wait.
+fn pause<F: RunFeed, G: MarkTake>(feed: &F, take: &mut G) -> Result<(), Stopped>
     ensures took { (marks : ℕ → List Mark) → G.took take.old marks → G.took take.new marks }
-    ensures takes { GoesStill G.MarkTake take.old take.new }
+    ensures takes { TakesOn G.MarkTake take.old take.new result }
 {
     if feed.may_wait() {
-        take.pause();
+        return take.pause();
+    }
+    Ok(())
+}
+
+// The next runs: those at hand, and where there are none, those that the feed gives then. Where it may
+// have to wait for them, what takes the marks is told of the pause before.
+fn next_list<F: RunFeed, G: MarkTake>(feed: &mut F, take: &mut G) -> Result<bool, Stopped>
+    ensures gives { IfOk result (λ more. GivesRuns more (F.gave feed.old) (F.gave feed.new)
+        (F.held feed.new)) }
+    ensures none { OnErr result ((earlier : List (List Run)) → F.gave feed.old earlier
+        → F.gave feed.new earlier) }
+    ensures at_end { IfOk result (λ more. F.at_end feed.new ≡ not more) }
+    ensures grows { IfOk result (λ more. more ≡ true → (F.given feed.old < F.given feed.new)
+        × (F.given feed.new ≤ 2 ^ 60)) }
+    ensures origin { F.origin feed.new ≡ F.origin feed.old }
+    ensures took { (marks : ℕ → List Mark) → G.took take.old marks → G.took take.new marks }
+    ensures takes { TakesOn G.MarkTake take.old take.new result }
+{
+    if feed.held_runs() {
+        return Ok(true);
+    }
+    match pause(feed, take) {
+        Ok(()) => Ok(feed.next_runs()),
+        Err(Stopped) => Err(Stopped),
     }
 }
 
@@ -31,12 +65,13 @@ fn feed_all<M: Machine, F: RunFeed, G: MarkTake>(
     tree: &mut Tree<'_, '_, M>,
     feed: &mut F,
     take: &mut G,
-) -> Result<(), Stopped>
+) -> Result<(), Halt>
     requires all { TakesAll G.MarkTake tree.old take.old }
     ensures same { SameTree M.Machine tree.old tree.new }
     ensures feeds { TreeFed M.Machine G.MarkTake tree.old tree.new take.old take.new result
         (F.gave feed.old) (F.gave feed.new) }
-    ensures at_end { F.at_end feed.new ≡ is_ok result }
+    ensures at_end { OnOk result (F.at_end feed.new ≡ true) }
+    ensures not_at_end { result ≡ Err Halt.AtMark → F.at_end feed.new ≡ false }
     ensures feed_origin { F.origin feed.new ≡ F.origin feed.old }
     ensures takes { TakesOn G.MarkTake take.old take.new result }
 {
@@ -44,13 +79,13 @@ fn feed_all<M: Machine, F: RunFeed, G: MarkTake>(
     let mut outs = Outs::new();
     let mut rooms = [Outs::new(), Outs::new(), Outs::new()];
     loop {
-        pause(feed, take);
-        if !feed.next_runs() {
-            return Ok(());
-        }
-        match tree.hand_runs(feed.runs(), &mut outs, &mut rooms, take) {
-            Ok(()) => {}
-            Err(Stopped) => return Err(Stopped),
+        match next_list(feed, take) {
+            Ok(true) => match tree.hand_runs(feed.runs(), &mut outs, &mut rooms, take) {
+                Ok(()) => {}
+                Err(Stopped) => return Err(Halt::AtMark),
+            },
+            Ok(false) => return Ok(()),
+            Err(Stopped) => return Err(Halt::InPause),
         }
     }
 }
@@ -79,7 +114,7 @@ fn end_all<G: MarkTake>(count: u32, take: &mut G) -> Result<(), Stopped>
 ///
 /// The machines may already stand for samples: what is taken is what follows. A packet that doesn't
 /// count for a machine is passed over by it. `Stopped` is answered where `take` stopped, at the
-/// last mark that it was handed: none is taken behind it, and the feed isn't read on.
+/// last mark that it was handed or in a pause after it: none is taken then, and the feed isn't read on.
 pub fn run_direct<M: Machine, F: RunFeed, G: MarkTake>(
     machines: &mut [M],
     parents: &[Option<u32>],
@@ -106,6 +141,7 @@ pub fn run_direct<M: Machine, F: RunFeed, G: MarkTake>(
             Ok(()) => RunEnd::Ended,
             Err(Stopped) => RunEnd::Stopped,
         },
-        Err(Stopped) => RunEnd::Stopped,
+        Err(Halt::AtMark) => RunEnd::Stopped,
+        Err(Halt::InPause) => RunEnd::Stopped,
     }
 }

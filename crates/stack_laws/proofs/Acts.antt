@@ -13,7 +13,7 @@ use Rattle.stack_laws.specs.Links.{some}
 use Rattle.stack_laws.specs.Feeds.{ends_feed, items_in, is_floor}
 use Rattle.stack_laws.specs.Moves.{MayTell}
 use Rattle.stack_laws.specs.Running.{State, Stage, opening}
-use Rattle.stack_laws.specs.Events.{Take, Close, MayAll, after, after_all, more_at, stop_if}
+use Rattle.stack_laws.specs.Events.{Take, Close, MayAll, after, after_all, more_at}
 use Rattle.stack_laws.specs.Acts.{Act, DoRead, DoRoot, DoTake, DoStep, DoGive, DoTell, DoGather, DoPrint, MayAct, MayActAll, acted_all, events_in, floor_behind}
 use Rattle.stack_laws.specs.Legal.{Legal}
 use Rattle.stack_laws.specs.Keeping.{Takes}
@@ -51,6 +51,10 @@ left_some received feed consumed all more is =
 run_some : (run : Run) → 0 < length (items_of (RunFeed run))
 run_some run = let some = run.not_empty in omega (arith, some, length-map (samples run) Sample, samples_len run)
 
+or_true : (b : Bool) → (b || true) ≡ true
+or_true true = refl
+or_true false = refl
+
 -- a stage that has consumed all that it received has told a floor behind that
 abbrev HaveTold : State → Type 0
 HaveTold state = (j : ℕ) → (state.stages j).consumed ≡ items_in (state.stages j).input.received → (state.stages j).told ≡ true
@@ -58,10 +62,6 @@ HaveTold state = (j : ℕ) → (state.stages j).consumed ≡ items_in (state.sta
 module _ (parents : List (Option ℕ)) (by : Definitions) (slots : ℕ) (state : State) (had : HaveTold state) where
   abbrev at : ℕ → Stage
   at j = state.stages j
-
-  stop_tells : (stops : Bool) → HaveTold (stop_if parents stops state)
-  stop_tells false = had
-  stop_tells true = had
 
   take_tells : (i : ℕ) (feed : Feed) → ((at i).consumed ≡ items_in ((at i).input.received ++ feed ∷ []) → (at i).told ≡ true)
       → (j : ℕ) → (at j).consumed ≡ items_in (more_at i (feed ∷ []) j (at j).input.received) → (at j).told ≡ true
@@ -103,7 +103,7 @@ module _ (parents : List (Option ℕ)) (by : Definitions) (slots : ℕ) (state :
     act_may : (act : Act) → MayAct parents by slots act state → MayAll parents by slots (events_in act) state
     act_may (DoRead run) may = (may, tt)
     act_may (DoRoot i feed) may = (may, tt)
-    act_may (DoTake i feed) may = ((still, may.2), way (ends_feed feed) refl)
+    act_may (DoTake i feed) may = (((still, had i may.0), may.2), way (ends_feed feed) refl)
       where
         still : (at i).closed ≡ false
         still = not_closed (at i).input.received (at i).consumed (at i).closed (legal.fits.takes i) may.1
@@ -128,8 +128,10 @@ module _ (parents : List (Option ℕ)) (by : Definitions) (slots : ℕ) (state :
         way (item ∷ left) is start same = absurd cc
     act_may (DoGive i child feed) may = (may, tt)
     act_may (DoTell i mark) may = (may, tt)
-    act_may (DoGather i mark stops) may = (may, tt)
-    act_may (DoPrint entry stops) may = (may, tt)
+    act_may (DoGather i mark true) may = (may, ((or_true state.stopped, tt), tt))
+    act_may (DoGather i mark false) may = (may, tt)
+    act_may (DoPrint entry true) may = (may, ((or_true state.stopped, tt), tt))
+    act_may (DoPrint entry false) may = (may, tt)
 
 module _ (parents : List (Option ℕ)) (by : Definitions) (slots : ℕ) (lawful : IsLawful parents by) where
   go : (acts : List Act) (state : State) → Legal parents by slots state → HaveTold state → MayActAll parents by slots acts state → Legal parents by slots (acted_all parents acts state)

@@ -9,7 +9,7 @@ use Rattle.tree_runs.specs.Machines.{Definitions}
 use Rattle.stack_laws.specs.Links.{IsLink, IsNext, IsFree, EndsLast}
 use Rattle.stack_laws.specs.Running.{State, is_over, stands_on}
 use Rattle.stack_laws.specs.Feeds.{ends_feed, ends_marks, feed_end, feeds_of}
-use Rattle.stack_laws.specs.Events.{Read, after, stop_if, to, sent_feed, sent_mark}
+use Rattle.stack_laws.specs.Events.{Read, Hear, after, stop_if, to, sent_feed, sent_mark}
 use Rattle.stack_laws.specs.Legal.{Fits, due}
 use Rattle.stack_laws.proofs.Links.{link_made, link_sent, link_sent_none, due_last}
 use Rattle.stack_laws.proofs.Places.{at_place}
@@ -76,27 +76,41 @@ module _ (parents : List (Option ℕ)) (by : Definitions) (slots : ℕ) (state :
         batched = fits.batched;
       }
 
-  -- a stop: what was made is due where the feed was over, and End joins it where it wasn't
-  stop_one : (ended stopped : Bool) → feed_end (ended || stopped) ++ feed_end (not (ended || stopped)) ≡ feed_end (ended || true)
-  stop_one true stopped = refl
-  stop_one false true = refl
-  stop_one false false = refl
+  -- a stop leaves all as it is, until it is heard
+  pub stop_fits : (stops : Bool) → Fits parents by slots (stop_if parents stops state)
+  stop_fits stops = record {
+    inputs = fits.inputs;
+    outputs = fits.outputs;
+    takes = fits.takes;
+    hands = λ j. fits.hands j ∙ due_same by state (stop_if parents stops state) (slice_get parents j) refl refl (λ p. refl) (λ p. refl);
+    marks = fits.marks;
+    floors = fits.floors;
+    batched = fits.batched;
+  }
 
-  stop_hands : (made : List Feed) (place : Option (Option ℕ)) → made ≡ due by.whole state place
-      → made ++ (if stands_on place None then feed_end (not (is_over state)) else []) ≡ due by.whole (stop_if parents true state) place
-  stop_hands made None is = λ i. is i ++ []
-  stop_hands made (Some None) is =
+  abbrev Hears : State
+  Hears = after parents Hear state
+
+  -- a stop is heard: what was made is due where the feed was over, and End joins it where it wasn't
+  hear_one : (ended heard : Bool) → feed_end (ended || heard) ++ feed_end (not (ended || heard)) ≡ feed_end (ended || true)
+  hear_one true heard = refl
+  hear_one false true = refl
+  hear_one false false = refl
+
+  hear_hands : (made : List Feed) (place : Option (Option ℕ)) → made ≡ due by.whole state place
+      → made ++ (if stands_on place None then feed_end (not (is_over state)) else []) ≡ due by.whole Hears place
+  hear_hands made None is = λ i. is i ++ []
+  hear_hands made (Some None) is =
       (λ i. is i ++ feed_end (not (is_over state)))
       ∙ append_assoc (map RunFeed state.fed) (feed_end (is_over state)) (feed_end (not (is_over state)))
-      ∙ (λ i. map RunFeed state.fed ++ stop_one state.ended state.stopped i)
-  stop_hands made (Some (Some p)) is = append-nil made ∙ is
+      ∙ (λ i. map RunFeed state.fed ++ hear_one state.ended state.heard i)
+  hear_hands made (Some (Some p)) is = append-nil made ∙ is
 
-  pub stop_fits : (stops : Bool) → Fits parents by slots (stop_if parents stops state)
-  stop_fits false = fits
-  stop_fits true =
-      let hands = λ (j : ℕ). stop_hands (state.stages j).input.made (slice_get parents j) (fits.hands j) in
+  pub hear_fits : Fits parents by slots (after parents Hear state)
+  hear_fits =
+      let hands = λ (j : ℕ). hear_hands (state.stages j).input.made (slice_get parents j) (fits.hands j) in
       record {
-        inputs = handed None (feed_end (not (is_over state))) (stop_if parents true state) hands;
+        inputs = handed None (feed_end (not (is_over state))) Hears hands;
         outputs = fits.outputs;
         takes = fits.takes;
         hands = hands;

@@ -17,42 +17,47 @@ use Rattle.tree_runs.specs.Passing.{only}
 use Rattle.stack_laws.specs.Links.{IsNext, IsFree}
 use Rattle.stack_laws.specs.Running.{State, opening, is_over}
 use Rattle.stack_laws.specs.Feeds.{feeds_of}
-use Rattle.stack_laws.specs.Events.{Event, Read, Root, Take, Close, Step, Give, Tell, Gather, Print, May, MayAll, after, after_all, gathered, sent_feed}
+use Rattle.stack_laws.specs.Events.{Event, Read, Hear, Root, Take, Close, Step, Give, Tell, Gather, Print, May, MayAll, after, after_all, gathered, sent_feed}
 use Rattle.stack_laws.specs.Legal.{Fits, Legal, due}
 use Rattle.stack_laws.specs.Laws.{IsLawful, EventKeepsLegal}
 use Rattle.stack_laws.proofs.Places.{at_place}
 use Rattle.stack_laws.proofs.Batching.{batched_none}
-use Rattle.stack_laws.proofs.Feeding.{read_fits, send_fits, tell_fits}
+use Rattle.stack_laws.proofs.Feeding.{hear_fits, read_fits, send_fits, tell_fits}
 use Rattle.stack_laws.proofs.Moving.{take_fits, close_fits, step_fits}
 use Rattle.stack_laws.proofs.Printing.{gather_legal, print_legal}
 
-not_ended : (ended stopped : Bool) → (ended || stopped) ≡ false → ended ≡ true → ⊥
-not_ended true stopped none is = cc
-not_ended false stopped none is = cc
+not_ended : (ended heard : Bool) → (ended || heard) ≡ false → ended ≡ true → ⊥
+not_ended true heard none is = cc
+not_ended false heard none is = cc
 
 module _ (parents : List (Option ℕ)) (by : Definitions) (slots : ℕ) (state : State) (legal : Legal parents by slots state) where
   read_legal : (run : Option Run) → is_over state ≡ false → Legal parents by slots (after parents (Read run) state)
-  read_legal (Some run) going = record { fits = read_fits parents by slots state legal.fits (Some run) going; prints = legal.prints; later = legal.later }
+  read_legal (Some run) going = record { fits = read_fits parents by slots state legal.fits (Some run) going; prints = legal.prints; hears = legal.hears; later = legal.later }
   read_legal None going = record {
     fits = read_fits parents by slots state legal.fits None going;
     prints = legal.prints;
-    later = λ j low more new on is. legal.later j low more new (λ closed ended. absurd (not_ended state.ended state.stopped going ended)) is;
+    hears = legal.hears;
+    later = λ j low more new on is. legal.later j low more new (λ closed ended. absurd (not_ended state.ended state.heard going ended)) is;
   }
+
+  hear_legal : state.stopped ≡ true → Legal parents by slots (after parents Hear state)
+  hear_legal stopped = record { fits = hear_fits parents by slots state legal.fits; prints = legal.prints; hears = λ is. stopped; later = legal.later }
 
   send_legal : (i : ℕ) (feed : Feed) → IsNext (state.stages i).input.sent feed (state.stages i).input.made → IsFree slots (state.stages i).input
       → Legal parents by slots (record state { stages = sent_feed i feed state.stages })
-  send_legal i feed next free = record { fits = send_fits parents by slots state legal.fits i feed next free; prints = legal.prints; later = legal.later }
+  send_legal i feed next free = record { fits = send_fits parents by slots state legal.fits i feed next free; prints = legal.prints; hears = legal.hears; later = legal.later }
 
   tell_legal : (i : ℕ) (mark : Mark) → May parents by slots (Tell i mark) state → Legal parents by slots (after parents (Tell i mark) state)
-  tell_legal i mark may = record { fits = tell_fits parents by slots state legal.fits i mark may.0 may.1; prints = legal.prints; later = legal.later }
+  tell_legal i mark may = record { fits = tell_fits parents by slots state legal.fits i mark may.0 may.1; prints = legal.prints; hears = legal.hears; later = legal.later }
 
   take_legal : (i : ℕ) (feed : Feed) → May parents by slots (Take i feed) state → Legal parents by slots (after parents (Take i feed) state)
-  take_legal i feed may = record { fits = take_fits parents by slots state legal.fits i feed may; prints = legal.prints; later = legal.later }
+  take_legal i feed may = record { fits = take_fits parents by slots state legal.fits i feed may; prints = legal.prints; hears = legal.hears; later = legal.later }
 
   close_legal : (i : ℕ) → May parents by slots (Close i) state → Legal parents by slots (after parents (Close i) state)
   close_legal i may = record {
     fits = close_fits parents by slots state legal.fits i may.0;
     prints = legal.prints;
+    hears = legal.hears;
     later = λ j low more new on is. legal.later j low more new (λ closed. on (ap (λ (b : Bool). b || nat_eq j i) closed)) is;
   }
 
@@ -67,12 +72,14 @@ module _ (parents : List (Option ℕ)) (by : Definitions) (slots : ℕ) (state :
     step_legal = record {
       fits = step_fits parents by slots state legal.fits prefix i items new floor may.0;
       prints = legal.prints;
+      hears = legal.hears;
       later = λ j low more notes on is.
           legal.later j low (only i items j ++ more) notes (step_on more j on) (ap (λ (l : List Item). notes_of (by.whole j l)) (sym (append_assoc (state.stages j).consumed (only i items j) more)) ∙ is);
     }
 
 pub event_keeps : EventKeepsLegal
 event_keeps parents by slots lawful (Read run) state legal may = read_legal parents by slots state legal run may.0
+event_keeps parents by slots lawful Hear state legal may = hear_legal parents by slots state legal may.0
 event_keeps parents by slots lawful (Root i feed) state legal may = send_legal parents by slots state legal i feed may.0.1 may.1
 event_keeps parents by slots lawful (Take i feed) state legal may = take_legal parents by slots state legal i feed may
 event_keeps parents by slots lawful (Close i) state legal may = close_legal parents by slots state legal i may
@@ -103,6 +110,7 @@ module _ (parents : List (Option ℕ)) (by : Definitions) (slots : ℕ) (lawful 
   opening_legal = record {
     fits = opening_fits;
     prints = (gathered parents opening, refl);
+    hears = λ is. let no : false ≡ true = is in absurd cc;
     later = λ i low more new on is. All-nil (λ entry. All (λ note. is_before (entry_of i note) entry ≡ false) new);
   }
 

@@ -39,7 +39,7 @@ serves_next outs closed (suc n) feed (child ∷ children) next each =
 module _ (whole : List Item → List Out) (near : List Item → ℕ) (prefix : KeepsFront whole) where
   move_keeps : (move : Move) (view : View) → Keeps whole near view → MayMove whole near move view → Keeps whole near (moved move view)
   move_keeps (TakeIn feed) view keeps may = record {
-    takes = take_takes view.received view.consumed view.closed feed may keeps.takes;
+    takes = take_takes view.received view.consumed view.closed feed may.0 keeps.takes;
     marks = keeps.marks;
     tells = keeps.tells;
     floors = keeps.floors;

@@ -11,7 +11,7 @@ use Rattle.decoder_core.specs.Inputs.{Item}
 use Rattle.decoder_core.specs.Marks.{marks_of}
 use Rattle.stack_laws.specs.Running.{State, Stage}
 use Rattle.stack_laws.specs.Feeds.{feeds_of, floor_mark, is_floor}
-use Rattle.stack_laws.specs.Events.{Read, Root, Take, Close, Step, Give, Tell, Gather, Print, after}
+use Rattle.stack_laws.specs.Events.{Read, Hear, Root, Take, Close, Step, Give, Tell, Gather, Print, after}
 use Rattle.stack_laws.specs.Owning.{Leaves, StageLeavesOthers}
 use Rattle.stack_laws.proofs.Places.{or_none, stays_at, stays_to, stays_child}
 
@@ -28,6 +28,7 @@ module _ (parents : List (Option ℕ)) (state : State) (i : ℕ) where
     printed = refl;
     ended = refl;
     stopped = refl;
+    heard = refl;
     gathered = λ j. refl;
     others = λ j apart. record { received = stays_at i j (feed ∷ []) (at j).input.received apart; consumed = refl; told = refl; marks = refl; closed = refl };
     links = λ j off. (refl, refl);
@@ -39,6 +40,7 @@ module _ (parents : List (Option ℕ)) (state : State) (i : ℕ) where
     printed = refl;
     ended = refl;
     stopped = refl;
+    heard = refl;
     gathered = λ j. refl;
     others = λ j apart. record {
       received = refl;
@@ -56,6 +58,7 @@ module _ (parents : List (Option ℕ)) (state : State) (i : ℕ) where
     printed = refl;
     ended = refl;
     stopped = refl;
+    heard = refl;
     gathered = λ j. refl;
     others = λ j apart. record {
       received = refl;
@@ -73,6 +76,7 @@ module _ (parents : List (Option ℕ)) (state : State) (i : ℕ) where
     printed = refl;
     ended = refl;
     stopped = refl;
+    heard = refl;
     gathered = λ j. refl;
     others = λ j apart. record { received = refl; consumed = refl; told = refl; marks = refl; closed = refl };
     links = λ j off. (refl, stays_child parents i child j (feed ∷ []) (at j).input.sent on off);
@@ -84,6 +88,7 @@ module _ (parents : List (Option ℕ)) (state : State) (i : ℕ) where
     printed = refl;
     ended = refl;
     stopped = refl;
+    heard = refl;
     gathered = λ j. refl;
     others = λ j apart. record { received = refl; consumed = refl; told = refl; marks = λ k. record (at j).marks { sent = stays_at i j (mark ∷ []) (at j).marks.sent apart k }; closed = refl };
     links = λ j off. (refl, refl);
@@ -96,6 +101,7 @@ leaves_others parents by i (Step j items new floor) same state asks = subst (λ 
 leaves_others parents by i (Give j child feed) same state asks = subst (λ (k : ℕ). Leaves parents k state (after parents (Give j child feed) state)) same (give_leaves parents state j child feed asks.0)
 leaves_others parents by i (Tell j mark) same state asks = subst (λ (k : ℕ). Leaves parents k state (after parents (Tell j mark) state)) same (tell_leaves parents state j mark)
 leaves_others parents by i (Read run) same state asks = absurd same
+leaves_others parents by i Hear same state asks = absurd same
 leaves_others parents by i (Root j feed) same state asks = absurd same
 leaves_others parents by i (Gather j mark stops) same state asks = absurd same
 leaves_others parents by i (Print entry stops) same state asks = absurd same

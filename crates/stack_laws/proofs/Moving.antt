@@ -35,7 +35,7 @@ module _ (parents : List (Option ℕ)) (by : Definitions) (slots : ℕ) (state :
         (λ j. link_took_none ends_feed slots (at j).input (fits.inputs j));
     outputs = fits.outputs;
     takes = at_place (λ j b. Takes ((at j).input.received ++ (if b then feed ∷ [] else [])) (at j).consumed (at j).closed) i
-        (take_takes (at i).input.received (at i).consumed (at i).closed feed may.0 (fits.takes i))
+        (take_takes (at i).input.received (at i).consumed (at i).closed feed may.0.0 (fits.takes i))
         (λ j. subst (λ (l : List Feed). Takes l (at j).consumed (at j).closed) (sym (append-nil (at j).input.received)) (fits.takes j));
     hands = λ j. fits.hands j ∙ due_same by state (after parents (Take i feed) state) (slice_get parents j) refl refl (λ p. refl) (λ p. refl);
     marks = fits.marks;

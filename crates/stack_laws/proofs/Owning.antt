@@ -13,7 +13,7 @@ use Rattle.tree_runs.specs.Passing.{only}
 use Rattle.stack_laws.specs.Links.{IsFront}
 use Rattle.stack_laws.specs.Running.{State, Stage}
 use Rattle.stack_laws.specs.Feeds.{feed_end, feeds_of, floor_mark, is_floor}
-use Rattle.stack_laws.specs.Events.{Read, Root, Take, Close, Step, Give, Tell, Gather, Print, Asks, after, to}
+use Rattle.stack_laws.specs.Events.{Read, Hear, Root, Take, Close, Step, Give, Tell, Gather, Print, Asks, after, to}
 use Rattle.stack_laws.specs.Legal.{Own, due}
 use Rattle.stack_laws.specs.Keeping.{Takes, Marks, Floors, Batched}
 use Rattle.stack_laws.specs.Owning.{StageKeepsItsOwn}
@@ -29,7 +29,7 @@ module _ (parents : List (Option ℕ)) (by : Definitions) (state : State) (i : �
 
   take_own : (feed : Feed) → Asks parents by (Take i feed) state → Own parents by i (after parents (Take i feed) state)
   take_own feed asks = record {
-    takes = at_self (λ b. Takes (now.input.received ++ (if b then feed ∷ [] else [])) now.consumed now.closed) i (take_takes now.input.received now.consumed now.closed feed asks own.takes);
+    takes = at_self (λ b. Takes (now.input.received ++ (if b then feed ∷ [] else [])) now.consumed now.closed) i (take_takes now.input.received now.consumed now.closed feed asks.0 own.takes);
     marks = own.marks;
     tells = own.tells;
     floors = own.floors;
@@ -113,6 +113,7 @@ keeps_own parents by lawful i (Step j items new floor) same state own asks =
 keeps_own parents by lawful i (Give j child feed) same state own asks = of_same parents by state (after parents (Give j child feed) state) i j same (λ o. give_own parents by state j o child feed asks) own
 keeps_own parents by lawful i (Tell j mark) same state own asks = of_same parents by state (after parents (Tell j mark) state) i j same (λ o. tell_own parents by state j o mark asks) own
 keeps_own parents by lawful i (Read run) same state own asks = absurd same
+keeps_own parents by lawful i Hear same state own asks = absurd same
 keeps_own parents by lawful i (Root j feed) same state own asks = absurd same
 keeps_own parents by lawful i (Gather j mark stops) same state own asks = absurd same
 keeps_own parents by lawful i (Print entry stops) same state own asks = absurd same

@@ -55,8 +55,7 @@ module _ (i : ℕ) where
 
 -- a stop keeps a state legal
 stop_legal : (parents : List (Option ℕ)) (by : Definitions) (slots : ℕ) (state : State) → Legal parents by slots state → (stops : Bool) → Legal parents by slots (stop_if parents stops state)
-stop_legal parents by slots state legal false = legal
-stop_legal parents by slots state legal true = record { fits = stop_fits parents by slots state legal.fits true; prints = legal.prints; later = legal.later }
+stop_legal parents by slots state legal stops = record { fits = stop_fits parents by slots state legal.fits stops; prints = legal.prints; hears = λ is. ap (λ (b : Bool). b || stops) (legal.hears is); later = legal.later }
 
 module _ (parents : List (Option ℕ)) (by : Definitions) (slots : ℕ) (state : State) (legal : Legal parents by slots state) where
   abbrev fits : Fits parents by slots state
@@ -110,6 +109,7 @@ module _ (parents : List (Option ℕ)) (by : Definitions) (slots : ℕ) (state :
         floors = fits.floors;
         batched = fits.batched;
       };
+      hears = legal.hears;
       prints = (
         _,
         sorted_by (gathered_of Gathered) (length parents)
@@ -133,11 +133,16 @@ module _ (parents : List (Option ℕ)) (by : Definitions) (slots : ℕ) (state :
       print_ended on has =
           let closed = ended_closed parents by slots state fits j has in
           let over = came_over parents by slots state fits forest j ((fits.takes j).all closed).0 in
-          let none : more ≡ [] = on closed (way state.ended state.stopped over may.0.1) in
+          let unheard = not_heard state.heard refl in
+          let none : more ≡ [] = on closed (way state.ended state.heard over unheard) in
           append_cancel_left (had j) new []
           (sym is ∙ ap (λ (l : List Item). notes_of (by.whole j ((at j).consumed ++ l))) none ∙ ap (λ (l : List Item). notes_of (by.whole j l)) (append-nil (at j).consumed)
           ∙ notes_ended parents by slots state fits j has ∙ sym (append-nil (had j)))
         where
+          not_heard : (b : Bool) → state.heard ≡ b → state.heard ≡ false
+          not_heard false is = is
+          not_heard true is = let bad : true ≡ false = sym (legal.hears is) ∙ may.0.1 in absurd cc
+
           way : (e s : Bool) → (e || s) ≡ true → s ≡ false → e ≡ true
           way true s over none = refl
           way false s over none = sym none ∙ over
@@ -179,6 +184,7 @@ module _ (parents : List (Option ℕ)) (by : Definitions) (slots : ℕ) (state :
         floors = fits.floors;
         batched = fits.batched;
       };
+      hears = legal.hears;
       prints = let next = may.0.0 in (next.0, next.1 ∙ sym (append_assoc state.printed (entry ∷ []) next.0));
       later = λ j low more new on is. All-push (NoneBefore j new) state.printed entry (legal.later j low more new on is) (print_none j more new is on (may.0.2 j low));
     }

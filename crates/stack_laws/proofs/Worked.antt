@@ -28,7 +28,7 @@ by_two P one other (suc (suc j)) low = absurd (omega (arith, low))
 
 history_may : MayAll places all_echo 1 history opening
 unfolding samples
-history_may = ((refl, tt), (((refl, (_, refl)), omega arith), ((refl, (_, refl)), (((refl, (_, refl), refl, no_floor (Sample 0 ∷ [])), tt), (((refl, (_, refl)), omega arith), (((_, refl), omega arith), ((omega arith, (_, refl)), ((((_, refl), refl, by_two _ (omega arith, λ _. omega arith) (omega arith, λ _. omega arith)), tt), ((refl, (_, refl)), (((refl, (_, refl), refl, no_floor (Pack packet ∷ [])), tt), ((refl, tt), (((refl, (_, refl)), omega arith), ((refl, (_, refl)), (((refl, refl, refl, refl), tt), (((refl, (_, refl)), omega arith), (((_, refl), omega arith), ((omega arith, (_, refl)), (((_, refl), omega arith), ((omega arith, (_, refl)), (((_, refl), omega arith), ((omega arith, (_, refl)), ((((_, refl), refl, by_two _ tt (omega arith, λ _. omega arith)), tt), ((refl, (_, refl)), (((refl, refl, refl, refl), tt), (((_, refl), omega arith), ((omega arith, (_, refl)), (((_, refl), omega arith), ((omega arith, (_, refl)), tt))))))))))))))))))))))))))))
+history_may = ((refl, tt), (((refl, (_, refl)), omega arith), (((refl, refl), (_, refl)), (((refl, (_, refl), refl, no_floor (Sample 0 ∷ [])), tt), (((refl, (_, refl)), omega arith), (((_, refl), omega arith), ((omega arith, (_, refl)), ((((_, refl), refl, by_two _ (omega arith, λ _. omega arith) (omega arith, λ _. omega arith)), tt), (((refl, refl), (_, refl)), (((refl, (_, refl), refl, no_floor (Pack packet ∷ [])), tt), ((refl, tt), (((refl, (_, refl)), omega arith), (((refl, refl), (_, refl)), (((refl, refl, refl, refl), tt), (((refl, (_, refl)), omega arith), (((_, refl), omega arith), ((omega arith, (_, refl)), (((_, refl), omega arith), ((omega arith, (_, refl)), (((_, refl), omega arith), ((omega arith, (_, refl)), ((((_, refl), refl, by_two _ tt (omega arith, λ _. omega arith)), tt), (((refl, refl), (_, refl)), (((refl, refl, refl, refl), tt), (((_, refl), omega arith), ((omega arith, (_, refl)), (((_, refl), omega arith), ((omega arith, (_, refl)), tt))))))))))))))))))))))))))))
 
 pub worked : WorkedRun
 worked = record {

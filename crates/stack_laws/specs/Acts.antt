@@ -1,7 +1,7 @@
 -- The acts of a tree whose stages take one feed at a time, of eight kinds: a stage that takes End
--- closes at once, and a floor stands behind each feed that is done.
-use Rattle.std.specs.Prelude.{ℕ, ◌≡◌, ◌<◌, Bool, false, if◌then◌else◌, List, [], ◌∷◌, ◌++◌, length}
-use Rattle.std.specs.Prelude.{Option, Some, None}
+-- closes at once, a floor stands behind each feed that is done, and a stop is heard at once.
+use Rattle.std.specs.Prelude.{ℕ, ◌≡◌, ◌<◌, Bool, true, false, if◌then◌else◌, List, [], ◌∷◌, ◌++◌}
+use Rattle.std.specs.Prelude.{length, Option, Some, None}
 use Rattle.la_base.specs.declared.samples.Run.{Run}
 use Rattle.la_base.specs.declared.wires.Feed.{Feed}
 use Rattle.la_base.specs.declared.wires.Mark.{Mark}
@@ -13,7 +13,8 @@ use Rattle.stack_laws.specs.Links.{IsNext, some}
 use Rattle.stack_laws.specs.Feeds.{ends_feed, items_in}
 use Rattle.stack_laws.specs.Moves.{MayTell}
 use Rattle.stack_laws.specs.Running.{State}
-use Rattle.stack_laws.specs.Events.{Event, Read, Root, Take, Close, Step, Give, Tell, Gather, Print}
+use Rattle.stack_laws.specs.Events.{Event, Read, Hear, Root, Take, Close, Step, Give, Tell, Gather}
+use Rattle.stack_laws.specs.Events.{Print}
 use Rattle.stack_laws.specs.Events.{May, after_all}
 
 pub data Act : Type 0 where
@@ -34,6 +35,11 @@ abbrev pub floor_behind : List Item → ℕ → Option ℕ
 floor_behind [] floor = Some floor
 floor_behind (item ∷ left) floor = None
 
+-- a stop is heard
+abbrev pub heard_if : Bool → List Event
+heard_if true = Hear ∷ []
+heard_if false = []
+
 abbrev pub events_in : Act → List Event
 events_in (DoRead run) = Read run ∷ []
 events_in (DoRoot i feed) = Root i feed ∷ []
@@ -41,8 +47,8 @@ events_in (DoTake i feed) = Take i feed ∷ (if ends_feed feed then Close i ∷ 
 events_in (DoStep i items left new floor) = Step i items new (floor_behind left floor) ∷ []
 events_in (DoGive i child feed) = Give i child feed ∷ []
 events_in (DoTell i mark) = Tell i mark ∷ []
-events_in (DoGather i mark stops) = Gather i mark stops ∷ []
-events_in (DoPrint entry stops) = Print entry stops ∷ []
+events_in (DoGather i mark stops) = Gather i mark stops ∷ heard_if stops
+events_in (DoPrint entry stops) = Print entry stops ∷ heard_if stops
 
 module _ (parents : List (Option ℕ)) (by : Definitions) (slots : ℕ) where
   -- when an act may happen: a stage takes only where its rest is empty and it hasn't received End,

@@ -20,9 +20,11 @@ use Rattle.stack_laws.specs.Running.{Stage, State, is_over, stands_on}
 use Rattle.stack_laws.specs.Feeds.{ends_feed, feed_end, items_in, feeds_of, floor_mark, is_floor}
 
 pub data Event : Type 0 where
-  -- the driver reads a run, or that there is none
+  -- the reader reads a run, or that there is none
   Read : Option Run → Event
-  -- the driver sends a root what is next for it
+  -- the reader hears that the run was stopped, and reads no more
+  Hear : Event
+  -- the reader sends a root what is next for it
   Root : ℕ → Feed → Event
   -- a stage takes what is next on its input link
   Take : ℕ → Feed → Event
@@ -85,6 +87,7 @@ took_mark i mark stages j = record (stages j) {
 -- what an event asks of the other end of a link: a free slot, or that this was sent
 abbrev pub Lets : ℕ → Event → State → Type 0
 Lets slots (Read run) state = Unit {0}
+Lets slots Hear state = Unit {0}
 Lets slots (Root i feed) state = IsFree slots (state.stages i).input
 Lets slots (Take i feed) state =
     IsNext (state.stages i).input.received feed (state.stages i).input.sent
@@ -111,13 +114,9 @@ module _ (parents : List (Option ℕ)) where
     input = record (stages j).input { made = (stages j).input.made ++ to above feeds j };
   }
 
-  -- a stop makes the feed over
+  -- a stop is known to the driver alone, until the reader hears of it
   abbrev pub stop_if : Bool → State → State
-  stop_if false state = state
-  stop_if true state = record state {
-    stages = hand None (feed_end (not (is_over state))) state.stages;
-    stopped = true;
-  }
+  stop_if stops state = record state { stopped = state.stopped || stops }
 
   -- what an event does
   abbrev pub after : Event → State → State
@@ -128,6 +127,10 @@ module _ (parents : List (Option ℕ)) where
   after (Read None) state = record state {
     stages = hand None (End ∷ []) state.stages;
     ended = true;
+  }
+  after Hear state = record state {
+    stages = hand None (feed_end (not (is_over state))) state.stages;
+    heard = true;
   }
   after (Root i feed) state = record state { stages = sent_feed i feed state.stages }
   after (Take i feed) state = record state { stages = took_feed i feed state.stages }
@@ -151,13 +154,15 @@ module _ (parents : List (Option ℕ)) where
   gathered state = sorted_notes (length parents) (gathered_of state)
 
   module _ (by : Definitions) where
-    -- what an event asks of those that act: the driver, or one stage
+    -- what an event asks of those that act: the reader, the driver, or one stage
     abbrev pub Asks : Event → State → Type 0
     Asks (Read run) state = is_over state ≡ false
+    Asks Hear state = state.stopped ≡ true
     Asks (Root i feed) state =
         (slice_get parents i ≡ Some None)
         × IsNext (state.stages i).input.sent feed (state.stages i).input.made
-    Asks (Take i feed) state = (state.stages i).closed ≡ false
+    Asks (Take i feed) state =
+        ((state.stages i).closed ≡ false) × ((state.stages i).told ≡ true)
     Asks (Close i) state =
         (some ends_feed (state.stages i).input.received ≡ true)
         × ((state.stages i).consumed ≡ items_in (state.stages i).input.received)
@@ -201,6 +206,7 @@ module _ (parents : List (Option ℕ)) where
 -- an event is one of stage i
 abbrev pub IsOwn : ℕ → Event → Type 0
 IsOwn i (Read run) = ⊥
+IsOwn i Hear = ⊥
 IsOwn i (Root j feed) = ⊥
 IsOwn i (Take j feed) = j ≡ i
 IsOwn i (Close j) = j ≡ i

@@ -94,6 +94,8 @@ module _ (parents : List (Option ℕ)) (by : Definitions) (slots : ℕ) where
     pub fits : Fits state
     -- what was printed are the first of the notes that were gathered, in the order of a listing
     pub prints : IsFront state.printed (gathered parents state)
+    -- the reader hears of a stop once there is one
+    pub hears : state.heard ≡ true → state.stopped ≡ true
     -- no note that wasn't gathered, or is still to come, stands before a printed one
     pub later : (i : ℕ) → i < length parents → (more : List Item) (new : List Note)
         → MayFollow state i more

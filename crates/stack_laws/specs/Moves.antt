@@ -79,11 +79,12 @@ MayTell whole near input start = IsFloor whole input start × (near input ≤ st
 
 module _ (whole : List Item → List Out) (near : List Item → ℕ) where
   -- when a stage may do it, where `whole` is the definition of its decoder and `near` its near
-  -- floor: it takes in until it has closed; it closes once it has received End, has consumed all
-  -- that came, and has told a floor behind that; it consumes on in what it has received, and makes
-  -- what that gives; it sends on each link what it made for it, in order
+  -- floor: it takes in until it has closed, and no more before it has told a floor after what it
+  -- has consumed; it closes once it has received End, has consumed all that came, and has told a
+  -- floor after that; it consumes on in what it has received, and makes what that gives; it sends
+  -- on each link what it made for it, in order
   abbrev pub MayMove : Move → View → Type 0
-  MayMove (TakeIn feed) view = view.closed ≡ false
+  MayMove (TakeIn feed) view = (view.closed ≡ false) × (view.told ≡ true)
   MayMove CloseUp view =
       (some ends_feed view.received ≡ true) × (view.consumed ≡ items_in view.received)
       × (view.told ≡ true) × (view.closed ≡ false)

@@ -43,6 +43,7 @@ pub record Leaves (parents : List (Option ℕ)) (i : ℕ) (before after : State)
   pub printed : after.printed ≡ before.printed
   pub ended : after.ended ≡ before.ended
   pub stopped : after.stopped ≡ before.stopped
+  pub heard : after.heard ≡ before.heard
   pub gathered : (j : ℕ)
       → (after.stages j).marks.received ≡ (before.stages j).marks.received
   pub others : (j : ℕ) → j ≢ i → StaysAside (before.stages j) (after.stages j)

@@ -20,13 +20,14 @@ pub record Stage : Type 0 where
   pub closed : Bool
 
 -- the runs that were fed; the stages by their places; the notes that were printed; whether the feed
--- has ended by itself, and whether the run was stopped
+-- has ended by itself, whether the run was stopped, and whether the reader has heard of that
 pub record State : Type 0 where
   pub fed : List Run
   pub stages : ℕ → Stage
   pub printed : List Entry
   pub ended : Bool
   pub stopped : Bool
+  pub heard : Bool
 
 -- a stage that has received and made nothing
 abbrev pub opening_stage : Stage
@@ -45,11 +46,12 @@ opening = record {
   printed = [];
   ended = false;
   stopped = false;
+  heard = false;
 }
 
--- the feed is over: it has ended by itself, or the run was stopped
+-- the feed is over: it has ended by itself, or the reader has heard that the run was stopped
 abbrev pub is_over : State → Bool
-is_over state = state.ended || state.stopped
+is_over state = state.ended || state.heard
 
 -- the instance at a place stands on `above`; None is the outside of the tree
 abbrev pub stands_on : Option (Option ℕ) → Option ℕ → Bool

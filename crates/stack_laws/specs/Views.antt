@@ -78,7 +78,7 @@ module _ (parents : List (Option ℕ)) (ends : Ends) where
     closed = (ends.views j).closed;
   }
 
-  -- the one state that they make
+  -- the one state that they make, once the reader has heard of a stop
   abbrev pub state_of : List Run → Bool → Bool → State
   state_of fed ended stopped = record {
     fed = fed;
@@ -86,4 +86,5 @@ module _ (parents : List (Option ℕ)) (ends : Ends) where
     printed = [];
     ended = ended;
     stopped = stopped;
+    heard = stopped;
   }

@@ -19,7 +19,7 @@ use decoder_core::Machine;
 /// - a note were printed whatever the floors are, or behind a stop (`Print`);
 /// - a floor were any number (`Step`);
 /// - a stage closed with a rest of its input, or without a floor behind its last batch (`Close`);
-/// - a stop didn't end what is made for the roots (`stop_if`);
+/// - a stop that is heard didn't end what is made for the roots (`Hear`);
 /// - an End also ruled out what a stopped run could have gone on with (`MayFollow`).
 pub fn event_keeps_legal()
     ensures { EventKeepsLegal }

@@ -91,7 +91,7 @@ pub fn run_stages<
         mut feeds,
         mut marks,
         end,
-    } = run_crew(rt, alloc, stages, feeds, marks, feed, take, pacer)?;
+    } = run_crew(rt, alloc, stages, parents, feeds, marks, feed, take, pacer)?;
     take_apart(stages, &mut parts);
     settle_tree(&mut parts, parents, &mut feeds, &mut marks);
     Ok(end)

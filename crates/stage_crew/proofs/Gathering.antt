@@ -1,6 +1,7 @@
 -- Marks that were gathered and taken.
-use Rattle.std.proofs.Common.{◌≡◌, ◌≢◌, ◌<◌, ◌+◌, ℕ, Bool, true, false, not, List, [], ◌∷◌, ◌++◌, set, length, take, drop, take-append-drop, get_or, slice_get, Some, inl, inr, refl, sym, ◌∙◌, ap, subst, arith, append_assoc, if◌then◌else◌}
+use Rattle.std.proofs.Common.{◌≡◌, ◌≢◌, ◌<◌, ◌+◌, ℕ, Bool, true, false, not, List, [], ◌∷◌, ◌++◌, set, length, take, drop, take-append-drop, get_or, slice_get, Some, Result, inl, inr, refl, sym, ◌∙◌, ap, subst, arith, append_assoc, if◌then◌else◌}
 use Rattle.std.specs.Prelude.{nat_eq}
+use Rattle.std.specs.Result.{is_ok}
 use Rattle.std.proofs.lemmas.Bool.Decides.{nat_tests}
 use Rattle.std.proofs.lemmas.List.{append-nil, take_more, length-set}
 use Rattle.std.proofs.lemmas.Option.{slice_get_within}
@@ -14,10 +15,10 @@ use Rattle.tree_runs.proofs.Lists.{reaches-append, reaches_weaker}
 use Rattle.tree_runs.proofs.Joining.{took_then, took_nothing}
 use Rattle.tree_runs.proofs.Running.{took_same}
 use Rattle.stage_crew.specs.Driving.{EndsWith, real}
-use Rattle.stage_crew.specs.Gathering.{Fronts, Gathers, Overs, Pauses, TakesUntil}
+use Rattle.stage_crew.specs.Gathering.{Fronts, Gathers, Overs, TakesOne, TakesUntil}
 use Rattle.stage_crew.specs.declared.gatherer.Gatherer.{Gatherer}
 use Rattle.stage_crew.proofs.Handing.{get_set}
-use Rattle.stage_crew.proofs.Taking.{takes_paused, takes_then}
+use Rattle.stage_crew.proofs.Taking.{takes_none, takes_one, takes_then}
 
 real-append : (xs ys : List Mark) → real (xs ++ ys) ≡ real xs ++ real ys
 real-append [] ys = refl
@@ -118,32 +119,34 @@ pub stopped_front : (marks : List Mark) (n : ℕ) → Reaches false (real (take 
 stopped_front marks n = (real (drop n marks), sym (real-append (take n marks) (drop n marks)) ∙ ap real (take-append-drop n marks))
 
 module _ {A O : Type 0} (g : TakeGhosts A O) where
-  pub gathers_paused : {old new : A} (state : Gatherer) (gathered : List (List Mark)) → Pauses g old new → Gathers g old new state state gathered gathered
-  gathers_paused {old} state gathered p = record {
+  pub gathers_none : (now : A) (state : Gatherer) (gathered : List (List Mark)) → Gathers g now now state state gathered gathered
+  gathers_none now state gathered = record {
     change = λ j. [];
-    took = λ before after had is. p.took after (took_nothing (g.took old) before after had is);
+    took = took_nothing (g.took now);
     fronts = λ taken f j marks there. subst (λ (l : List Mark). Reaches (not state.stopped) l (real marks)) (sym (append-nil (taken j))) (f j marks there);
     overs = λ o. o;
     count = refl;
     others = λ j more. refl;
-    takes = takes_paused g state.stopped p;
+    takes = takes_none g state.stopped now;
   }
 
-  -- it was told of no pause, or of several
-  pub pauses_none : (now : A) → Pauses g now now
-  pauses_none now = record { took = λ marks had. had; instances = refl; origin = refl; stops = refl; going = λ still h. h }
-
-  pub pauses_then : {a b c : A} → Pauses g a b → Pauses g b c → Pauses g a c
-  pauses_then p q = record {
-    took = λ marks had. q.took marks (p.took marks had);
-    instances = q.instances ∙ p.instances;
-    origin = q.origin ∙ p.origin;
-    stops = q.stops ∙ p.stops;
-    going = λ still h. q.going still (p.going still h);
+  -- what takes the marks was told of a pause
+  pub gathers_paused : {R E : Type 0} {old new : A} (s t : Gatherer) (result : Result R E) (gathered : List (List Mark)) → s.stopped ≡ false → t.stopped ≡ not (is_ok result) → t.over ≡ s.over → ((marks : ℕ → List Mark) → g.took old marks → g.took new marks) → TakesOne g old new result
+      → Gathers g old new s t gathered gathered
+  gathers_paused {old = old} {new = new} s t result gathered going stops over paused takes = record {
+    change = λ j. [];
+    took = λ before after had is. paused after (took_nothing (g.took old) before after had is);
+    fronts = λ taken f j marks there.
+        weaker t.stopped (taken j ++ []) (real marks) (append-nil (taken j) ∙ subst (λ (b : Bool). Reaches (not b) (taken j) (real marks)) going (f j marks there));
+    overs = λ o. subst (λ (flags : List Bool). Overs flags gathered) (sym over) o;
+    count = refl;
+    others = λ j more. refl;
+    takes = subst (λ (b : Bool). TakesUntil g b t.stopped old new) (sym going) (subst (λ (b : Bool). TakesUntil g false b old new) (sym stops) (takes_one g result takes));
   }
-
-  pub gathers_none : (now : A) (state : Gatherer) (gathered : List (List Mark)) → Gathers g now now state state gathered gathered
-  gathers_none now state gathered = gathers_paused state gathered (pauses_none now)
+    where
+      weaker : (b : Bool) (xs ys : List Mark) → xs ≡ ys → Reaches (not b) xs ys
+      weaker true xs ys is = ([], append-nil xs ∙ is)
+      weaker false xs ys is = is
 
   pub gathers_then : {a b c : A} {s0 s1 s2 : Gatherer} {g0 g1 g2 : List (List Mark)} → Gathers g a b s0 s1 g0 g1 → Gathers g b c s1 s2 g1 g2 → Gathers g a c s0 s2 g0 g2
   gathers_then {a} {b} {c} {s2 = s2} p q = record {

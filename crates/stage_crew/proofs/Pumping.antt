@@ -16,7 +16,7 @@ use Rattle.stage_run.specs.declared.input.Stretch.{Stretch}
 use Rattle.stage_run.proofs.Telling.{feeds_in-append, plain_feeds, tell_feeds, tell_told, told-append}
 use Rattle.stage_crew.specs.Fans.{Fans}
 use Rattle.stage_crew.specs.Pumping.{InPlace, IsFree, Pumped, Pumps, PumpsOn, end_if, is_sent}
-use Rattle.stage_crew.specs.declared.fan.Handed.{Handed}
+use Rattle.stage_crew.specs.declared.fan.Cursor.{Cursor}
 use Rattle.stage_crew.specs.declared.pump.Pump.{Pump}
 use Rattle.stage_crew.proofs.Common.{gone, not_true}
 use Rattle.stage_crew.proofs.Handing.{fans_append}
@@ -67,7 +67,7 @@ module _ {A O : Type 0} (f : FeedGhosts A O) (feed : A) (p q : Pump) (sents : Li
 
   -- what was in the row was handed out
   pub pumps_hand : (sents_new : List (List Stretch)) → InPlace held p → q.at ≡ p.at → q.over ≡ p.over → q.said ≡ p.said → q.upper ≡ p.upper
-      → ((all : List Stretch) → Fans sents p.row p.handed all → Fans sents_new q.row q.handed all) → Pumps f feed feed p q sents sents_new
+      → ((all : List Stretch) → Fans sents p.row p.cursor all → Fans sents_new q.row q.cursor all) → Pumps f feed feed p q sents sents_new
   pumps_hand sents_new place at over said upper fans = record {
     more = [];
     gave = same_gave;
@@ -76,8 +76,8 @@ module _ {A O : Type 0} (f : FeedGhosts A O) (feed : A) (p q : Pump) (sents : Li
       left = ap (λ (n : ℕ). feeds_in 0 had.fed ++ map RunFeed (drop n held)) at ∙ had.left ∙ nothing_more lists;
       told = had.told ∙ sym upper;
       all = λ is. ap (λ (n : ℕ). drop n held) at ∙ had.all (sym said ∙ is);
-      fans = subst (λ (u : ℕ). Fans sents_new q.row q.handed (had.fed ++ end_if (telling u) q.said)) (sym upper)
-          (subst (λ (b : Bool). Fans sents_new q.row q.handed (had.fed ++ end_if (telling p.upper) b)) (sym said) (fans (had.fed ++ end_if (telling p.upper) p.said) had.fans));
+      fans = subst (λ (u : ℕ). Fans sents_new q.row q.cursor (had.fed ++ end_if (telling u) q.said)) (sym upper)
+          (subst (λ (b : Bool). Fans sents_new q.row q.cursor (had.fed ++ end_if (telling p.upper) b)) (sym said) (fans (had.fed ++ end_if (telling p.upper) p.said) had.fans));
     };
     in_place = record { at = omega (arith, at, place.at); said = λ is. over ∙ place.said (sym said ∙ is) };
     origin = refl;
@@ -86,19 +86,19 @@ module _ {A O : Type 0} (f : FeedGhosts A O) (feed : A) (p q : Pump) (sents : Li
   }
 
   -- these were put into the row
-  added_fans : (fed new : List Stretch) → IsFree p → p.handed.given ≤ length p.row → q.said ≡ p.said → q.handed ≡ p.handed → q.row ≡ p.row ++ new → Fans sents p.row p.handed (fed ++ end_if (telling p.upper) p.said)
-      → Fans sents q.row q.handed ((fed ++ new) ++ end_if (telling q.upper) q.said)
-  added_fans fed new free within said handed row fans =
+  added_fans : (fed new : List Stretch) → IsFree p → p.cursor.given ≤ length p.row → q.said ≡ p.said → q.cursor ≡ p.cursor → q.row ≡ p.row ++ new → Fans sents p.row p.cursor (fed ++ end_if (telling p.upper) p.said)
+      → Fans sents q.row q.cursor ((fed ++ new) ++ end_if (telling q.upper) q.said)
+  added_fans fed new free within said cursor row fans =
       let all : List Stretch = (fed ++ new) ++ end_if (telling q.upper) q.said in
-      subst (λ (h : Handed). Fans sents q.row h all) (sym handed)
-      (subst (λ (l : List Stretch). Fans sents l p.handed all) (sym row)
+      subst (λ (h : Cursor). Fans sents q.row h all) (sym cursor)
+      (subst (λ (l : List Stretch). Fans sents l p.cursor all) (sym row)
       (fans_append fans new all within free.first
       (untold (fed ++ new) q.upper q.said (said ∙ free.said) ∙ ap (λ (l : List Stretch). l ++ new) (sym (untold fed p.upper p.said free.said)))))
 
   -- further runs were put into the row
-  pub pumps_fill : (n : ℕ) → InPlace held p → IsFree p → p.handed.given ≤ length p.row → n ≤ length (take (length held - p.at) (drop p.at held)) → q.at ≡ p.at + n → q.over ≡ p.over → q.said ≡ p.said → q.upper ≡ p.upper → q.handed ≡ p.handed
+  pub pumps_fill : (n : ℕ) → InPlace held p → IsFree p → p.cursor.given ≤ length p.row → n ≤ length (take (length held - p.at) (drop p.at held)) → q.at ≡ p.at + n → q.over ≡ p.over → q.said ≡ p.said → q.upper ≡ p.upper → q.cursor ≡ p.cursor
       → q.row ≡ map stretch_of (take n (take (length held - p.at) (drop p.at held))) → All (λ run. upper_of run ≡ p.upper) (take n (take (length held - p.at) (drop p.at held))) → Pumps f feed feed p q sents sents
-  pumps_fill n place free within few at over said upper handed row uppers = record {
+  pumps_fill n place free within few at over said upper cursor row uppers = record {
     more = [];
     gave = same_gave;
     pumped = λ lists had.
@@ -115,7 +115,7 @@ module _ {A O : Type 0} (f : FeedGhosts A O) (feed : A) (p q : Pump) (sents : Li
           left = ap (λ (l : List Feed). l ++ map RunFeed (drop q.at held)) feeds_new ∙ append_assoc (feeds_in 0 had.fed) (map RunFeed runs) (map RunFeed (drop q.at held)) ∙ ap (λ (l : List Feed). feeds_in 0 had.fed ++ l) (sym parts) ∙ had.left ∙ nothing_more lists;
           told = told-append 0 had.fed new ∙ ap (λ (u : ℕ). told_behind u new) had.told ∙ plain.1 ∙ sym upper;
           all = λ is. absurd (not_true (said ∙ free.said) is);
-          fans = added_fans had.fed new free within said handed row_is had.fans;
+          fans = added_fans had.fed new free within said cursor row_is had.fans;
         };
     in_place = record { at = omega (arith, at, place.at, few, ap length whole, length-drop p.at held); said = λ is. absurd (not_true (said ∙ free.said) is) };
     origin = refl;
@@ -127,9 +127,9 @@ module _ {A O : Type 0} (f : FeedGhosts A O) (feed : A) (p q : Pump) (sents : Li
       whole = take_all (length held - p.at) (drop p.at held) (omega (arith, length-drop p.at held))
 
   -- what tells another upper half of the lines was put into the row
-  pub pumps_tell : (upper : ℕ) → InPlace held p → IsFree p → p.handed.given ≤ length p.row → (upper ≡ p.upper → ⊥) → q.at ≡ p.at → q.over ≡ p.over → q.said ≡ p.said → q.upper ≡ upper → q.handed ≡ p.handed → q.row ≡ p.row ++ telling upper ∷ []
+  pub pumps_tell : (upper : ℕ) → InPlace held p → IsFree p → p.cursor.given ≤ length p.row → (upper ≡ p.upper → ⊥) → q.at ≡ p.at → q.over ≡ p.over → q.said ≡ p.said → q.upper ≡ upper → q.cursor ≡ p.cursor → q.row ≡ p.row ++ telling upper ∷ []
       → Pumps f feed feed p q sents sents
-  pumps_tell upper place free within differ at over said is_upper handed row = record {
+  pumps_tell upper place free within differ at over said is_upper cursor row = record {
     more = [];
     gave = same_gave;
     pumped = λ lists had. record {
@@ -137,7 +137,7 @@ module _ {A O : Type 0} (f : FeedGhosts A O) (feed : A) (p q : Pump) (sents : Li
       left = ap (λ (n : ℕ). feeds_in 0 (had.fed ++ telling upper ∷ []) ++ map RunFeed (drop n held)) at ∙ ap (λ (l : List Feed). l ++ map RunFeed (drop p.at held)) (tell_feeds had.fed upper p.upper had.told (other upper p.upper differ)) ∙ had.left ∙ nothing_more lists;
       told = tell_told had.fed upper p.upper had.told ∙ sym is_upper;
       all = λ is. absurd (not_true (said ∙ free.said) is);
-      fans = added_fans had.fed (telling upper ∷ []) free within said handed row had.fans;
+      fans = added_fans had.fed (telling upper ∷ []) free within said cursor row had.fans;
     };
     in_place = record { at = omega (arith, at, place.at); said = λ is. absurd (not_true (said ∙ free.said) is) };
     origin = refl;
@@ -146,9 +146,9 @@ module _ {A O : Type 0} (f : FeedGhosts A O) (feed : A) (p q : Pump) (sents : Li
   }
 
   -- the end was put into the row
-  pub pumps_end : InPlace held p → IsFree p → p.handed.given ≤ length p.row → length held ≤ p.at → p.over ≡ true → q.at ≡ p.at → q.over ≡ p.over → q.said ≡ true → q.upper ≡ p.upper → q.handed ≡ p.handed → q.row ≡ p.row ++ telling p.upper ∷ []
+  pub pumps_end : InPlace held p → IsFree p → p.cursor.given ≤ length p.row → length held ≤ p.at → p.over ≡ true → q.at ≡ p.at → q.over ≡ p.over → q.said ≡ true → q.upper ≡ p.upper → q.cursor ≡ p.cursor → q.row ≡ p.row ++ telling p.upper ∷ []
       → Pumps f feed feed p q sents sents
-  pumps_end place free within all is_over at over said upper handed row = record {
+  pumps_end place free within all is_over at over said upper cursor row = record {
     more = [];
     gave = same_gave;
     pumped = λ lists had.
@@ -158,10 +158,10 @@ module _ {A O : Type 0} (f : FeedGhosts A O) (feed : A) (p q : Pump) (sents : Li
           left = ap (λ (n : ℕ). feeds_in 0 had.fed ++ map RunFeed (drop n held)) at ∙ had.left ∙ nothing_more lists;
           told = had.told ∙ sym upper;
           all = λ is. gone held q.at (omega (arith, at, all));
-          fans = subst (λ (h : Handed). Fans sents q.row h (had.fed ++ end_if (telling q.upper) q.said)) (sym handed)
-              (subst (λ (u : ℕ). Fans sents q.row p.handed (had.fed ++ end_if (telling u) q.said)) (sym upper)
-              (subst (λ (b : Bool). Fans sents q.row p.handed (had.fed ++ end_if (telling p.upper) b)) (sym said)
-              (subst (λ (l : List Stretch). Fans sents l p.handed (had.fed ++ end)) (sym row)
+          fans = subst (λ (h : Cursor). Fans sents q.row h (had.fed ++ end_if (telling q.upper) q.said)) (sym cursor)
+              (subst (λ (u : ℕ). Fans sents q.row p.cursor (had.fed ++ end_if (telling u) q.said)) (sym upper)
+              (subst (λ (b : Bool). Fans sents q.row p.cursor (had.fed ++ end_if (telling p.upper) b)) (sym said)
+              (subst (λ (l : List Stretch). Fans sents l p.cursor (had.fed ++ end)) (sym row)
               (fans_append had.fans end (had.fed ++ end) within free.first (ap (λ (l : List Stretch). l ++ end) (sym (untold had.fed p.upper p.said free.said)))))));
         };
     in_place = record { at = omega (arith, at, place.at); said = λ is. over ∙ is_over };
@@ -172,8 +172,8 @@ module _ {A O : Type 0} (f : FeedGhosts A O) (feed : A) (p q : Pump) (sents : Li
 
   -- the feed was asked for more
   pub pumps_ask : (new : A) (more : Bool) → IsFree p → length held ≤ p.at → p.over ≡ false → TellsMore more (f.at_end new) (f.held new) → GivesRuns more (f.gave feed) (f.gave new) (f.held new) → f.origin new ≡ f.origin feed
-      → q.at ≡ 0 → q.over ≡ not more → q.said ≡ p.said → q.upper ≡ p.upper → q.handed ≡ p.handed → q.row ≡ p.row → Pumps f feed new p q sents sents
-  pumps_ask new more free all going tells gives origin at over said upper handed row = record {
+      → q.at ≡ 0 → q.over ≡ not more → q.said ≡ p.said → q.upper ≡ p.upper → q.cursor ≡ p.cursor → q.row ≡ p.row → Pumps f feed new p q sents sents
+  pumps_ask new more free all going tells gives origin at over said upper cursor row = record {
     more = given_now more (f.held new);
     gave = gives.gave;
     pumped = λ lists had. record {
@@ -184,10 +184,10 @@ module _ {A O : Type 0} (f : FeedGhosts A O) (feed : A) (p q : Pump) (sents : Li
           ∙ sym (map-append RunFeed (together lists) (f.held new)) ∙ ap (λ (l : List Run). map RunFeed (together lists ++ l)) (sym (given_is more (f.at_end new) (f.held new) tells)) ∙ ap (map RunFeed) (sym (together-append lists (given_now more (f.held new))));
       told = had.told ∙ sym upper;
       all = λ is. absurd (not_true (said ∙ free.said) is);
-      fans = subst (λ (h : Handed). Fans sents q.row h (had.fed ++ end_if (telling q.upper) q.said)) (sym handed)
-          (subst (λ (l : List Stretch). Fans sents l p.handed (had.fed ++ end_if (telling q.upper) q.said)) (sym row)
-          (subst (λ (u : ℕ). Fans sents p.row p.handed (had.fed ++ end_if (telling u) q.said)) (sym upper)
-          (subst (λ (b : Bool). Fans sents p.row p.handed (had.fed ++ end_if (telling p.upper) b)) (sym said) had.fans)));
+      fans = subst (λ (h : Cursor). Fans sents q.row h (had.fed ++ end_if (telling q.upper) q.said)) (sym cursor)
+          (subst (λ (l : List Stretch). Fans sents l p.cursor (had.fed ++ end_if (telling q.upper) q.said)) (sym row)
+          (subst (λ (u : ℕ). Fans sents p.row p.cursor (had.fed ++ end_if (telling u) q.said)) (sym upper)
+          (subst (λ (b : Bool). Fans sents p.row p.cursor (had.fed ++ end_if (telling p.upper) b)) (sym said) had.fans)));
     };
     in_place = record { at = omega (arith, at); said = λ is. absurd (not_true (said ∙ free.said) is) };
     origin = origin;
@@ -195,9 +195,32 @@ module _ {A O : Type 0} (f : FeedGhosts A O) (feed : A) (p q : Pump) (sents : Li
     at_end = λ still is. at_end_is more (f.at_end new) (f.held new) tells (sym over ∙ is);
   }
 
+  -- nothing was at hand
+  pub pumps_stay : (new : A) → IsFree p → length held ≤ p.at → p.over ≡ false → ((earlier : List (List Run)) → f.gave feed earlier → f.gave new earlier) → f.origin new ≡ f.origin feed → f.at_end new ≡ f.at_end feed
+      → q.at ≡ length (f.held new) → q.over ≡ p.over → q.said ≡ p.said → q.upper ≡ p.upper → q.cursor ≡ p.cursor → q.row ≡ p.row → Pumps f feed new p q sents sents
+  pumps_stay new free all going stays origin same_end at over said upper cursor row = record {
+    more = [];
+    gave = λ earlier had. subst (f.gave new) (sym (append-nil earlier)) (stays earlier had);
+    pumped = λ lists had. record {
+      fed = had.fed;
+      left =
+          ap (λ (l : List Run). feeds_in 0 had.fed ++ map RunFeed l) (gone (f.held new) q.at (omega (arith, at)) ∙ sym (gone held p.at all)) ∙ had.left ∙ nothing_more lists;
+      told = had.told ∙ sym upper;
+      all = λ is. absurd (not_true (said ∙ free.said) is);
+      fans = subst (λ (h : Cursor). Fans sents q.row h (had.fed ++ end_if (telling q.upper) q.said)) (sym cursor)
+          (subst (λ (l : List Stretch). Fans sents l p.cursor (had.fed ++ end_if (telling q.upper) q.said)) (sym row)
+          (subst (λ (u : ℕ). Fans sents p.row p.cursor (had.fed ++ end_if (telling u) q.said)) (sym upper)
+          (subst (λ (b : Bool). Fans sents p.row p.cursor (had.fed ++ end_if (telling p.upper) b)) (sym said) had.fans)));
+    };
+    in_place = record { at = omega (arith, at); said = λ is. absurd (not_true (said ∙ free.said) is) };
+    origin = origin;
+    over = λ is. absurd (not_true going is);
+    at_end = λ still is. absurd (not_true still (sym over ∙ is));
+  }
+
   -- nothing was done
   pub pumps_none : InPlace held p → q ≡ p → Pumps f feed feed p q sents sents
-  pumps_none place same = pumps_hand sents place (ap (λ (x : Pump). x.at) same) (ap (λ (x : Pump). x.over) same) (ap (λ (x : Pump). x.said) same) (ap (λ (x : Pump). x.upper) same) (λ all fans. subst (λ (x : Pump). Fans sents x.row x.handed all) (sym same) fans)
+  pumps_none place same = pumps_hand sents place (ap (λ (x : Pump). x.at) same) (ap (λ (x : Pump). x.over) same) (ap (λ (x : Pump). x.said) same) (ap (λ (x : Pump). x.upper) same) (λ all fans. subst (λ (x : Pump). Fans sents x.row x.cursor all) (sym same) fans)
 
 -- it has ended, where no more is asked for
 ended_then : (o1 o2 e1 e2 : Bool) → (o1 ≡ true → e1 ≡ true) → (o1 ≡ true → (o2 ≡ true) × (e2 ≡ e1)) → (o1 ≡ false → o2 ≡ true → e2 ≡ true) → o2 ≡ true → e2 ≡ true
@@ -213,15 +236,15 @@ pumps_both f {a} {b} {c} {p} {q} {r} {s2 = s2} x y = record {
   in_place = y.in_place;
   origin = y.origin ∙ x.origin;
   over = λ is. let o = x.over is in let n = y.over o.0 in (n.0, n.1 ∙ o.1);
-  at_end = λ still. ended_then q.over r.over (f.at_end b) (f.at_end c) (x.at_end still) y.over y.at_end;
+  at_end = λ still. ended_then q.over r.over (f.at_end b) (f.at_end c) (x.at_end still) (λ is. let n = y.over is in (n.0, ap f.at_end n.1)) y.at_end;
 }
 
 pub pumps_then : {A O : Type 0} (f : FeedGhosts A O) {a b c : A} {p q r : Pump} {s0 s1 s2 : List (List Stretch)} → PumpsOn f a b p q s0 s1 → PumpsOn f b c q r s1 s2 → PumpsOn f a c p r s0 s2
 pumps_then f x y place = let first = x place in pumps_both f first (y first.in_place)
 
 -- a pump that is over has told the end, and handed out all of its row
-pub sent_all : (pump : Pump) → is_sent pump ≡ true → (pump.said ≡ true) × (pump.row ≡ []) × (pump.handed.child ≡ 0)
-sent_all pump is = by pump.said (nat_eq (length pump.row) 0) (nat_eq pump.handed.child 0) refl refl refl is
+pub sent_all : (pump : Pump) → is_sent pump ≡ true → (pump.said ≡ true) × (pump.row ≡ []) × (pump.cursor.child ≡ 0)
+sent_all pump is = by pump.said (nat_eq (length pump.row) 0) (nat_eq pump.cursor.child 0) refl refl refl is
   where
     none : (l : List Stretch) → nat_eq (length l) 0 ≡ true → l ≡ []
     none [] e = refl
@@ -233,8 +256,8 @@ sent_all pump is = by pump.said (nat_eq (length pump.row) 0) (nat_eq pump.handed
     zero_is : (n : ℕ) → nat_eq n 0 ≡ true → n ≡ 0
     zero_is n e = let same : n ≡ 0 = grind (arith, nat_tests, e) in same
 
-    by : (a b c : Bool) → a ≡ pump.said → b ≡ nat_eq (length pump.row) 0 → c ≡ nat_eq pump.handed.child 0 → (a && b && c) ≡ true → (pump.said ≡ true) × (pump.row ≡ []) × (pump.handed.child ≡ 0)
-    by true true true x y z all = (sym x, none pump.row (sym y), zero_is pump.handed.child (sym z))
+    by : (a b c : Bool) → a ≡ pump.said → b ≡ nat_eq (length pump.row) 0 → c ≡ nat_eq pump.cursor.child 0 → (a && b && c) ≡ true → (pump.said ≡ true) × (pump.row ≡ []) × (pump.cursor.child ≡ 0)
+    by true true true x y z all = (sym x, none pump.row (sym y), zero_is pump.cursor.child (sym z))
     by true true false x y z all = absurd (not_true refl all)
     by true false true x y z all = absurd (not_true refl all)
     by true false false x y z all = absurd (not_true refl all)

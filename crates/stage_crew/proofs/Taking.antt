@@ -6,7 +6,7 @@ use Rattle.la_io.specs.declared.feeds.MarkTake.{Ghosts as TakeGhosts}
 use Rattle.decoder_core.specs.declared.end.RunEnd.{RunEnd}
 use Rattle.decoder_core.specs.declared.end.RunEnd.TheVariants.{Ended, Stopped}
 use Rattle.tree_runs.specs.Runs.{is_ended}
-use Rattle.stage_crew.specs.Gathering.{Pauses, TakesOn, TakesOne, TakesUntil}
+use Rattle.stage_crew.specs.Gathering.{TakesOn, TakesOne, TakesUntil}
 use Rattle.stage_crew.proofs.Common.{not_before, not_true}
 
 -- a count rose where it was stopped, now or before
@@ -25,17 +25,6 @@ module _ {A O : Type 0} (g : TakeGhosts A O) where
     still = λ is. refl;
     rose = λ is other. absurd (not_true is other);
     going = λ h. h;
-  }
-
-  pub takes_paused : {old new : A} (stopped : Bool) → Pauses g old new → TakesUntil g stopped stopped old new
-  takes_paused stopped p = record {
-    instances = p.instances;
-    origin = p.origin;
-    stays = λ is. is;
-    quiet = λ is. p.stops;
-    still = λ is. p.stops;
-    rose = λ is other. absurd (not_true is other);
-    going = p.going (not stopped);
   }
 
   -- one was

@@ -32,15 +32,8 @@ module _ {A O : Type 0} (g : TakeGhosts A O) where
   abbrev pub TakesOne : {R E : Type 0} → A → A → Result R E → Type 0
   TakesOne old new result = GoesOn g.instances g.origin g.stops g.going old new result
 
-  -- what takes the marks was told of a pause, or not
-  pub record Pauses (old new : A) : Type 0 where
-    pub took : (marks : ℕ → List Mark) → g.took old marks → g.took new marks
-    pub instances : g.instances new ≡ g.instances old
-    pub origin : g.origin new ≡ g.origin old
-    pub stops : g.stops new ≡ g.stops old
-    pub going : (still : Bool) → g.going old still → g.going new still
-
-  -- marks were taken until it stopped, and none behind that; each flag tells whether it has
+  -- marks were taken, and it was told of pauses, until it stopped, and nothing after that; each flag
+  -- tells whether it has
   pub record TakesUntil (stopped_old stopped_new : Bool) (old new : A) : Type 0 where
     pub instances : g.instances new ≡ g.instances old
     pub origin : g.origin new ≡ g.origin old

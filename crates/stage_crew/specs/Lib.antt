@@ -7,3 +7,4 @@ pub mod Pumping
 pub mod Gathering
 pub mod Keeping
 pub mod Reading
+pub mod Listening

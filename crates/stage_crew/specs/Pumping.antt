@@ -23,7 +23,7 @@ pub record Pumped (lists : List (List Run)) (held : List Run) (pump : Pump)
   pub left : feeds_in 0 fed ++ map RunFeed (drop pump.at held) ≡ map RunFeed (together lists)
   pub told : told_behind 0 fed ≡ pump.upper
   pub all : pump.said ≡ true → drop pump.at held ≡ []
-  pub fans : Fans sents pump.row pump.handed (fed ++ end_if (telling pump.upper) pump.said)
+  pub fans : Fans sents pump.row pump.cursor (fed ++ end_if (telling pump.upper) pump.said)
 
 -- the place is one of these runs; and the end is told once no more runs are asked for
 pub record InPlace (held : List Run) (pump : Pump) : Type 0 where
@@ -32,13 +32,13 @@ pub record InPlace (held : List Run) (pump : Pump) : Type 0 where
 
 -- whether the end was sent to each root
 abbrev pub is_sent : Pump → Bool
-is_sent pump = pump.said && nat_eq (length pump.row) 0 && nat_eq pump.handed.child 0
+is_sent pump = pump.said && nat_eq (length pump.row) 0 && nat_eq pump.cursor.child 0
 
 -- all of the row was handed out, and the end wasn't put there yet
 pub record IsFree (pump : Pump) : Type 0 where
   pub said : pump.said ≡ false
   pub none : pump.row ≡ []
-  pub first : pump.handed.child ≡ 0
+  pub first : pump.cursor.child ≡ 0
 
 module _ {A O : Type 0} (f : FeedGhosts A O) where
   -- more runs were asked of the feed, put into the row or handed out; once no more are asked for,
@@ -51,7 +51,7 @@ module _ {A O : Type 0} (f : FeedGhosts A O) where
         → Pumped (lists ++ more) (f.held new) pump_new sents_new
     pub in_place : InPlace (f.held new) pump_new
     pub origin : f.origin new ≡ f.origin old
-    pub over : pump_old.over ≡ true → (pump_new.over ≡ true) × (f.at_end new ≡ f.at_end old)
+    pub over : pump_old.over ≡ true → (pump_new.over ≡ true) × (new ≡ old)
     pub at_end : pump_old.over ≡ false → pump_new.over ≡ true → f.at_end new ≡ true
 
   -- the same of a pump that is in place

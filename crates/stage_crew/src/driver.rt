@@ -3,97 +3,133 @@ ghost use Rattle.std.specs.Prelude.{◌≡◌, ◌≤◌, [], List, ℕ, Some, f
 ghost use Rattle.la_base.specs.declared.wires.Mark.{Mark as MarkIs};
 ghost use Rattle.stage_ring.specs.Link.{received, rx_link, sent, tx_link};
 ghost use Rattle.stage_crew.specs.Crew.{Each};
-ghost use Rattle.stage_crew.specs.Gathering.{Pauses};
+ghost use Rattle.stage_crew.specs.Gathering.{Gathers};
 ghost use Rattle.stage_crew.specs.Keeping.{Collects};
 
-use crate::gate::Gate;
+use crate::MOST_STAGES;
+use crate::counts::GatheredCounts;
 use crate::gatherer::Gatherer;
+use crate::idle::IdlePolicy;
 use crate::marks::finish;
-use crate::patience::Patience;
-use crate::sign::{Board, Watch};
+use crate::pacer::Pacer;
+use crate::status::{ANY, CrewStatus, DRIVER, READER};
 use crate::turns::{Turns, turns_go_on};
+use crate::worker::notify_touched;
 use decoder_core::RunEnd;
 use la_base::Mark;
-use la_io::MarkTake;
+use la_io::{MarkTake, Stopped};
 use stage_ring::{Rx, Tx};
 use stage_run::Turn;
 use std::sync::Wait;
 
-// How many acts a turn has that the driver runs itself.
-const BUDGET: u32 = 64;
-
 // A turn of what isn't over. Answers whether it moved.
-fn turn_one<S: Turns>(stage: &mut S) -> bool
+fn turn_one<S: Turns>(stage: &mut S, budget: u32) -> bool
+    requires some { 1 ≤ budget }
     ensures { S.goes_on stage.old stage.new }
 {
     turns_go_on::<S>();
     if stage.is_over() {
         return false;
     }
-    match stage.turn(BUDGET) {
+    match stage.turn(budget) {
         Turn::Moved => true,
         Turn::Idle => false,
         Turn::Ended => true,
     }
 }
 
-// A turn of each that the driver runs itself. Answers whether any moved.
-fn turn_own<S: Turns>(own: &mut Vec<S>) -> bool
+// A turn of each that the driver runs itself; `numbers` are their places, that of the reader after
+// all stages. Whoever may go on by a turn is notified. Answers whether any moved.
+fn turn_own<S: Turns, P: Pacer>(
+    own: &mut Vec<S>,
+    numbers: &[u32; MOST_STAGES],
+    turn: u64,
+    crew: &CrewStatus,
+    pacer: &P,
+) -> bool
     ensures own { Each S.goes_on own.old.items own.new.items }
     ensures len { vec_len own.new ≡ vec_len own.old }
 {
     let mut moved = false;
-    for number in 0..own.len() {
-        if turn_one(&mut own[number]) {
+    for place in 0..own.len() {
+        let number = numbers[place.min(MOST_STAGES - 1)];
+        if turn_one(&mut own[place], pacer.turn(number, turn).max(1)) {
             moved = true;
         }
+        notify_touched(crew, crew.status(number as usize), &own[place]);
     }
     moved
 }
 
-// Begins anew where something moved, and else waits a little.
-fn rest<R: Wait>(rt: &R, patience: &Patience, moved: bool) {
-    if moved {
-        patience.reset();
-    } else {
-        patience.wait(rt);
-    }
-}
-
-// Tells the reader that no more is wanted, once it was stopped. It hears of that once.
-fn tell_stop(stop: &mut Tx<bool>, stopped: bool)
+// Tells the reader that no more is wanted, once it was stopped, and never again.
+fn tell_stop(stop: &mut Tx<bool>, stopped: bool, told: &mut bool, crew: &CrewStatus)
     ensures link { tx_link stop.new ≡ tx_link stop.old }
     ensures untold { stopped ≡ false → sent stop.new ≡ sent stop.old }
 {
-    if stopped {
+    if stopped && !*told {
+        *told = true;
         let _ = stop.offer(true);
+        crew.notify(READER, DRIVER);
     }
 }
 
-// Once nothing is on its way any more, what takes the marks is told of the pause, and the reader may
-// wait for its feed.
-fn let_read<G: MarkTake>(take: &mut G, watch: &mut Watch, gate: &Gate)
-    ensures { Pauses G.MarkTake take.old take.new }
+// Where nothing is on its way any more, what takes the marks is told of the pause, and the reader may
+// wait for its feed then, if it doesn't yet. It may not where that stopped it.
+fn let_read<G: MarkTake>(take: &mut G, state: &mut Gatherer, crew: &CrewStatus, quiet: bool)
+    ensures { (gathered : List (List MarkIs))
+        → Gathers G.MarkTake take.old take.new state.old state.new gathered gathered }
 {
-    if watch.is_quiet() {
-        take.pause();
-        watch.begin();
-        gate.open();
+    if state.stopped || !quiet {
+        return;
+    }
+    match take.pause() {
+        Ok(()) => {
+            crew.permit.grant();
+            crew.notify(READER, DRIVER);
+        }
+        Err(Stopped) => state.stopped = true,
+    }
+}
+
+// Starts again where something moved; else it spins, or notifies those whose marks it gathered, looks
+// once more, and sleeps.
+fn rest<R: Wait>(
+    rt: &R,
+    counts: &mut GatheredCounts,
+    policy: &IdlePolicy,
+    crew: &CrewStatus,
+    moved: bool,
+) {
+    let status = &crew.driver;
+    if moved {
+        policy.moved(status);
+        counts.notify(crew, (crew.room / 4).max(1));
+        return;
+    }
+    if policy.spin(status) {
+        return;
+    }
+    counts.notify(crew, 1);
+    if policy.prepare(status, ANY) {
+        return;
+    }
+    if policy.commit(status) {
+        policy.park(rt, status);
     }
 }
 
 /// Gathers the marks until the end of each instance has come, and then has these ends taken, unless
 /// it was stopped; and takes turns of the reader and of the stages for which there is no thread.
-pub(crate) fn drive<R: Wait, D: Turns, S: Turns, G: MarkTake>(
+pub(crate) fn drive<R: Wait, D: Turns, S: Turns, P: Pacer, G: MarkTake>(
     rt: &R,
     take: &mut G,
     marks: &mut Vec<Rx<Mark>>,
     stop: &mut Tx<bool>,
     readers: &mut Vec<D>,
     own: &mut Vec<S>,
-    board: &Board,
+    crew: &CrewStatus,
+    pacer: &P,
 ) -> RunEnd
-    requires few { vec_len board.now.signs ≤ 24 }
     requires marks { (vec_len marks.old ≡ G.instances take.old) × (vec_len marks.old ≤ 24) }
     requires fresh { (k : ℕ) (m : List MarkIs)
         → slice_get (map received marks.old.items) k ≡ Some m → m ≡ [] }
@@ -111,21 +147,25 @@ pub(crate) fn drive<R: Wait, D: Turns, S: Turns, G: MarkTake>(
     turns_go_on::<D>();
     turns_go_on::<S>();
     let mut state = Gatherer::new();
-    let mut watch = Watch::new();
-    let patience = Patience::new(board.reader.naps());
+    let mut counts = GatheredCounts::new();
+    let refused = crew.refused();
+    let reader = [MOST_STAGES as u32; MOST_STAGES];
+    let policy = IdlePolicy::new();
+    let mut told = false;
+    let mut turn: u64 = 0;
     for _ in rt.forever() {
-        let read = turn_own(readers);
-        watch.look(board);
-        let gathered = state.gather_all(take, marks);
-        let turned = turn_own(own);
-        tell_stop(stop, state.stopped);
+        let quiet = !state.stopped && policy.is_waiting() && crew.is_quiet();
+        let read = turn_own(readers, &reader, turn, crew, &crew.plain);
+        let gathered = state.gather_all(take, marks, &mut counts);
+        let turned = turn_own(own, &refused, turn, crew, pacer);
+        turn = turn.wrapping_add(1);
+        let moved = read || gathered || turned;
+        let_read(take, &mut state, crew, quiet && !moved);
+        tell_stop(stop, state.stopped, &mut told, crew);
         if state.all_over(marks.len()) {
             return finish(marks.len() as u32, take, state.stopped);
         }
-        let moved = read || gathered || turned;
-        watch.go_on(board, moved);
-        let_read(take, &mut watch, &board.gate);
-        rest(rt, &patience, moved);
+        rest(rt, &mut counts, &policy, crew, moved || quiet);
     }
     unreachable!()
 }

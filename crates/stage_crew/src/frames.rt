@@ -8,7 +8,7 @@ ghost use Rattle.stage_crew.specs.Keeping.{Collects};
 
 use crate::driver::drive;
 use crate::pacer::Pacer;
-use crate::sign::{Board, Sign};
+use crate::status::{CrewStatus, WorkerStatus};
 use crate::turns::{Turns, turns_go_on};
 use crate::worker::{Back, run_out, work};
 use decoder_core::RunEnd;
@@ -25,7 +25,8 @@ fn start<'s, E, R: Wait + Sync, S: Turns + Send + Drop + 's, P: Pacer + Sync>(
     rt: &'s R,
     stage: S,
     number: u32,
-    sign: &'s Sign,
+    status: &'s WorkerStatus,
+    crew: &'s CrewStatus,
     pacer: &'s P,
 ) -> Result<PromisedHandle<S, Back<S>>, S>
     ensures started { IfOk result (λ child. child.promise.was.value ≡ stage) }
@@ -33,11 +34,11 @@ fn start<'s, E, R: Wait + Sync, S: Turns + Send + Drop + 's, P: Pacer + Sync>(
 {
     let was = Snapshot::of(&stage);
     match scope.spawn_with(Back { was }, move || {
-        work(rt, stage, number, sign, pacer)
+        work(rt, stage, number, status, crew, pacer)
     }) {
         Ok(child) => Ok(child),
         Err(spawn) => {
-            sign.leave();
+            status.refuse();
             Err((spawn.value)())
         }
     }
@@ -63,13 +64,14 @@ pub(crate) fn frame<
     readers: &mut Vec<D>,
     marks: &mut Vec<Rx<Mark>>,
     stop: &mut Tx<bool>,
-    board: &'s Board,
+    crew: &'s CrewStatus,
     pacer: &'s P,
     take: &mut G,
 ) -> RunEnd
     requires room { (vec_len done.old + vec_len todo ≤ vec_capacity done.old)
         × (vec_len own.old + vec_len todo ≤ vec_capacity own.old) }
-    requires few { (vec_len todo ≤ vec_len board.now.signs) × (vec_len board.now.signs ≤ 24) }
+    requires few { (vec_len todo ≤ vec_len crew.now.workers)
+        × (vec_len crew.now.workers ≤ 24) }
     requires marks { (vec_len marks.old ≡ G.instances take.old) × (vec_len marks.old ≤ 24) }
     requires fresh { (k : ℕ) (m : List MarkIs)
         → slice_get (map received marks.old.items) k ≡ Some m → m ≡ [] }
@@ -89,22 +91,22 @@ pub(crate) fn frame<
 {
     let mut todo = todo;
     let Some(stage) = todo.pop() else {
-        return drive(rt, take, marks, stop, readers, own, board);
+        return drive(rt, take, marks, stop, readers, own, crew, pacer);
     };
     turns_go_on::<S>();
     let number = todo.len() as u32;
-    let sign = &board.signs[todo.len()];
-    let (back, end) = match start(scope, rt, stage, number, sign, pacer) {
+    let status = &crew.workers[todo.len()];
+    let (back, end) = match start(scope, rt, stage, number, status, crew, pacer) {
         Ok(child) => {
             let end = frame(
-                scope, rt, todo, done, own, readers, marks, stop, board, pacer, take,
+                scope, rt, todo, done, own, readers, marks, stop, crew, pacer, take,
             );
             (child.join(rt), end)
         }
         Err(stage) => {
             own.push_reserved(stage);
             let end = frame(
-                scope, rt, todo, done, own, readers, marks, stop, board, pacer, take,
+                scope, rt, todo, done, own, readers, marks, stop, crew, pacer, take,
             );
             let Some(stage) = own.pop() else {
                 unreachable!();
@@ -112,7 +114,7 @@ pub(crate) fn frame<
             (stage, end)
         }
     };
-    done.push_reserved(run_out(rt, back, number, sign, pacer));
+    done.push_reserved(run_out(rt, back, number, status, crew, pacer));
     end
 }
 
@@ -137,7 +139,7 @@ pub(crate) fn lead<
     own: &mut Vec<S>,
     marks: &mut Vec<Rx<Mark>>,
     stop: &mut Tx<bool>,
-    board: &'s Board,
+    crew: &'s CrewStatus,
     pacer: &'s P,
     take: &mut G,
 ) -> (D, RunEnd)
@@ -145,7 +147,8 @@ pub(crate) fn lead<
         × (vec_len readers.old ≡ 0) }
     requires room { (vec_len done.old + vec_len todo ≤ vec_capacity done.old)
         × (vec_len own.old + vec_len todo ≤ vec_capacity own.old) }
-    requires few { (vec_len todo ≤ vec_len board.now.signs) × (vec_len board.now.signs ≤ 24) }
+    requires few { (vec_len todo ≤ vec_len crew.now.workers)
+        × (vec_len crew.now.workers ≤ 24) }
     requires marks { (vec_len marks.old ≡ G.instances take.old) × (vec_len marks.old ≤ 24) }
     requires fresh { (k : ℕ) (m : List MarkIs)
         → slice_get (map received marks.old.items) k ≡ Some m → m ≡ [] }
@@ -159,19 +162,19 @@ pub(crate) fn lead<
         × Each (Ends S.goes_on S.over) todo.items made }
 {
     turns_go_on::<D>();
-    let sign = &board.reader;
-    let plain = &board.plain;
-    let (back, end) = match start(scope, rt, reader, 0, sign, plain) {
+    let status = &crew.reader;
+    let plain = &crew.plain;
+    let (back, end) = match start(scope, rt, reader, 0, status, crew, plain) {
         Ok(child) => {
             let end = frame(
-                scope, rt, todo, done, own, readers, marks, stop, board, pacer, take,
+                scope, rt, todo, done, own, readers, marks, stop, crew, pacer, take,
             );
             (child.join(rt), end)
         }
         Err(reader) => {
             readers.push_reserved(reader);
             let end = frame(
-                scope, rt, todo, done, own, readers, marks, stop, board, pacer, take,
+                scope, rt, todo, done, own, readers, marks, stop, crew, pacer, take,
             );
             let Some(reader) = readers.pop() else {
                 unreachable!();
@@ -179,5 +182,5 @@ pub(crate) fn lead<
             (reader, end)
         }
     };
-    (run_out(rt, back, 0, sign, plain), end)
+    (run_out(rt, back, 0, status, crew, plain), end)
 }

@@ -2,6 +2,8 @@
 ghost use Rattle.std.specs.Prelude.{◌≡◌, ◌≤◌, ◌<◌, ℕ, Some, map, slice_get, true, vec_len};
 ghost use Rattle.stage_ring.specs.Link.{received, rx_link};
 
+use crate::MOST_STAGES;
+use crate::counts::GatheredCounts;
 use crate::marks::{ends, take_marks};
 use la_base::Mark;
 use la_io::MarkTake;
@@ -16,10 +18,10 @@ const ROWS: u32 = 64;
 /// more marks are wanted.
 #[derive(Drop)]
 pub(crate) struct Gatherer {
-    pub(crate) over: [bool; 24],
+    pub(crate) over: [bool; MOST_STAGES],
     pub(crate) stopped: bool,
     // Where the last mark of each instance stands; behind all once its end was gathered.
-    places: [u64; 24],
+    places: [u64; MOST_STAGES],
     room: [Mark; ROOM],
 }
 
@@ -43,9 +45,9 @@ impl Gatherer {
         ensures going { result.stopped ≡ false }
     {
         Gatherer {
-            over: [false; 24],
+            over: [false; MOST_STAGES],
             stopped: false,
-            places: [0; 24],
+            places: [0; MOST_STAGES],
             room: [Mark::End; ROOM],
         }
     }
@@ -55,6 +57,7 @@ impl Gatherer {
         &mut self,
         take: &mut G,
         marks: &mut Vec<Rx<Mark>>,
+        counts: &mut GatheredCounts,
         number: usize,
     ) -> bool
         requires within { number < vec_len marks.old }
@@ -74,6 +77,7 @@ impl Gatherer {
         self.stopped = stopped;
         self.over[number] = over;
         self.places[number] = place_behind(came, self.places[number]);
+        counts.add(number, count);
         count > 0
     }
 
@@ -93,7 +97,12 @@ impl Gatherer {
 
     // Gathers marks of the instance that is the furthest behind, again and again, as long as there
     // are any. So few notes wait for those of others. Answers whether there were any.
-    fn gather_hindmost<G: MarkTake>(&mut self, take: &mut G, marks: &mut Vec<Rx<Mark>>) -> bool
+    fn gather_hindmost<G: MarkTake>(
+        &mut self,
+        take: &mut G,
+        marks: &mut Vec<Rx<Mark>>,
+        counts: &mut GatheredCounts,
+    ) -> bool
         requires marks { (vec_len marks.old ≡ G.instances take.old) × (vec_len marks.old ≤ 24) }
         ensures len { vec_len marks.new ≡ vec_len marks.old }
         ensures links { map rx_link marks.new.items ≡ map rx_link marks.old.items }
@@ -107,7 +116,7 @@ impl Gatherer {
         let mut moved = false;
         for _ in 0..ROWS {
             let number = self.hindmost(count);
-            if !self.gather(take, marks, number) {
+            if !self.gather(take, marks, counts, number) {
                 return moved;
             }
             moved = true;
@@ -116,7 +125,12 @@ impl Gatherer {
     }
 
     // Gathers marks of all instances. Answers whether there were any.
-    fn gather_each<G: MarkTake>(&mut self, take: &mut G, marks: &mut Vec<Rx<Mark>>) -> bool
+    fn gather_each<G: MarkTake>(
+        &mut self,
+        take: &mut G,
+        marks: &mut Vec<Rx<Mark>>,
+        counts: &mut GatheredCounts,
+    ) -> bool
         requires marks { (vec_len marks.old ≡ G.instances take.old) × (vec_len marks.old ≤ 24) }
         ensures len { vec_len marks.new ≡ vec_len marks.old }
         ensures links { map rx_link marks.new.items ≡ map rx_link marks.old.items }
@@ -125,7 +139,7 @@ impl Gatherer {
     {
         let mut moved = false;
         for number in 0..marks.len() {
-            if self.gather(take, marks, number) {
+            if self.gather(take, marks, counts, number) {
                 moved = true;
             }
         }
@@ -134,10 +148,12 @@ impl Gatherer {
 
     /// Gathers marks: of the instance that is the furthest behind, as long as it has any, and else
     /// of all. Answers whether there were any. Once it was stopped, they are gathered and let go.
+    /// `counts` is told how many there were.
     pub(crate) fn gather_all<G: MarkTake>(
         &mut self,
         take: &mut G,
         marks: &mut Vec<Rx<Mark>>,
+        counts: &mut GatheredCounts,
     ) -> bool
         requires marks { (vec_len marks.old ≡ G.instances take.old) × (vec_len marks.old ≤ 24) }
         ensures len { vec_len marks.new ≡ vec_len marks.old }
@@ -145,10 +161,10 @@ impl Gatherer {
         ensures gathers { Gathers G.MarkTake take.old take.new self.old self.new
             (map received marks.old.items) (map received marks.new.items) }
     {
-        if self.gather_hindmost(take, marks) {
+        if self.gather_hindmost(take, marks, counts) {
             return true;
         }
-        self.gather_each(take, marks)
+        self.gather_each(take, marks, counts)
     }
 
     /// Whether the end of each instance before `count` was gathered.

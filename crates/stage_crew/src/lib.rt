@@ -2,22 +2,27 @@
 //! the marks.
 #![tactic(auto)]
 
+mod counts;
 mod driver;
 mod fan;
 mod frames;
-mod gate;
 mod gatherer;
+mod idle;
 mod marks;
 mod pacer;
-mod patience;
+mod permit;
 mod pump;
 mod reader;
 mod row;
 mod scope;
-mod sign;
 mod staged;
+mod status;
 mod turns;
+mod wait_slot;
 mod worker;
+
+/// The most stages of a run.
+pub const MOST_STAGES: usize = 24;
 
 pub use pacer::{Pacer, PlainPacer};
 pub use scope::{Ran, run_crew};

@@ -4,11 +4,11 @@ ghost use Rattle.stage_ring.specs.Link.{sent};
 ghost use Rattle.stage_run.specs.declared.input.Stretch.{Stretch as StretchIs};
 
 use crate::Turns;
-use crate::gate::Gate;
 use crate::pump::Pump;
+use crate::status::CrewStatus;
 use la_io::RunFeed;
 use stage_ring::{Rx, Tx};
-use stage_run::{Stretch, Turn};
+use stage_run::{Peer, Peers, Stretch, Turn};
 
 /// Reads a feed, and sends its runs and then the end to each root, turn by turn: in a thread of its
 /// own, or in the driver's where none can be started. Once it hears that no more is wanted, it sends
@@ -22,18 +22,20 @@ pub(crate) struct Reader<'a, 'b, F> {
     pub(crate) pump: Pump,
     // it has heard that
     pub(crate) told: bool,
-    gate: &'b Gate,
+    crew: &'b CrewStatus,
 }
 
 impl<'a, 'b, F: RunFeed> Reader<'a, 'b, F> {
-    ghost use Rattle.stage_crew.specs.Reading.{Fed, ReadsOn};
+    ghost use Rattle.stage_ring.specs.Link.{rx_misses};
+    ghost use Rattle.stage_run.specs.Acts.{More};
+    ghost use Rattle.stage_crew.specs.Reading.{Fed, Reads, ReadsOn};
 
     /// Nothing was read yet.
     pub(crate) fn new(
         feed: &'a mut F,
         feeds: Vec<Tx<Stretch>>,
         stop: Rx<bool>,
-        gate: &'b Gate,
+        crew: &'b CrewStatus,
     ) -> Reader<'a, 'b, F>
         requires fresh { (k : ℕ) (s : List StretchIs)
             → slice_get (map sent feeds.items) k ≡ Some s → s ≡ [] }
@@ -49,13 +51,16 @@ impl<'a, 'b, F: RunFeed> Reader<'a, 'b, F> {
             stop,
             pump,
             told: false,
-            gate,
+            crew,
         }
     }
 
     // Hears whether no more is wanted.
     fn listen(&mut self)
-        ensures { ReadsOn F.RunFeed self.old self.new }
+        ensures reads { ReadsOn F.RunFeed self.old self.new }
+        ensures feed { self.new.feed.now ≡ self.old.feed.now }
+        ensures looked { self.new.told ≡ false
+            → More (rx_misses self.old.stop) (rx_misses self.new.stop) }
     {
         if self.stop.take().is_some() {
             self.told = true;
@@ -65,10 +70,10 @@ impl<'a, 'b, F: RunFeed> Reader<'a, 'b, F> {
 
     // Reads and sends, in so many steps. Answers whether it did.
     fn read(&mut self, steps: u32) -> bool
-        ensures { ReadsOn F.RunFeed self.old self.new }
+        ensures { Reads F.RunFeed self.old self.new }
     {
         self.pump
-            .go_on(self.feed, &mut self.feeds, self.gate, steps)
+            .go_on(self.feed, &mut self.feeds, self.crew, steps)
     }
 }
 
@@ -91,6 +96,14 @@ impl<F: RunFeed> Turns for Reader<'_, '_, F> {
             return Turn::Ended;
         }
         if moved { Turn::Moved } else { Turn::Idle }
+    }
+
+    fn touched(&self) -> Peers {
+        self.pump.touched()
+    }
+
+    fn waits_for(&self) -> Peer {
+        self.pump.waits_for()
     }
 
     ghost still = { reads_still };

@@ -62,27 +62,27 @@ impl SendRow {
     }
 
     /// Puts in the stretches of the first of these runs, as many as there is room for and have such
-    /// an upper half of their lines, and answers how many.
-    pub(crate) fn fill(&mut self, upper: u64, runs: &[Run]) -> usize
+    /// an upper half of their lines, but at most so many; and answers how many.
+    pub(crate) fn fill(&mut self, upper: u64, runs: &[Run], most: usize) -> usize
         requires { self.old ≡ [] }
         ensures within { result ≤ length runs.now }
         ensures row { self.new ≡ map stretch_of (take result runs.now) }
         ensures upper { All (λ run. upper_of run ≡ upper) (take result runs.now) }
     {
-        self.count = first_stretches(&mut self.room, upper, runs);
+        self.count = first_stretches(&mut self.room, upper, runs, most);
         self.count
     }
 }
 
 // The stretches of the first of these runs, as many as there is room for and have such an upper half
-// of their lines, at the front of room for them; the answer is how many.
-fn first_stretches(room: &mut [Stretch; ROOM], upper: u64, runs: &[Run]) -> usize
+// of their lines, but at most so many, at the start of room for them; the answer is how many.
+fn first_stretches(room: &mut [Stretch; ROOM], upper: u64, runs: &[Run], most: usize) -> usize
     ensures within { (result ≤ length runs.now) × (result ≤ 128) }
     ensures len { length room.new ≡ 128 }
     ensures row { take result room.new ≡ map stretch_of (take result runs.now) }
     ensures upper { All (λ run. upper_of run ≡ upper) (take result runs.now) }
 {
-    let count = runs.len().min(ROOM);
+    let count = runs.len().min(ROOM).min(most);
     for place in 0..count {
         let run = runs[place];
         if high_half(run.value) != upper {

@@ -12,11 +12,11 @@ ghost use Rattle.stage_crew.specs.Gathering.{TakesOn};
 ghost use Rattle.stage_crew.specs.Keeping.{Collects};
 
 use crate::frames::lead;
-use crate::gate::Gate;
-use crate::patience::Naps;
+use crate::idle::spins_for;
+use crate::permit::ReadPermit;
 use crate::reader::Reader;
-use crate::sign::{Board, Sign};
-use crate::{Pacer, PlainPacer, Turns};
+use crate::status::{CrewStatus, DRIVER, READER, WorkerStatus};
+use crate::{MOST_STAGES, Pacer, PlainPacer, Turns};
 use decoder_core::RunEnd;
 use la_base::{Mark, NoMemory};
 use la_io::{MarkTake, RunFeed};
@@ -28,7 +28,7 @@ use std::thread;
 use std::thread::Threads;
 
 // What was lent to the frames, and what they give back.
-struct Led<'a, D, S, G> {
+struct FrameResult<'a, D, S, G> {
     take: &'a mut G,
     reader: D,
     done: Vec<S>,
@@ -54,14 +54,14 @@ fn within_scope<
     own: Vec<S>,
     marks: Vec<Rx<Mark>>,
     stop: Tx<bool>,
-    board: &Board,
+    crew: &CrewStatus,
     pacer: &P,
     take: &'a mut G,
-) -> Led<'a, D, S, G>
+) -> FrameResult<'a, D, S, G>
     requires reader { (vec_len readers < vec_capacity readers) × (vec_len readers ≡ 0) }
     requires room { (vec_len stages ≤ vec_capacity done) × (vec_len stages ≤ vec_capacity own)
         × (done.items ≡ []) × (own.items ≡ []) }
-    requires few { (vec_len stages ≤ vec_len board.now.signs) × (vec_len board.now.signs ≤ 24) }
+    requires few { (vec_len stages ≤ vec_len crew.now.workers) × (vec_len crew.now.workers ≤ 24) }
     requires marks { (vec_len marks ≡ G.instances take.old) × (vec_len marks ≤ 24) }
     requires fresh { (k : ℕ) (m : List MarkIs)
         → slice_get (map received marks.items) k ≡ Some m → m ≡ [] }
@@ -77,12 +77,12 @@ fn within_scope<
     thread::scope(
         thread::scope_env(),
         rt,
-        move |scope| -> Led<D, S, G>
+        move |scope| -> FrameResult<D, S, G>
             requires reader { (vec_len readers < vec_capacity readers) × (vec_len readers ≡ 0) }
             requires room { (vec_len stages ≤ vec_capacity done)
                 × (vec_len stages ≤ vec_capacity own) × (done.items ≡ []) × (own.items ≡ []) }
-            requires few { (vec_len stages ≤ vec_len board.now.signs)
-                × (vec_len board.now.signs ≤ 24) }
+            requires few { (vec_len stages ≤ vec_len crew.now.workers)
+                × (vec_len crew.now.workers ≤ 24) }
             requires marks { (vec_len marks ≡ G.instances take.now) × (vec_len marks ≤ 24) }
             requires fresh { (k : ℕ) (m : List MarkIs)
                 → slice_get (map received marks.items) k ≡ Some m → m ≡ [] }
@@ -110,11 +110,11 @@ fn within_scope<
                 &mut own,
                 &mut marks,
                 &mut stop,
-                board,
+                crew,
                 pacer,
                 take,
             );
-            Led {
+            FrameResult {
                 take,
                 reader,
                 done,
@@ -155,7 +155,7 @@ fn read_within<
     feeds: Vec<Tx<Stretch>>,
     marks: Vec<Rx<Mark>>,
     stop: (Tx<bool>, Rx<bool>),
-    board: &'c Board,
+    crew: &'c CrewStatus,
     pacer: &P,
     feed: &'a mut F,
     take: &'b mut G,
@@ -163,7 +163,7 @@ fn read_within<
     requires reader { (vec_len readers < vec_capacity readers) × (vec_len readers ≡ 0) }
     requires room { (vec_len stages ≤ vec_capacity done) × (vec_len stages ≤ vec_capacity own)
         × (done.items ≡ []) × (own.items ≡ []) }
-    requires few { (vec_len stages ≤ vec_len board.now.signs) × (vec_len board.now.signs ≤ 24) }
+    requires few { (vec_len stages ≤ vec_len crew.now.workers) × (vec_len crew.now.workers ≤ 24) }
     requires marks { (vec_len marks ≡ G.instances take.old) × (vec_len marks ≤ 24) }
     requires fresh { Fresh feeds.items marks.items }
     requires stop { IsLink stop.0 stop.1 × (sent stop.0 ≡ []) }
@@ -180,8 +180,8 @@ fn read_within<
     ensures stages { Each (Ends S.goes_on S.over) stages.items result.done.items }
 {
     let (stop, stopped) = stop;
-    let reader = Reader::new(feed, feeds, stopped, &board.gate);
-    let Led {
+    let reader = Reader::new(feed, feeds, stopped, crew);
+    let FrameResult {
         take,
         reader,
         done,
@@ -189,7 +189,7 @@ fn read_within<
         mut stop,
         end,
     } = within_scope(
-        rt, reader, readers, stages, done, own, marks, stop, board, pacer, take,
+        rt, reader, readers, stages, done, own, marks, stop, crew, pacer, take,
     );
     let Reader {
         feed,
@@ -213,6 +213,69 @@ fn goes_back<T>(lent: &mut T)
     ensures { lent.new ≡ lent.old }
 {}
 
+// A stage in a set of threads.
+fn bit(place: usize) -> u32 {
+    1u32.wrapping_shl(place.min(31) as u32)
+}
+
+// The stages that stand on this one, or on nothing, as a set of threads.
+fn children_of(parents: &[Option<u32>], parent: Option<u32>) -> u32 {
+    let mut found = 0;
+    for place in 0..parents.len() {
+        if parents[place] == parent {
+            found |= bit(place);
+        }
+    }
+    found
+}
+
+// From whom a stage receives.
+fn upstream_of(parents: &[Option<u32>], place: usize) -> u32 {
+    match parents.get(place) {
+        Some(Some(parent)) => bit(*parent as usize),
+        Some(None) => READER,
+        None => READER,
+    }
+}
+
+// After how many turns in which something moved the reader notifies the roots: a turn is 64 steps,
+// most of which send 128 runs to one root, so that each was sent a fourth of what a link has room for.
+fn reader_turns(parents: &[Option<u32>], room: usize) -> u32 {
+    let mut roots: usize = 0;
+    for parent in parents {
+        if parent.is_none() {
+            roots = roots.saturating_add(1);
+        }
+    }
+    let turns = roots.min(MOST_STAGES) * room.min(16_384) / 32_768;
+    turns.clamp(1, 64) as u32
+}
+
+// The same of a stage, whose turn is about a thousand items.
+fn stage_turns(room: usize) -> u32 {
+    if room >= 4_096 { 3 } else { 1 }
+}
+
+// The statuses of the workers of so many stages.
+fn statuses_of(
+    alloc: Global,
+    parents: &[Option<u32>],
+    count: usize,
+    spins: u32,
+    turns: u32,
+) -> Result<Vec<WorkerStatus>, NoMemory>
+    requires { count ≤ 24 }
+    ensures { IfOk result (λ workers. vec_len workers ≡ count) }
+{
+    let mut workers = Vec::with_capacity(alloc, count)?;
+    for place in 0..count {
+        let upstream = upstream_of(parents, place);
+        let children = children_of(parents, Some(place as u32));
+        workers.push(WorkerStatus::new(bit(place), upstream, children, spins, turns))?;
+    }
+    Ok(workers)
+}
+
 /// The stages, each over, and the driver's ends of the links, in their order.
 #[derive(Drop)]
 pub struct Ran<S> {
@@ -224,14 +287,17 @@ pub struct Ran<S> {
 
 /// Runs each stage in a thread of its own, one worker each, and in one more the reader, which sends
 /// all runs of the feed to each root, and then the end. The driver, in this thread, gathers the marks
-/// of each instance up to its end. Before a call of the feed that may have to wait, what takes the
-/// marks is told of the pause, once nothing is on its way any more.
+/// of each instance up to its end. Before a call of the feed that has to wait, or while it waits, what
+/// takes the marks is told of the pause, once nothing is on its way any more.
+///
+/// Who has nothing to do sleeps, and is woken by those at the other ends of its links: `parents` tells
+/// of each stage on which one it stands.
 ///
 /// `feeds` are the links to the roots, `marks` those of the instances' marks, in their order.
-/// `Stopped` is answered where `take` stopped, at the last mark that it was handed: none is taken
-/// behind it, and the feed isn't read on, but what it gave is sent, and the stages run to their
-/// ends. Where no thread can be started for a stage, or the reader, the driver takes turns of it. No
-/// thread is left behind. At `NoMemory` nothing was done.
+/// `Stopped` is answered where `take` stopped, at the last mark that it was handed or in a pause after
+/// it: none is taken then. Once the reader has heard of that, the feed isn't read on, but what it gave
+/// is sent, and the stages run to their ends. Where no thread can be started for a stage, or the
+/// reader, the driver takes turns of it. No thread is left behind. At `NoMemory` nothing was done.
 pub fn run_crew<
     R: Threads + Wait + Sync,
     S: Turns + Send + Drop,
@@ -242,6 +308,7 @@ pub fn run_crew<
     rt: &R,
     alloc: Global,
     stages: Vec<S>,
+    parents: &[Option<u32>],
     feeds: Vec<Tx<Stretch>>,
     marks: Vec<Rx<Mark>>,
     feed: &mut F,
@@ -277,20 +344,16 @@ pub fn run_crew<
         None => 0,
     };
     // the stages, the reader and the driver
-    let naps = if feed.may_wait() {
-        Naps::short()
-    } else {
-        Naps::shared(rt, stages.len() + 2, room)
-    };
-    let mut signs = Vec::with_capacity(alloc, stages.len())?;
-    for _ in 0..stages.len() {
-        signs.push(Sign::new(naps))?;
-    }
-    let board = Board {
-        signs,
-        reader: Sign::new(naps),
-        gate: Gate::new(),
+    let spins = spins_for(rt, stages.len() + 2);
+    let workers = statuses_of(alloc, parents, stages.len(), spins, stage_turns(room))?;
+    let roots = children_of(parents, None);
+    let crew = CrewStatus {
+        workers,
+        reader: WorkerStatus::new(READER, 0, roots, spins, reader_turns(parents, room)),
+        driver: WorkerStatus::new(DRIVER, 0, 0, spins, 1),
+        permit: ReadPermit::new(),
         plain: PlainPacer,
+        room,
     };
     let Crew {
         feed: lent,
@@ -300,7 +363,7 @@ pub fn run_crew<
         marks,
         end,
     } = read_within(
-        rt, readers, stages, done, own, feeds, marks, stop, &board, pacer, feed, take,
+        rt, readers, stages, done, own, feeds, marks, stop, &crew, pacer, feed, take,
     );
     goes_back(lent);
     goes_back(given);

@@ -1,7 +1,7 @@
 // A stage takes turns.
 use crate::Turns;
 use decoder_core::Machine;
-use stage_run::{Stage, Turn};
+use stage_run::{Peer, Peers, Stage, Turn};
 
 impl<M: Machine> Turns for Stage<M> {
     ghost use Rattle.stage_run.specs.Stages.{is_over};
@@ -17,6 +17,14 @@ impl<M: Machine> Turns for Stage<M> {
 
     fn turn(&mut self, budget: u32) -> Turn {
         self.turn(budget)
+    }
+
+    fn touched(&self) -> Peers {
+        self.touched()
+    }
+
+    fn waits_for(&self) -> Peer {
+        self.waits_for()
     }
 
     ghost still = { stage_still };

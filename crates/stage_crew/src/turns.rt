@@ -1,5 +1,5 @@
 // What takes turns.
-use stage_run::Turn;
+use stage_run::{Peer, Peers, Turn};
 
 /// Something that is run turn by turn until it is over.
 pub trait Turns {
@@ -22,6 +22,13 @@ pub trait Turns {
         requires going { over self.old ≡ false }
         ensures goes { goes_on self.old self.new }
         ensures over { over self.new ≡ tells_end result };
+
+    /// To whom it gave, or from whom it took, since this was asked last. Who is asked for it and isn't
+    /// notified may sleep on.
+    fn touched(&self) -> Peers;
+
+    /// For whom it waits, where a turn gave and took nothing: nobody else wakes it.
+    fn waits_for(&self) -> Peer;
 
     /// *Still*: what does nothing goes on.
     ghost still: { (one : Self) → goes_on one one };

@@ -2,8 +2,8 @@
 ghost use Rattle.std.specs.Prelude.{◌≡◌};
 ghost use Rattle.stage_crew.specs.Crew.{Ends};
 
-use crate::patience::Patience;
-use crate::sign::Sign;
+use crate::idle::IdlePolicy;
+use crate::status::{CrewStatus, WorkerStatus};
 use crate::{Pacer, Turns};
 use stage_run::Turn;
 use std::snapshot::Snapshot;
@@ -20,22 +20,54 @@ impl<S: Turns> Promise<S> for Back<S> {
     ghost kept_by = { λ p r. S.goes_on p.was.value r };
 }
 
-/// A worker: it runs its stage until it is over, or gives it back untouched where it is to be away.
+/// A worker: it runs its stage until it is over, or gives it back untouched where it was refused.
 pub(crate) fn work<R: Wait, S: Turns, P: Pacer>(
     rt: &R,
     stage: S,
     number: u32,
-    sign: &Sign,
+    status: &WorkerStatus,
+    crew: &CrewStatus,
     pacer: &P,
 ) -> S
     ensures { S.goes_on stage result }
 {
-    if sign.is_away() {
+    if status.is_refused() {
         return stage;
     }
-    let stage = run_out(rt, stage, number, sign, pacer);
-    sign.leave();
-    stage
+    run_out(rt, stage, number, status, crew, pacer)
+}
+
+/// Notifies those who may go on by what a stage gave and took.
+pub(crate) fn notify_touched<S: Turns>(crew: &CrewStatus, status: &WorkerStatus, stage: &S) {
+    crew.notify(status.threads(stage.touched()), status.own);
+}
+
+// Something moved: others are notified, where that is to be done now.
+fn go_on<S: Turns>(crew: &CrewStatus, status: &WorkerStatus, policy: &IdlePolicy, stage: &S) {
+    if policy.moved(status) {
+        notify_touched(crew, status, stage);
+    }
+}
+
+// Nothing moved: it spins, or looks once more, or sleeps. It may return at once.
+fn rest<R: Wait, S: Turns>(
+    rt: &R,
+    crew: &CrewStatus,
+    status: &WorkerStatus,
+    policy: &IdlePolicy,
+    stage: &S,
+) {
+    if policy.spin(status) {
+        return;
+    }
+    notify_touched(crew, status, stage);
+    if policy.prepare(status, status.thread(stage.waits_for())) {
+        return;
+    }
+    if policy.commit(status) {
+        crew.tell_asleep();
+        policy.park(rt, status);
+    }
 }
 
 /// Runs a stage until it is over.
@@ -43,13 +75,14 @@ pub(crate) fn run_out<R: Wait, S: Turns, P: Pacer>(
     rt: &R,
     stage: S,
     number: u32,
-    sign: &Sign,
+    status: &WorkerStatus,
+    crew: &CrewStatus,
     pacer: &P,
 ) -> S
     ensures { Ends S.goes_on S.over stage result }
 {
     let mut stage = stage;
-    let patience = Patience::new(sign.naps());
+    let policy = IdlePolicy::new();
     let mut turn: u64 = 0;
     for _ in rt.forever() {
         if stage.is_over() {
@@ -58,12 +91,12 @@ pub(crate) fn run_out<R: Wait, S: Turns, P: Pacer>(
         let budget = pacer.turn(number, turn).max(1);
         turn = turn.wrapping_add(1);
         match stage.turn(budget) {
-            Turn::Ended => return stage,
-            Turn::Moved => patience.reset(),
-            Turn::Idle => {
-                sign.rest();
-                patience.wait(rt);
+            Turn::Ended => {
+                notify_touched(crew, status, &stage);
+                return stage;
             }
+            Turn::Moved => go_on(crew, status, &policy, &stage),
+            Turn::Idle => rest(rt, crew, status, &policy, &stage),
         }
     }
     unreachable!()

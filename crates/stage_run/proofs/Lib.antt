@@ -10,3 +10,4 @@ mod Making
 mod Moving
 mod Turning
 mod Ending
+mod Lessening

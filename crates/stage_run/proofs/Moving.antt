@@ -1,5 +1,5 @@
 -- Several moves of one kind, and moves behind moves.
-use Rattle.std.proofs.Common.{◌≡◌, ℕ, false, List, [], ◌∷◌, ◌++◌, map, refl, sym, ◌∙◌, append_assoc}
+use Rattle.std.proofs.Common.{◌≡◌, ℕ, true, false, List, [], ◌∷◌, ◌++◌, map, refl, sym, ◌∙◌, append_assoc}
 use Rattle.std.proofs.lemmas.List.{append-nil}
 use Rattle.std.proofs.lemmas.List.Elements.{All-cons, All-nil}
 use Rattle.la_base.specs.declared.wires.Feed.{Feed}
@@ -15,11 +15,11 @@ kinds_all f kind is [] = All-nil (λ move. kind_of move ≡ kind)
 kinds_all f kind is (x ∷ xs) = All-cons (λ move. kind_of move ≡ kind) (f x) (map f xs) (is x) (kinds_all f kind is xs)
 
 module _ (whole : List Item → List Out) (near : List Item → ℕ) where
-  pub took_all : (feeds : List Feed) (view : View) → view.closed ≡ false → MayMoveAll whole near (map TakeIn feeds) view × (moved_all (map TakeIn feeds) view ≡ record view { received = view.received ++ feeds })
-  took_all [] view going = (tt, λ i. record view { received = sym (append-nil view.received) i })
-  took_all (x ∷ xs) view going =
-      let on = took_all xs (moved (TakeIn x) view) going in
-      ((going, on.0), on.1 ∙ (λ i. record view { received = append_assoc view.received (x ∷ []) xs i }))
+  pub took_all : (feeds : List Feed) (view : View) → view.closed ≡ false → view.told ≡ true → MayMoveAll whole near (map TakeIn feeds) view × (moved_all (map TakeIn feeds) view ≡ record view { received = view.received ++ feeds })
+  took_all [] view going told = (tt, λ i. record view { received = sym (append-nil view.received) i })
+  took_all (x ∷ xs) view going told =
+      let on = took_all xs (moved (TakeIn x) view) going told in
+      (((going, told), on.0), on.1 ∙ (λ i. record view { received = append_assoc view.received (x ∷ []) xs i }))
 
   pub told_all : (marks : List Mark) (view : View) → MaySendAll marks view.marks → MayMoveAll whole near (map TellOut marks) view × (moved_all (map TellOut marks) view ≡ record view { marks = sends_all marks view.marks })
   told_all [] view may = (tt, refl)

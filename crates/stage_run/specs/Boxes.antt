@@ -22,6 +22,10 @@ received_of inbox = came inbox.input
 abbrev pub waiting_of : Inbox → List Item
 waiting_of inbox = map Sample (samples_of (waiting inbox.runs)) ++ items_in (waiting inbox.feeds)
 
+-- how much of it is left: items that aren't consumed, and feeds that weren't looked at
+abbrev pub left_in : Inbox → ℕ
+left_in inbox = length (waiting_of inbox) + length (waiting inbox.feeds)
+
 -- whether nothing of it waits
 abbrev pub is_idle : Inbox → Bool
 is_idle inbox =

@@ -1,5 +1,5 @@
 -- What a contract sees of a stage.
-use Rattle.std.specs.Prelude.{ℕ, ◌≡◌, ◌≤◌, ◌<◌, ◌+◌, ◌-◌, ◌^◌, ◌⊎◌, min, Bool, true, false, ◌&&◌}
+use Rattle.std.specs.Prelude.{ℕ, ◌≡◌, ◌≤◌, ◌<◌, ◌+◌, ◌*◌, ◌-◌, ◌^◌, ◌⊎◌, min, Bool, true, false, ◌&&◌}
 use Rattle.std.specs.Prelude.{List, [], ◌++◌, length, map, replicate}
 use Rattle.std.specs.List.{All}
 use Rattle.la_base.specs.declared.wires.Out.{Out}
@@ -15,7 +15,7 @@ use Rattle.stack_laws.specs.Moves.{MayMoveAll, moved_all}
 use Rattle.stack_laws.specs.Rests.{near_behind, whole_behind}
 use Rattle.stage_ring.specs.Link.{Link, sent, tx_link}
 use Rattle.stage_run.specs.Boxes.{SameSent, children_of, given_by, missed_by, received_of, told_of}
-use Rattle.stage_run.specs.Boxes.{is_empty, waiting_of}
+use Rattle.stage_run.specs.Boxes.{is_empty, left_in, waiting_of}
 use Rattle.stage_run.specs.Inputs.{came, input_link, input_misses, reads_samples, taken}
 use Rattle.stage_run.specs.declared.input.Input.{Input}
 use Rattle.stage_run.specs.declared.outbox.Outbox.{Outbox}
@@ -75,6 +75,11 @@ blank children = record {
   closed = false;
 }
 
+-- this, where it isn't done yet
+abbrev pub owed : Bool → ℕ → ℕ
+owed true n = 0
+owed false n = n
+
 module _ {M : Type 0} where
   abbrev pub links : Stage M → Links
   links s = links_by s.inbox.input s.outbox
@@ -95,6 +100,10 @@ module _ {M : Type 0} where
   abbrev pub misses_of : Stage M → ℕ
   misses_of s = min (missed s) (2 ^ 64 - 1)
 
+  -- how much is left to do: of what was received, to tell a floor after it, and to make the end
+  abbrev pub left_of : Stage M → ℕ
+  left_of s = 3 * left_in s.inbox + owed s.told 2 + owed s.closed 1
+
   -- nothing was given or taken, and the end neither came nor was told
   pub record SameEnds (old new : Stage M) : Type 0 where
     pub input : new.inbox.input ≡ old.inbox.input
@@ -103,13 +112,15 @@ module _ {M : Type 0} where
     pub closed : new.closed ≡ old.closed
 
   -- what the answer of a turn says: it has ended exactly where the end was taken and all was given;
-  -- it is idle where it gave and took nothing, and its misses rose; else it has moved
+  -- it is idle where it gave and took nothing, as much is left to do, and its misses rose; and it has
+  -- moved where it gave or took something, or less is left to do
   abbrev pub Answers : Turn → Stage M → Stage M → Type 0
   Answers Ended old new = is_over new ≡ true
   Answers Idle old new =
-      (is_over new ≡ false) × (passed new ≡ passed old) × Rose (misses_of old) (misses_of new)
+      (is_over new ≡ false) × (passed new ≡ passed old) × (left_of new ≡ left_of old)
+      × Rose (misses_of old) (misses_of new)
   Answers Moved old new =
-      (is_over new ≡ false) × ((passed old < passed new) ⊎ (misses_of new ≡ misses_of old))
+      (is_over new ≡ false) × ((passed old < passed new) ⊎ (left_of new < left_of old))
 
   abbrev pub parts_links : Parts M → Links
   parts_links p = record {

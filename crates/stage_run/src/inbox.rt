@@ -93,7 +93,7 @@ fn is_end(feed: Feed) -> bool
 }
 
 impl Inbox {
-    ghost use Rattle.stage_run.specs.Boxes.{is_idle, received_of, waiting_of};
+    ghost use Rattle.stage_run.specs.Boxes.{is_idle, left_in, received_of, waiting_of};
 
     /// Nothing was received yet.
     pub(crate) fn new(input: Input) -> Inbox
@@ -130,6 +130,7 @@ impl Inbox {
             × (came self.new.input ≡ came self.old.input ++ more)
             × (waiting_of self.new ≡ items_in more)
             × (self.new.over ≡ true → some ends_feed more ≡ true) }
+        ensures none { result ≡ 0 → left_in self.new ≡ 0 }
         ensures misses { input_misses self.new.input
             ≡ more_if (nat_eq result 0) (input_misses self.old.input) }
     {

@@ -12,4 +12,4 @@ mod turn;
 
 pub use input::{Input, Stretch};
 pub use stage::{Parts, Stage};
-pub use turn::Turn;
+pub use turn::{Peer, Peers, Turn};

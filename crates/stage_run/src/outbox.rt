@@ -1,6 +1,6 @@
 // What a stage makes for its links, and what of that it hasn't given yet.
 ghost use Rattle.std.specs.Prelude.{◌≡◌, ◌≤◌, ◌<◌, ◌+◌, ◌++◌, ◌∷◌, [], List, ℕ, length, map, true};
-ghost use Rattle.std.specs.Prelude.{vec_len, min, ◌-◌, ◌^◌};
+ghost use Rattle.std.specs.Prelude.{vec_len, min, ◌-◌, ◌*◌, ◌^◌, ◌≢◌};
 ghost use Rattle.la_base.specs.declared.wires.Feed.{Feed as FeedIs};
 ghost use Rattle.la_base.specs.declared.wires.Mark.{Mark as MarkIs};
 ghost use Rattle.la_base.specs.declared.wires.Feed.TheVariants.{End as EndFeed};
@@ -27,6 +27,12 @@ pub(crate) struct Outbox {
     pub(crate) told: Row<Mark>,
     pub(crate) fed: Row<Feed>,
     pub(crate) place: usize,
+    // none of a row but some are done, and feeds are kept for children alone
+    ghost some_told: { told.at ≤ length told.list - 1 },
+    ghost some_fed: { fed.at ≤ length fed.list - 1 },
+    ghost served: { place ≤ vec_len children - 1 },
+    ghost for_some: { place ≤ 2 ^ 64 * length fed.list },
+    ghost for_children: { length fed.list ≤ 64 * vec_len children },
 }
 
 impl Outbox {
@@ -60,7 +66,8 @@ impl Outbox {
     /// Whether there is room for what one more step puts out, and for what stands behind it.
     #[inline(always)]
     pub(crate) fn has_room(&self) -> bool
-        ensures { result ≡ true → HasRoom 17 self.now }
+        ensures room { result ≡ true → HasRoom 17 self.now }
+        ensures empty { is_empty self.now ≡ true → result ≡ true }
     {
         self.told.count() <= 47 && self.fed.count() <= 47
     }
@@ -114,6 +121,9 @@ impl Outbox {
 
     /// Gives as many of the marks that are kept as there is room for.
     pub(crate) fn give_marks(&mut self) -> Act
+        requires some { 0 < length self.old.told.list }
+        ensures some { result ≢ Act.Worked }
+        ensures going { result ≢ Act.Ended }
         ensures links { SameLinks self.old self.new }
         ensures gives { (marks : List MarkIs) × (length marks ≤ 64)
             × Sends marks (told_of self.old) (told_of self.new) }
@@ -134,6 +144,7 @@ impl Outbox {
     // All that is kept was given to a child.
     fn go_on(&mut self)
         requires within { self.old.place < vec_len self.old.children }
+        requires some { 0 < length self.old.fed.list }
         ensures same { SameSent self.old self.new }
         ensures told { told_of self.new ≡ told_of self.old }
         ensures children { children_of self.new ≡ served (self.old.place + 1)
@@ -150,6 +161,9 @@ impl Outbox {
 
     /// Gives as many of the feeds that are kept as the next child has room for.
     pub(crate) fn give_feeds(&mut self) -> Act
+        requires some { 0 < length self.old.fed.list }
+        ensures some { result ≢ Act.Worked }
+        ensures going { result ≢ Act.Ended }
         ensures links { SameLinks self.old self.new }
         ensures gives { (place : ℕ) × (feeds : List FeedIs) × (length feeds ≤ 64)
             × Gives place feeds (children_of self.old) (children_of self.new) }
@@ -157,11 +171,6 @@ impl Outbox {
         ensures act { Acts result (given_by self.old) (given_by self.new)
             (missed_by self.old) (missed_by self.new) }
     {
-        if self.place >= self.children.len() {
-            self.place = 0;
-            self.fed.clear();
-            return Act::Worked;
-        }
         let kept = self.fed.waiting().len();
         let count = self.children[self.place].offer_some(self.fed.waiting());
         if count < kept {

@@ -1,22 +1,23 @@
 // One stage.
-ghost use Rattle.std.specs.Prelude.{◌≡◌, ◌≤◌, ◌<◌, ◌+◌, [], List, length, map, true, false};
+ghost use Rattle.std.specs.Prelude.{◌≡◌, ◌≢◌, ◌≤◌, ◌<◌, ◌+◌, [], List, length, map, true, false};
 ghost use Rattle.std.specs.List.{All};
 ghost use Rattle.la_base.specs.declared.wires.Feed.{Feed as FeedIs};
 ghost use Rattle.decoder_core.specs.Inputs.{Item};
 ghost use Rattle.stage_ring.specs.Link.{sent, tx_link};
-ghost use Rattle.stage_run.specs.Acts.{Acts, Goings};
-ghost use Rattle.stage_run.specs.Boxes.{HasRoom, IsFresh, SameSent, is_empty, is_idle};
+ghost use Rattle.stage_run.specs.Acts.{Acts, Goings, Lessening, Lessens};
+ghost use Rattle.stage_run.specs.Boxes.{HasRoom, IsFresh, SameSent, is_empty, is_idle, left_in};
 ghost use Rattle.stage_run.specs.Inputs.{input_link, reads_samples, taken};
 ghost use Rattle.stage_run.specs.Rows.{waiting};
 
 use crate::inbox::Inbox;
 use crate::input::Input;
 use crate::outbox::Outbox;
-use crate::turn::{Act, Turn, Went, has_gone};
+use crate::turn::{Act, Peer, Peers, Progress, Turn, progressed};
 use decoder_core::{Machine, Outs};
 use la_base::{Feed, Mark};
 use stack_laws::laws::moves_keep;
 use stage_ring::Tx;
+use std::cell::Cell;
 
 /// What a stage is made of.
 #[derive(Drop)]
@@ -40,12 +41,14 @@ pub struct Stage<M> {
     told: bool,
     // the end was made for each link
     closed: bool,
+    // to whom it gave, or from whom it took, since that was asked
+    touched: Cell<Peers>,
 }
 
 impl<M: Machine> Stage<M> {
     ghost use Rattle.stage_run.specs.Stages.{ActsOn, ActsOnce, Answers, Closing, Giving, Goes};
     ghost use Rattle.stage_run.specs.Stages.{KeepsOn, Means, PartsMean, SameEnds, Stepping, Taking};
-    ghost use Rattle.stage_run.specs.Stages.{Telling, blank, is_over, links, missed, misses_of};
+    ghost use Rattle.stage_run.specs.Stages.{Telling, blank, is_over, left_of, links, missed, misses_of};
     ghost use Rattle.stage_run.specs.Stages.{parts_links, passed};
     ghost use Rattle.stack_laws.specs.Moves.{View};
 
@@ -59,6 +62,8 @@ impl<M: Machine> Stage<M> {
         ensures goes { Goes M.Machine Stepping 1 self.old self.new }
         ensures same { SameEnds self.old self.new }
         ensures fresh { IsFresh self.new.outbox }
+        ensures less { left_in self.new.inbox < left_in self.old.inbox }
+        ensures untold { self.new.told ≡ false }
     {
         self.outs.clear();
         let taken = self
@@ -79,6 +84,8 @@ impl<M: Machine> Stage<M> {
         ensures goes { Goes M.Machine Stepping 1 self.old self.new }
         ensures same { SameEnds self.old self.new }
         ensures fresh { IsFresh self.new.outbox }
+        ensures less { left_in self.new.inbox < left_in self.old.inbox }
+        ensures untold { self.new.told ≡ false }
     {
         let feed = self.inbox.feeds.waiting()[0];
         self.outs.clear();
@@ -96,6 +103,8 @@ impl<M: Machine> Stage<M> {
         ensures goes { Goes M.Machine Stepping 1 self.old self.new }
         ensures same { SameEnds self.old self.new }
         ensures fresh { IsFresh self.new.outbox }
+        ensures input { self.new.inbox ≡ self.old.inbox }
+        ensures told { self.new.told ≡ true }
     {
         self.outbox.tell(self.machine.floor());
         self.told = true;
@@ -106,9 +115,13 @@ impl<M: Machine> Stage<M> {
     fn step(&mut self) -> bool
         requires going { self.old.closed ≡ false }
         requires fresh { IsFresh self.old.outbox }
+        requires busy { is_idle self.old.inbox ≡ true → self.old.told ≡ false }
         ensures goes { Goes M.Machine Stepping 1 self.old self.new }
         ensures same { SameEnds self.old self.new }
         ensures fresh { IsFresh self.new.outbox }
+        ensures untold { result ≡ true → self.new.told ≡ false }
+        ensures no_more { left_of self.new ≤ left_of self.old }
+        ensures less { is_empty self.old.outbox ≡ true → left_of self.new < left_of self.old }
     {
         if !self.outbox.has_room() {
             return false;
@@ -130,10 +143,16 @@ impl<M: Machine> Stage<M> {
     fn work(&mut self)
         requires going { self.old.closed ≡ false }
         requires fresh { IsFresh self.old.outbox }
+        requires empty { is_empty self.old.outbox ≡ true }
+        requires busy { is_idle self.old.inbox ≡ true → self.old.told ≡ false }
         ensures goes { Goes M.Machine Stepping 65 self.old self.new }
         ensures same { SameEnds self.old self.new }
+        ensures less { left_of self.new < left_of self.old }
     {
-        for _ in 0..65u32 {
+        if !self.step() {
+            return;
+        }
+        for _ in 0..64u32 {
             if !self.step() {
                 return;
             }
@@ -151,18 +170,30 @@ impl<M: Machine> Stage<M> {
         ensures goes { Goes M.Machine Closing 1 self.old self.new }
         ensures input { self.new.inbox ≡ self.old.inbox }
         ensures sent { SameSent self.old.outbox self.new.outbox }
+        ensures less { left_of self.new < left_of self.old }
     {
         self.outbox.end();
         self.closed = true;
     }
 
+    // Notes whom an act touched, where it gave or took something.
+    #[inline]
+    fn note(&self, act: Act, peer: Peer) {
+        if act == Act::Passed || act == Act::Short {
+            self.touched.set(self.touched.get().with(peer));
+        }
+    }
+
     // Receives what there is.
     fn receive(&mut self) -> Act
         requires going { self.old.closed ≡ false }
+        requires told { self.old.told ≡ true }
         requires done { is_idle self.old.inbox ≡ true }
         ensures goes { Goes M.Machine Taking 64 self.old self.new }
         ensures act { Acts result (passed self.old) (passed self.new)
             (missed self.old) (missed self.new) }
+        ensures left { Lessens result (left_of self.old) (left_of self.new) }
+        ensures going { result ≢ Act.Ended }
     {
         let count = self.inbox.receive();
         if count == 0 { Act::Missed } else { Act::Passed }
@@ -170,18 +201,24 @@ impl<M: Machine> Stage<M> {
 
     // Gives marks that are kept.
     fn give_marks(&mut self) -> Act
+        requires some { 0 < length self.old.outbox.told.list }
         ensures goes { Goes M.Machine Telling 64 self.old self.new }
         ensures act { Acts result (passed self.old) (passed self.new)
             (missed self.old) (missed self.new) }
+        ensures left { Lessens result (left_of self.old) (left_of self.new) }
+        ensures going { result ≢ Act.Ended }
     {
         self.outbox.give_marks()
     }
 
     // Gives a child feeds that are kept.
     fn give_feeds(&mut self) -> Act
+        requires some { 0 < length self.old.outbox.fed.list }
         ensures goes { Goes M.Machine Giving 64 self.old self.new }
         ensures act { Acts result (passed self.old) (passed self.new)
             (missed self.old) (missed self.new) }
+        ensures left { Lessens result (left_of self.old) (left_of self.new) }
+        ensures going { result ≢ Act.Ended }
     {
         self.outbox.give_feeds()
     }
@@ -191,12 +228,19 @@ impl<M: Machine> Stage<M> {
         ensures acts { ActsOnce M.Machine self.old self.new }
         ensures act { Acts result (passed self.old) (passed self.new)
             (missed self.old) (missed self.new) }
+        ensures left { Lessens result (left_of self.old) (left_of self.new) }
+        ensures ended { result ≡ Act.Ended → is_over self.new ≡ true }
     {
         if self.outbox.told.count() > 0 {
-            return self.give_marks();
+            let act = self.give_marks();
+            self.note(act, Peer::Driver);
+            return act;
         }
         if !self.outbox.is_empty() {
-            return self.give_feeds();
+            let place = self.outbox.place;
+            let act = self.give_feeds();
+            self.note(act, Peer::Child(place));
+            return act;
         }
         if self.closed {
             return Act::Ended;
@@ -209,26 +253,33 @@ impl<M: Machine> Stage<M> {
             self.close();
             return Act::Worked;
         }
-        self.receive()
+        let act = self.receive();
+        self.note(act, Peer::Upstream);
+        act
     }
 
     // At most `budget` acts. It stops at a miss, or where nothing is left to do.
-    fn move_on(&mut self, budget: u32) -> Went
+    fn move_on(&mut self, budget: u32) -> Progress
+        requires some { 1 ≤ budget }
         ensures acts { ActsOn M.Machine budget self.old self.new }
-        ensures went { Goings result (passed self.old) (passed self.new)
+        ensures progress { Goings result (passed self.old) (passed self.new)
             (missed self.old) (missed self.new) }
+        ensures left { Lessening result (left_of self.old) (left_of self.new) }
+        ensures some { result.passed ≡ false → result.worked ≡ false → result.missed ≡ false
+            → is_over self.new ≡ true }
     {
         let mut passed = false;
+        let mut worked = false;
         for _ in 0..budget {
             match self.act() {
-                Act::Worked => {}
+                Act::Worked => worked = true,
                 Act::Passed => passed = true,
-                Act::Short => return has_gone(true, true),
-                Act::Missed => return has_gone(passed, true),
-                Act::Ended => return has_gone(passed, false),
+                Act::Short => return progressed(true, true, worked),
+                Act::Missed => return progressed(passed, true, worked),
+                Act::Ended => return progressed(passed, false, worked),
             }
         }
-        has_gone(passed, false)
+        progressed(passed, false, worked)
     }
 
     /// Whether the end was taken and all was given.
@@ -237,6 +288,23 @@ impl<M: Machine> Stage<M> {
         ensures { result ≡ is_over self.now }
     {
         self.closed && self.outbox.is_empty()
+    }
+
+    /// To whom it gave, or from whom it took, since this was asked last. No clause speaks of it: it is
+    /// for waking those who wait.
+    pub fn touched(&self) -> Peers {
+        self.touched.replace(Peers::none())
+    }
+
+    /// For whom it waits, where a turn gave and took nothing.
+    pub fn waits_for(&self) -> Peer {
+        if self.outbox.told.count() > 0 {
+            return Peer::Driver;
+        }
+        if !self.outbox.is_empty() {
+            return Peer::Child(self.outbox.place);
+        }
+        Peer::Upstream
     }
 
     /// How often one of its ends had no room or nothing to take.
@@ -258,11 +326,11 @@ impl<M: Machine> Stage<M> {
         ensures answers { Answers result self.old self.new }
     {
         moves_keep();
-        let went = self.move_on(budget);
+        let made = self.move_on(budget);
         if self.is_over() {
             return Turn::Ended;
         }
-        if went.missed && !went.passed {
+        if made.missed && !made.passed && !made.worked {
             return Turn::Idle;
         }
         Turn::Moved
@@ -289,6 +357,7 @@ impl<M: Machine> Stage<M> {
             outs: Outs::new(),
             told: true,
             closed: false,
+            touched: Cell::new(Peers::none()),
         }
     }
 

@@ -5,13 +5,59 @@ ghost use Rattle.stage_run.specs.Acts.{act_by};
 /// What a turn did.
 #[derive(Clone, Copy, PartialEq, Eq)]
 pub enum Turn {
-    /// It gave or took something; or its budget was spent before a link had no room or nothing to
-    /// take.
+    /// It gave or took something, or less is left to do.
     Moved,
-    /// It gave and took nothing, and a link had no room or nothing to take.
+    /// It did nothing, since a link had no room or nothing to take.
     Idle,
     /// The end was taken, and all was given.
     Ended,
+}
+
+/// Who is at the other end of a link of a stage: the one that it receives from, the driver, which
+/// gathers its marks, or the child at a place.
+#[derive(Clone, Copy, PartialEq, Eq)]
+pub enum Peer {
+    Upstream,
+    Driver,
+    Child(usize),
+}
+
+/// A set of these; of the children a bit for each place.
+#[derive(Clone, Copy, PartialEq, Eq)]
+pub struct Peers {
+    pub upstream: bool,
+    pub driver: bool,
+    pub children: u32,
+}
+
+impl Peers {
+    /// None of them.
+    pub fn none() -> Peers {
+        Peers {
+            upstream: false,
+            driver: false,
+            children: 0,
+        }
+    }
+
+    /// These and one more. A stage has fewer than 32 children.
+    #[inline]
+    pub fn with(self, peer: Peer) -> Peers {
+        match peer {
+            Peer::Upstream => Peers {
+                upstream: true,
+                ..self
+            },
+            Peer::Driver => Peers {
+                driver: true,
+                ..self
+            },
+            Peer::Child(place) => Peers {
+                children: self.children | 1u32.wrapping_shl(place.min(31) as u32),
+                ..self
+            },
+        }
+    }
 }
 
 /// What one act did.
@@ -43,16 +89,22 @@ pub(crate) fn act_of(given: usize, kept: usize) -> Act
 
 /// What several acts did.
 #[derive(Clone, Copy, PartialEq, Eq)]
-pub(crate) struct Went {
+pub(crate) struct Progress {
     /// Something was given or taken.
     pub(crate) passed: bool,
     /// A link had no room or nothing to take.
     pub(crate) missed: bool,
+    /// It has worked.
+    pub(crate) worked: bool,
 }
 
 #[inline(always)]
-pub(crate) fn has_gone(passed: bool, missed: bool) -> Went
-    ensures { (result.passed ≡ passed) × (result.missed ≡ missed) }
+pub(crate) fn progressed(passed: bool, missed: bool, worked: bool) -> Progress
+    ensures { (result.passed ≡ passed) × (result.missed ≡ missed) × (result.worked ≡ worked) }
 {
-    Went { passed, missed }
+    Progress {
+        passed,
+        missed,
+        worked,
+    }
 }

@@ -1,6 +1,6 @@
 -- A run of a tree: what was handed down, and End.
 use Rattle.std.proofs.Common.{◌≡◌, ◌≢◌, ◌<◌, ℕ, zero, suc, Bool, true, false, List, [], ◌∷◌, ◌++◌, map, length, take, drop, slice_get, Option, Some, None, refl, sym, ◌∙◌, ap, subst, arith, if◌then◌else◌}
-use Rattle.std.specs.Prelude.{nat_lt}
+use Rattle.std.specs.Prelude.{nat_lt, ◌||◌}
 use Rattle.std.proofs.lemmas.Bool.Decides.{nat_tests}
 use Rattle.std.proofs.lemmas.List.{append-nil}
 use Rattle.la_base.specs.declared.samples.Run.{Run}
@@ -48,6 +48,11 @@ ends_some k some = let less : nat_lt 0 k ≡ true = grind (arith, nat_tests, som
     one : EndMark ∷ [] ≢ []
     one e = cc
 
+-- neither holds
+no_more : (one other : Bool) → (one || other) ≡ false → (one || false) ≡ false
+no_more true other is = is
+no_more false other is = refl
+
 no_ends : (j : ℕ) → (if nat_lt j 0 then EndMark ∷ [] else []) ≡ []
 no_ends j = let no : nat_lt j 0 ≡ false = grind (arith, nat_tests) in ap (λ (b : Bool). if b then EndMark ∷ [] else []) no
 
@@ -90,9 +95,9 @@ module _ {S : Type 0} (outputs : S → List Item → List Out) (near : S → Lis
 module _ {S : Type 0} (outputs : S → List Item → List Out) (near : S → List Item → ℕ) (setups : List S) (parents : List (Option ℕ)) (forest : IsForest parents) (count : length setups ≡ length parents)
     (keeps : (j : ℕ) → j < length parents → KeepsFront (whole_of outputs setups j))
     {before after : ℕ → List Item → Type 0} {g0 g1 : List (List Run) → Type 0} {t0 t1 : (ℕ → List Mark) → Type 0} (t2 : (ℕ → List Mark) → Type 0)
-    {done : Bool} (f : FedRuns done (defined outputs near setups) before after parents g0 g1 t0 t1) (at_end : Bool) (result : RunEnd) (k : ℕ) (whole_at_end : at_end ≡ done)
-    (ends : TookEnds t1 t2 k) (by_end : (j : ℕ) → nat_lt j k ≡ true → done ≡ true) (all : result ≡ Ended → (done ≡ true) × ((j : ℕ) → j < length parents → nat_lt j k ≡ true))
-    (some_end : result ≡ Stopped → done ≡ true → 0 < k) (no_end : done ≡ false → k ≡ 0) where
+    {done : Bool} (f : FedRuns done (defined outputs near setups) before after parents g0 g1 t0 t1) (at_end paused : Bool) (result : RunEnd) (k : ℕ) (whole_at_end : (at_end || paused) ≡ done)
+    (ends : TookEnds t1 t2 k) (by_end : (j : ℕ) → nat_lt j k ≡ true → (done ≡ true) × (at_end ≡ true)) (all : result ≡ Ended → (done ≡ true) × ((j : ℕ) → j < length parents → nat_lt j k ≡ true))
+    (some_end : result ≡ Stopped → done ≡ true → paused ≡ false → 0 < k) (no_end : done ≡ false → k ≡ 0) (no_pause : paused ≡ true → k ≡ 0) where
   abbrev c : Change
   c = f.hands.change
 
@@ -123,12 +128,12 @@ module _ {S : Type 0} (outputs : S → List Item → List Out) (near : S → Lis
           made = refl;
           no_end = (f.hands.each j).no_end;
           adds = t.1;
-          shows = reaches_closed (nat_lt j k) done _ _ (by_end j) t.2;
+          shows = reaches_closed (nat_lt j k) done _ _ (λ e. (by_end j e).0) t.2;
           floors = t.3;
           floored =
-              front_weaker (whole_of outputs setups j) (near_of near setups j) (nat_lt j k) done (input_of_all samples j) (feeds_on outputs setups parents samples f.lists j) (c.marks j) (by_end j)
+              front_weaker (whole_of outputs setups j) (near_of near setups j) (nat_lt j k) done (input_of_all samples j) (feeds_on outputs setups parents samples f.lists j) (c.marks j) (λ e. (by_end j e).0)
               (floored_by outputs near setups parents forest count keeps samples stood f.lists c f.hands.down gave f.hands.handed j within);
-          whole_at_end = λ e. whole_at_end ∙ by_end j e;
+          whole_at_end = λ e. (by_end j e).1;
           closes = λ e. (all e).1 j within;
         }
 
@@ -136,6 +141,7 @@ module _ {S : Type 0} (outputs : S → List Item → List Out) (near : S → Lis
     stopped_in true d is = record {
       done = f.lists;
       left = [];
+      paused = paused;
       split = sym (append-nil f.lists);
       last = subst (λ (b : Bool). LeftBy b []) (sym (whole_at_end ∙ d)) refl;
       front = c.marks;
@@ -145,22 +151,25 @@ module _ {S : Type 0} (outputs : S → List Item → List Out) (near : S → Lis
           let front = front_weaker (whole_of outputs setups j) (near_of near setups j) true done (input_of_all samples j) (feeds_on outputs setups parents samples f.lists j) (c.marks j) (λ _. d)
           (floored_by outputs near setups parents forest count keeps samples stood f.lists c f.hands.down gave f.hands.handed j within) in
           subst (Floored (whole_of outputs setups j) (near_of near setups j) (input_of_all samples j) (feeds_on outputs setups parents samples f.lists j)) (sym front.1) front.2;
-      some = (0, ends_some k (some_end is d));
+      some = λ still. (0, ends_some k (some_end is d still));
+      none = λ stopped j. ap (λ (n : ℕ). if nat_lt j n then EndMark ∷ [] else []) (no_pause stopped) ∙ no_ends j;
     }
     stopped_in false d is =
         let b = f.broken d in
         record {
           done = b.done;
           left = b.last ∷ [];
+          paused = false;
           split = b.split;
-          last = subst (λ (e : Bool). LeftBy e (b.last ∷ [])) (sym (whole_at_end ∙ d)) (b.last, refl);
+          last = subst (λ (e : Bool). LeftBy e (b.last ∷ [])) (sym (no_more at_end paused (whole_at_end ∙ d))) (b.last, refl);
           front = b.front.marks;
           back = b.back;
           made = λ j. ap (λ (n : ℕ). c.marks j ++ (if nat_lt j n then EndMark ∷ [] else [])) (no_end d) ∙ ap (λ (l : List Mark). c.marks j ++ l) (no_ends j) ∙ append-nil (c.marks j) ∙ b.made j;
           handed = λ j within.
               let front = floored_by outputs near setups parents forest count keeps samples stood b.done b.front b.down b.gives b.handed j within in
               subst (Floored (whole_of outputs setups j) (near_of near setups j) (input_of_all samples j) (feeds_on outputs setups parents samples b.done j)) (sym front.1) front.2;
-          some = b.some;
+          some = λ _. b.some;
+          none = λ bad. absurd cc;
         }
 
   pub runs_on : RunsOn outputs near setups parents before after g0 g1 t0 t2 at_end result

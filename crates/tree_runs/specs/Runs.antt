@@ -1,6 +1,7 @@
 -- What a run of a tree of decoders gives: for each instance the notes and pieces of its definition
 -- on its whole input.
-use Rattle.std.specs.Prelude.{ℕ, ◌≡◌, ◌<◌, ◌≢◌, drop, nat_lt, Bool, true, false, if◌then◌else◌}
+use Rattle.std.specs.Prelude.{ℕ, ◌≡◌, ◌<◌, ◌≢◌, drop, nat_lt, ◌||◌, Bool, true, false}
+use Rattle.std.specs.Prelude.{if◌then◌else◌}
 use Rattle.std.specs.Prelude.{List, [], ◌∷◌, ◌++◌, map, length, slice_get, Option, Some, None}
 use Rattle.la_base.specs.Runs.{samples_of}
 use Rattle.la_base.specs.declared.samples.Run.{Run}
@@ -109,7 +110,8 @@ abbrev pub is_ended : RunEnd → Bool
 is_ended Ended = true
 is_ended Stopped = false
 
--- what was given and not handed on whole: nothing, where the feed was at its end; else one list
+-- what was given and not handed on whole: nothing, where it was stopped at the end of the feed or in a
+-- pause; else one list
 abbrev pub LeftBy : Bool → List (List Run) → Type 0
 LeftBy true left = left ≡ []
 LeftBy false left = (last : List Run) × (left ≡ last ∷ [])
@@ -138,21 +140,23 @@ module _ {S : Type 0} (outputs : S → List Item → List Out) (near : S → Lis
   feeds samples lists j = feeds_on outputs setups parents samples lists j
 
   -- where a run was stopped: these lists were handed on whole, and behind their marks some mark was
-  -- taken. The feed wasn't read on: of one that isn't at its end only the list is left in which it
-  -- was stopped
+  -- taken, at which it was stopped; or none was, and it was stopped in a pause. The feed wasn't read
+  -- on: where it isn't at its end, only the list is left in which it was stopped at a mark
   pub record StoppedIn (samples : List ℕ) (lists : List (List Run)) (at_end : Bool)
       (marks : ℕ → List Mark) : Type 0 where
     pub done : List (List Run)
     pub left : List (List Run)
+    pub paused : Bool
     pub split : lists ≡ done ++ left
-    pub last : LeftBy at_end left
+    pub last : LeftBy (at_end || paused) left
     pub front : ℕ → List Mark
     pub back : ℕ → List Mark
     pub made : (j : ℕ) → marks j ≡ front j ++ back j
     pub handed : (j : ℕ) → j < length parents
         → Floored (whole_of outputs setups j) (near_of near setups j) (input samples j)
         (feeds samples done j) (front j)
-    pub some : (j : ℕ) × (back j ≢ [])
+    pub some : paused ≡ false → (j : ℕ) × (back j ≢ [])
+    pub none : paused ≡ true → (j : ℕ) → back j ≡ []
 
   -- a run of the tree: the lists of runs that the feed gave, the marks that were taken, and what
   -- they are, behind any samples that the instances stood for

@@ -1,5 +1,5 @@
 // A bus with two EEPROMs: its samples, and what takes the marks of its decoders.
-ghost use Rattle.std.specs.Prelude.{◌≡◌, ◌≤◌, ◌^◌};
+ghost use Rattle.std.specs.Prelude.{◌≡◌, ◌≤◌, ◌^◌, []};
 
 use decoder_set::{AnyDecoder, Kind, MOST_OPTIONS, OptValues};
 use la_base::{Mark, Rate, Run, Word};
@@ -58,6 +58,13 @@ impl Samples {
             held: Vec::new(alloc),
             ended: false,
         })
+    }
+
+    /// Lets go what was given last.
+    pub fn let_go(&mut self)
+        ensures { self.new.held.items ≡ [] }
+    {
+        self.held.clear();
     }
 }
 

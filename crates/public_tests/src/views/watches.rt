@@ -6,6 +6,7 @@ ghost use Rattle.view_store.specs.Views.{pending, published};
 
 use crate::listers::two_lines;
 use crate::stacks::word;
+use crossbeam_utils::sync::EventCount;
 use la_base::{Mark, NoMemory, Note};
 use la_io::{MarkTake, MemSink};
 use note_lister::{ListStop, Lister, Watch};
@@ -49,7 +50,8 @@ fn counts<R: Wait>(
     requires pending { pending writer.old ≡ nothing }
     requires published { published writer.old ≡ nothing }
 {
-    let mut watch = ShelfWatch::new(rt, writer);
+    let shown = EventCount::new();
+    let mut watch = ShelfWatch::new(rt, writer, &shown);
     show(&mut watch, 1024)?;
     let many = reader.ask(rt, 0, u64::MAX)?;
     show(&mut watch, 1)?;
@@ -99,7 +101,8 @@ fn list<R: Wait>(
     requires pending { pending writer.old ≡ nothing }
     requires published { published writer.old ≡ nothing }
 {
-    let mut lister = Lister::new(alloc, stack, sink, ShelfWatch::new(rt, writer))?;
+    let shown = EventCount::new();
+    let mut lister = Lister::new(alloc, stack, sink, ShelfWatch::new(rt, writer, &shown))?;
     let _ = lister.take(1, Mark::Note(byte(5, 65)));
     let _ = lister.take(0, Mark::Note(byte(7, 65)));
     let _ = lister.take(1, Mark::Note(byte(30, 65)));

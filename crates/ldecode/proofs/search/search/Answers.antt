@@ -42,7 +42,7 @@ returns-clause-works g c =
     let lists = c.find_buffered.ensures.finds opens.bytes opens.opened.0 opens.opened.1 (c.select.ensures.stands opens.bytes opens.opened.0 opens.opened.2) in
     subst (λ (status : Status). WorksOn _ values (g.S.Source.left c.args.source.now) (g.S.Source.left c.find_buffered.new.source) (g.K.Sink.written c.args.sink.now) (g.K.Sink.written c.find_buffered.new.sink) status) (sym c.from.ensures)
     (search_ends _ values c.form_of.result c.form_of.ensures.named (inl c.requires.job) (g.S.Source.left c.args.source.now) (g.S.Source.left c.open.new.source) (g.K.Sink.written c.args.sink.now) capture opens now wanted.pins.items
-    (c.select.ensures.form ∙ c.in-Ok.ensures.form) c.select.ensures.pins (g.S.Source.left c.find_buffered.new.source) (g.K.Sink.written c.find_buffered.new.sink) (cond_alts wanted.cond) c.find_buffered.result asks lists)
+    (c.select.ensures.form ∙ c.in-Ok.ensures.form) c.select.ensures.pins (g.S.Source.left c.find_buffered.new.source) (g.K.Sink.written c.find_buffered.new.sink) (cond_alts wanted.cond) c.find_buffered.result asks c.find_buffered.ensures.memory lists)
 
 pub returns-in-Err-Fault-clause-unread : goal.returns-in-Err-Fault-clause-unread
 returns-in-Err-Fault-clause-unread g c = λ names. c.in-Ok.ensures.unread (no_head_here (meaning_of c.args.settings.now) c.form_of.result c.form_of.ensures.named names)

@@ -3,8 +3,8 @@ use Rattle.tree_runs.specs.Runs.{FedRuns}
 use Rattle.stack_direct.specs.Trees.{GoesStill, SameTree, TakesAll, defined_in, parents_of, stand_in}
 use Rattle.stack_direct.proofs.run.feed_all.Given as goal
 
-abbrev pub invariant-loop-outs : goal.invariant-loop-outs
-invariant-loop-outs g l =
+abbrev pub invariant-loop-tree : goal.invariant-loop-tree
+invariant-loop-tree g l =
     let m = g.M.Machine in
     let f = g.F.RunFeed in
     let t = g.G.MarkTake in
@@ -17,5 +17,5 @@ invariant-loop-outs g l =
       takes : GoesStill t l.fn.take l.take;
     }
 
-abbrev pub decreases-loop-outs : goal.decreases-loop-outs
-decreases-loop-outs g l = 2 ^ 60 - g.F.RunFeed.given l.feed
+abbrev pub decreases-loop-tree : goal.decreases-loop-tree
+decreases-loop-tree g l = 2 ^ 60 - g.F.RunFeed.given l.feed

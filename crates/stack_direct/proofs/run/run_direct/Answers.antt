@@ -1,13 +1,35 @@
-use Rattle.std.proofs.Common.{◌≡◌, ◌∙◌, List, true, false, length, map, refl, subst, arith, rules}
-use Rattle.std.specs.Prelude.{nat_lt}
+use Rattle.std.proofs.Common.{◌≡◌, ◌∙◌, ℕ, List, Option, Bool, Err, true, false, ap, length, map, refl, subst, arith, rules}
+use Rattle.std.specs.Prelude.{nat_lt, ◌||◌}
 use Rattle.std.proofs.lemmas.Bool.Decides.{nat_tests}
 use Rattle.std.proofs.lemmas.List.{length-map}
 use Rattle.decoder_core.specs.declared.end.RunEnd.TheVariants.{Ended, Stopped}
-use Rattle.tree_runs.specs.Machines.{Stand}
-use Rattle.tree_runs.specs.Runs.{RunsOn}
+use Rattle.la_base.specs.declared.samples.Run.{Run}
+use Rattle.la_base.specs.declared.wires.Mark.{Mark}
+use Rattle.decoder_core.specs.Inputs.{Item}
+use Rattle.tree_runs.specs.Machines.{Definitions, Stand}
+use Rattle.tree_runs.specs.Runs.{FedRuns, RunsOn}
+use Rattle.stack_direct.specs.Trees.{handed_whole}
 use Rattle.tree_runs.proofs.Ending.{keeps_at, runs_on}
 use Rattle.tree_runs.proofs.Running.{ends_none}
 use Rattle.stack_direct.proofs.run.run_direct.Goals as goal
+
+-- the feed's end, or none, and no pause
+whole_end : (at_end : Bool) → at_end ≡ true → (at_end || false) ≡ true
+whole_end true is = refl
+whole_end false is = is
+
+broken_end : (at_end : Bool) → at_end ≡ false → (at_end || false) ≡ false
+broken_end true is = is
+broken_end false is = refl
+
+or_paused : (at_end : Bool) → (at_end || true) ≡ true
+or_paused true = refl
+or_paused false = refl
+
+-- the same, where the answer is known
+fed_done : {done now : Bool} {by : Definitions} {before after : ℕ → List Item → Type 0} {parents : List (Option ℕ)} {g0 g1 : List (List Run) → Type 0} {t0 t1 : (ℕ → List Mark) → Type 0}
+    → done ≡ now → FedRuns done by before after parents g0 g1 t0 t1 → FedRuns now by before after parents g0 g1 t0 t1
+fed_done {by = by} {before = before} {after = after} {parents = parents} {g0 = g0} {g1 = g1} {t0 = t0} {t1 = t1} is fed = subst (λ (b : Bool). FedRuns b by before after parents g0 g1 t0 t1) is fed
 
 pub returns-in-Ok-end_all-clause-runs : goal.returns-in-Ok-end_all-clause-runs
 returns-in-Ok-end_all-clause-runs g c =
@@ -17,33 +39,49 @@ returns-in-Ok-end_all-clause-runs g c =
     let all : ends.0 ≡ length c.args.parents.now = ends.2 in
     subst (λ (l : List g.row.M.Denot). RunsOn m.outputs m.near (map m.setup ms) c.args.parents.now (Stand m.consumed ms) (Stand m.consumed l) (g.F.RunFeed.gave c.args.feed.now) (g.F.RunFeed.gave c.feed_all.new.feed) (g.G.MarkTake.took c.args.take.now) (g.G.MarkTake.took c.end_all.new.take) (g.F.RunFeed.at_end c.feed_all.new.feed) Ended) (search (rules, c.in-Ok.ensures.same.machines))
     (runs_on m.outputs m.near (map m.setup ms) c.args.parents.now c.requires.tree.forest (length-map ms m.setup ∙ c.requires.tree.each) (λ j within. keeps_at m.setup m.outputs g.met.M.Machine.prefix ms j (omega (arith, within, c.requires.tree.each)))
-    (g.G.MarkTake.took c.end_all.new.take) c.in-Ok.ensures.feeds (g.F.RunFeed.at_end c.feed_all.new.feed) Ended ends.0 c.in-Ok.ensures.at_end ends.4
-    (λ j e. refl)
+    (g.G.MarkTake.took c.end_all.new.take) c.in-Ok.ensures.feeds (g.F.RunFeed.at_end c.feed_all.new.feed) false Ended ends.0 (whole_end _ c.in-Ok.ensures.at_end) ends.4
+    (λ j e. (refl, c.in-Ok.ensures.at_end))
     (λ e. (refl, λ j within. let test : nat_lt j ends.0 ≡ true = grind (arith, nat_tests, all, within) in test))
     (λ e. absurd cc)
-    (λ d. absurd cc))
-
-pub returns-in-Err-end_all-clause-runs : goal.returns-in-Err-end_all-clause-runs
-returns-in-Err-end_all-clause-runs g c =
-    let m = g.M.Machine in
-    let ms = c.args.machines.now in
-    let ends = c.in-Err-end_all.ensures.took in
-    subst (λ (l : List g.row.M.Denot). RunsOn m.outputs m.near (map m.setup ms) c.args.parents.now (Stand m.consumed ms) (Stand m.consumed l) (g.F.RunFeed.gave c.args.feed.now) (g.F.RunFeed.gave c.feed_all.new.feed) (g.G.MarkTake.took c.args.take.now) (g.G.MarkTake.took c.end_all.new.take) (g.F.RunFeed.at_end c.feed_all.new.feed) Stopped) (search (rules, c.in-Ok.ensures.same.machines))
-    (runs_on m.outputs m.near (map m.setup ms) c.args.parents.now c.requires.tree.forest (length-map ms m.setup ∙ c.requires.tree.each) (λ j within. keeps_at m.setup m.outputs g.met.M.Machine.prefix ms j (omega (arith, within, c.requires.tree.each)))
-    (g.G.MarkTake.took c.end_all.new.take) c.in-Ok.ensures.feeds (g.F.RunFeed.at_end c.feed_all.new.feed) Stopped ends.0 c.in-Ok.ensures.at_end ends.4
-    (λ j e. refl)
-    (λ e. absurd cc)
-    (λ e d. ends.3)
-    (λ d. absurd cc))
+    (λ d. absurd cc)
+    (λ paused. absurd cc))
 
 pub returns-in-Err-clause-runs : goal.returns-in-Err-clause-runs
 returns-in-Err-clause-runs g c =
     let m = g.M.Machine in
     let ms = c.args.machines.now in
-    subst (λ (l : List g.row.M.Denot). RunsOn m.outputs m.near (map m.setup ms) c.args.parents.now (Stand m.consumed ms) (Stand m.consumed l) (g.F.RunFeed.gave c.args.feed.now) (g.F.RunFeed.gave c.feed_all.new.feed) (g.G.MarkTake.took c.args.take.now) (g.G.MarkTake.took c.feed_all.new.take) (g.F.RunFeed.at_end c.feed_all.new.feed) Stopped) (search (rules, c.in-Err.ensures.same.machines))
+    let ends = c.in-Err.ensures.took in
+    subst (λ (l : List g.row.M.Denot). RunsOn m.outputs m.near (map m.setup ms) c.args.parents.now (Stand m.consumed ms) (Stand m.consumed l) (g.F.RunFeed.gave c.args.feed.now) (g.F.RunFeed.gave c.feed_all.new.feed) (g.G.MarkTake.took c.args.take.now) (g.G.MarkTake.took c.end_all.new.take) (g.F.RunFeed.at_end c.feed_all.new.feed) Stopped) (search (rules, c.in-Ok.ensures.same.machines))
     (runs_on m.outputs m.near (map m.setup ms) c.args.parents.now c.requires.tree.forest (length-map ms m.setup ∙ c.requires.tree.each) (λ j within. keeps_at m.setup m.outputs g.met.M.Machine.prefix ms j (omega (arith, within, c.requires.tree.each)))
-    (g.G.MarkTake.took c.feed_all.new.take) c.in-Err.ensures.feeds (g.F.RunFeed.at_end c.feed_all.new.feed) Stopped 0 c.in-Err.ensures.at_end (ends_none (g.G.MarkTake.took c.feed_all.new.take))
+    (g.G.MarkTake.took c.end_all.new.take) c.in-Ok.ensures.feeds (g.F.RunFeed.at_end c.feed_all.new.feed) false Stopped ends.0 (whole_end _ c.in-Ok.ensures.at_end) ends.4
+    (λ j e. (refl, c.in-Ok.ensures.at_end))
+    (λ e. absurd cc)
+    (λ e d still. ends.3)
+    (λ d. absurd cc)
+    (λ paused. absurd cc))
+
+pub returns-in-Err-AtMark-clause-runs : goal.returns-in-Err-AtMark-clause-runs
+returns-in-Err-AtMark-clause-runs g c =
+    let m = g.M.Machine in
+    let ms = c.args.machines.now in
+    subst (λ (l : List g.row.M.Denot). RunsOn m.outputs m.near (map m.setup ms) c.args.parents.now (Stand m.consumed ms) (Stand m.consumed l) (g.F.RunFeed.gave c.args.feed.now) (g.F.RunFeed.gave c.feed_all.new.feed) (g.G.MarkTake.took c.args.take.now) (g.G.MarkTake.took c.feed_all.new.take) (g.F.RunFeed.at_end c.feed_all.new.feed) Stopped) (search (rules, c.in-Err-AtMark.ensures.same.machines))
+    (runs_on m.outputs m.near (map m.setup ms) c.args.parents.now c.requires.tree.forest (length-map ms m.setup ∙ c.requires.tree.each) (λ j within. keeps_at m.setup m.outputs g.met.M.Machine.prefix ms j (omega (arith, within, c.requires.tree.each)))
+    (g.G.MarkTake.took c.feed_all.new.take) (fed_done (ap (λ h. handed_whole (Err h)) c.in-Err-AtMark.field-0-is) c.in-Err-AtMark.ensures.feeds) (g.F.RunFeed.at_end c.feed_all.new.feed) false Stopped 0 (broken_end _ (c.in-Err-AtMark.ensures.not_at_end (ap (λ h. Err h) c.in-Err-AtMark.field-0-is))) (ends_none (g.G.MarkTake.took c.feed_all.new.take))
     (λ j e. let no : nat_lt j 0 ≡ false = grind (arith, nat_tests) in absurd cc)
     (λ e. absurd cc)
     (λ e d. absurd cc)
-    (λ d. refl))
+    (λ d. refl)
+    (λ paused. absurd cc))
+
+pub returns-in-Err-InPause-clause-runs : goal.returns-in-Err-InPause-clause-runs
+returns-in-Err-InPause-clause-runs g c =
+    let m = g.M.Machine in
+    let ms = c.args.machines.now in
+    subst (λ (l : List g.row.M.Denot). RunsOn m.outputs m.near (map m.setup ms) c.args.parents.now (Stand m.consumed ms) (Stand m.consumed l) (g.F.RunFeed.gave c.args.feed.now) (g.F.RunFeed.gave c.feed_all.new.feed) (g.G.MarkTake.took c.args.take.now) (g.G.MarkTake.took c.feed_all.new.take) (g.F.RunFeed.at_end c.feed_all.new.feed) Stopped) (search (rules, c.in-Err-InPause.ensures.same.machines))
+    (runs_on m.outputs m.near (map m.setup ms) c.args.parents.now c.requires.tree.forest (length-map ms m.setup ∙ c.requires.tree.each) (λ j within. keeps_at m.setup m.outputs g.met.M.Machine.prefix ms j (omega (arith, within, c.requires.tree.each)))
+    (g.G.MarkTake.took c.feed_all.new.take) (fed_done (ap (λ h. handed_whole (Err h)) c.in-Err-InPause.field-0-is) c.in-Err-InPause.ensures.feeds) (g.F.RunFeed.at_end c.feed_all.new.feed) true Stopped 0 (or_paused (g.F.RunFeed.at_end c.feed_all.new.feed)) (ends_none (g.G.MarkTake.took c.feed_all.new.take))
+    (λ j e. let no : nat_lt j 0 ≡ false = grind (arith, nat_tests) in absurd cc)
+    (λ e. absurd cc)
+    (λ e d still. absurd cc)
+    (λ d. absurd cc)
+    (λ paused. refl))

@@ -3,7 +3,7 @@ use Rattle.std.proofs.lemmas.List.{length-map}
 use Rattle.stage_ring.specs.Link.{received, sent}
 use Rattle.stage_crew.proofs.Each.{each_same, each_then}
 use Rattle.stage_crew.proofs.Driving.{collects, kept_next, kept_none}
-use Rattle.stage_crew.proofs.Gathering.{gathers_paused, gathers_then}
+use Rattle.stage_crew.proofs.Gathering.{gathers_then}
 use Rattle.stage_crew.proofs.driver.drive.Goals as goal
 
 pub loop-init : goal.loop-init
@@ -31,7 +31,7 @@ loop-preserved g c =
       tt,
       tt,
       record {
-        kept = kept_next g.G.MarkTake i.kept (gathers_then g.G.MarkTake q.gathers (gathers_paused g.G.MarkTake c.gather_all-gathered.new.self (map received c.gather_all-gathered.new.marks.items) c.let_read.ensures)) t.untold;
+        kept = kept_next g.G.MarkTake i.kept (gathers_then g.G.MarkTake q.gathers (c.let_read.ensures (map received c.gather_all-gathered.new.marks.items))) t.untold;
         marks_same = q.links ∙ i.marks_same;
         stop_same = t.link ∙ i.stop_same;
         len = q.len ∙ i.len;
@@ -41,6 +41,15 @@ loop-preserved g c =
         own_len = c.turn_own-turned.ensures.len ∙ i.own_len;
       },
     )
+
+pub finish-requires : goal.finish-requires
+finish-requires g c =
+    let i = c.loop.invariant.2 in
+    let q = c.gather_all-gathered.ensures in
+    let kept = kept_next g.G.MarkTake i.kept (gathers_then g.G.MarkTake q.gathers (c.let_read.ensures (map received c.gather_all-gathered.new.marks.items))) c.tell_stop.ensures.untold in
+    let same = kept.takes.instances in
+    let count = c.len-then-all_over.ensures in
+    omega (arith, same, count, q.len, i.len, c.requires.marks.0)
 
 pub returns-then-all_over-clause-readers : goal.returns-then-all_over-clause-readers
 returns-then-all_over-clause-readers g c = each_then g.D.Turns.goes_on c.turns_go_on.ensures.on c.args.readers.now.items c.loop.readers.items c.turn_own-read.new.own.items c.loop.invariant.2.readers_on c.turn_own-read.ensures.own
@@ -56,5 +65,5 @@ returns-then-all_over-clause-collects g c =
     let marks = c.gather_all-gathered.new.marks in
     let n : length (map received marks.items) ≡ c.len.result = length-map marks.items received ∙ sym marks.ok.0 ∙ sym c.len.ensures in
     let m : length (map received marks.items) ≡ c.len-then-all_over.result = length-map marks.items received ∙ sym marks.ok.0 ∙ sym c.len-then-all_over.ensures in
-    collects g.G.MarkTake c.finish.new.take c.finish.result e.0 (kept_next g.G.MarkTake i.kept q.gathers c.tell_stop.ensures.untold)
+    collects g.G.MarkTake c.finish.new.take c.finish.result e.0 (kept_next g.G.MarkTake i.kept (gathers_then g.G.MarkTake q.gathers (c.let_read.ensures (map received marks.items))) c.tell_stop.ensures.untold)
     (λ j less. c.if-all_over.ensures refl j (omega (arith, n, less))) e.4 e.3 (λ is. let k = e.2 is in (omega (arith, k.0, m), k.1)) c.finish.ensures.takes

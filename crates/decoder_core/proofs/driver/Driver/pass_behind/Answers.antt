@@ -1,7 +1,7 @@
-use Rattle.std.proofs.Common.{◌-◌, [], Some, map, replicate, refl, sym, ◌∙◌, ap, subst}
-use Rattle.std.proofs.lemmas.List.{append-nil}
+use Rattle.std.proofs.Common.{◌-◌, [], List, Some, length, map, replicate, refl, sym, ◌∙◌, ap, arith, subst}
+use Rattle.std.proofs.lemmas.List.{append-nil, length-replicate}
 use Rattle.la_base.specs.Samples.{samples}
-use Rattle.decoder_core.specs.Inputs.{Sample, counted_samples, left_feed, left_items}
+use Rattle.decoder_core.specs.Inputs.{Item, Sample, counted_samples, left_feed, left_items}
 use Rattle.decoder_core.specs.Driving.{Drives, StepsRuns}
 use Rattle.decoder_core.specs.declared.driver.Driver.{Driver}
 use Rattle.decoder_core.proofs.Counting.{map_equal}
@@ -34,3 +34,9 @@ pub returns-in-None-clause-steps : goal.returns-in-None-clause-steps
 returns-in-None-clause-steps g c =
     let run = c.args.run in
     rests_runs (map_equal (run.len - 1) run.value ∙ sym c.behind.ensures.rest ∙ ap (λ o. left_items (left_feed o)) c.in-None.is)
+
+pub returns-else-pass_rest-clause-few : goal.returns-else-pass_rest-clause-few
+returns-else-pass_rest-clause-few g c =
+    let run = c.args.run in
+    let same = ap (λ (l : List Item). length l) (sym (ap (λ o. left_items (left_feed o)) c.in-Some.is) ∙ c.behind.ensures.rest) in
+    omega (arith, same, length-replicate (run.len - 1) (Sample run.value))

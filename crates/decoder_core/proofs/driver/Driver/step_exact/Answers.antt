@@ -1,9 +1,9 @@
-use Rattle.std.proofs.Common.{◌-◌, ◌++◌, [], ℕ, List, None, replicate, sym, ◌∙◌, ap, subst}
+use Rattle.std.proofs.Common.{◌-◌, ◌++◌, [], ℕ, List, None, replicate, sym, ◌∙◌, ap, arith, subst}
 use Rattle.std.proofs.lemmas.List.{append-nil}
 use Rattle.la_base.specs.declared.wires.Out.{Out}
 use Rattle.decoder_core.specs.Driving.{Drives, StepsRuns}
 use Rattle.decoder_core.specs.Inputs.{Item, counted_samples}
-use Rattle.decoder_core.proofs.Trodden.{is_false, is_true, runs_then, walk_steps}
+use Rattle.decoder_core.proofs.Trodden.{is_false, is_true, runs_then, samples_behind, walk_steps}
 use Rattle.decoder_core.proofs.driver.Driver.step_exact.Goals as goal
 
 pub returns-then-not-walked-clause-steps : goal.returns-then-not-walked-clause-steps
@@ -39,3 +39,13 @@ returns-clause-steps g c =
     let Goes = λ (l : List ℕ) (o : List Out). StepsRuns (Drives m.stands m.alts s.machine s.waiter) (Drives m.stands m.alts new.machine new.waiter) (λ input. m.outs (g.L.Configured.setup s.machine) (counted_samples input)) l c.pass_behind.result o in
     subst (λ (l : List ℕ). Goes l into) (sym (treads.front (is_true c.walk_runs-walked.result.anew c.if-not-walked.false) run c.index-runs-walked.is))
     (subst (λ (o : List Out). Goes (treads.more ++ replicate (run.len - 1) run.value) o) (append-nil into) (runs_then there rest))
+
+pub returns-then-not-walked-clause-fewer : goal.returns-then-not-walked-clause-fewer
+returns-then-not-walked-clause-fewer g c = λ some. some
+
+pub returns-clause-fewer : goal.returns-clause-fewer
+returns-clause-fewer g c = λ some.
+    let runs = c.args.runs.now in
+    let run = c.index-runs-walked.result in
+    let all = samples_behind runs c.walk_runs-walked.result.count run c.index-runs-walked.is c.walk_runs-walked.ensures.within some in
+    omega (arith, all, run.not_empty, c.pass_behind.ensures.few)

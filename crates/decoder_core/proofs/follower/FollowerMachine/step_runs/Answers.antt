@@ -21,3 +21,6 @@ returns-clause-steps g c =
       gives = λ input d. ap (m.outs (g.D.Configured.setup s.machine)) (samples_passed wire input more) ∙ sym (append-nil (m.outs (g.D.Configured.setup s.machine) (counted_packets wire input)))
           ∙ ap (λ o. m.outs (g.D.Configured.setup s.machine) (counted_packets wire input) ++ o) (sym c.requires);
     }
+
+pub returns-clause-fewer : goal.returns-clause-fewer
+returns-clause-fewer g c = λ some. some

@@ -10,5 +10,5 @@ pub returns-then-now-len-clause-fans : goal.returns-then-now-len-clause-fans
 returns-then-now-len-clause-fans c = λ all f.
     let p = c.args.self.now in
     subst (λ (k : List Stretch). Fans (map sent c.hand_out-now.new.ends.items) k (record { child = 0; given = 0 }) all) (sym c.clear.ensures)
-    (fans_done (c.hand_out-now.ensures.fans all (subst (λ (k : List Stretch). Fans (map sent c.args.feeds.now.items) k p.handed all) (sym c.list.ensures) f))
+    (fans_done (c.hand_out-now.ensures.fans all (subst (λ (k : List Stretch). Fans (map sent c.args.feeds.now.items) k p.cursor all) (sym c.list.ensures) f))
     (omega (arith, length-map c.hand_out-now.new.ends.items sent, c.hand_out-now.new.ends.ok.0, c.if-now-len.true, c.len.ensures)))

@@ -3,13 +3,17 @@ use Rattle.std.specs.List.{All}
 use Rattle.la_base.specs.declared.samples.Run.{Run}
 use Rattle.stage_run.specs.Inputs.{stretch_of, upper_of}
 use Rattle.stage_run.specs.declared.input.Stretch.{Stretch}
-use Rattle.stage_crew.proofs.Pumping.{pumps_ask, pumps_end, pumps_fill, pumps_none, pumps_tell}
+use Rattle.stage_crew.proofs.Pumping.{pumps_end, pumps_fill, pumps_tell, pumps_then}
 use Rattle.stage_crew.proofs.pump.Pump.refill.Goals as goal
 
+pub look-requires-clause-all : goal.look-requires-clause-all
+look-requires-clause-all g c = omega (arith, c.if-self-runs.false, ap length c.runs-runs.ensures)
+
 pub returns : goal.returns
-returns g c = λ sents place.
-    let e = c.next_runs-more.ensures in
-    pumps_ask g.F.RunFeed c.args.feed.now c.args.self.now _ sents c.next_runs-more.new.self c.next_runs-more.result c.requires.free (omega (arith, c.if-self-runs.false, ap length c.runs-runs.ensures)) c.if-self.false e.more e.gives e.origin refl refl refl refl refl refl
+returns g c = λ sents. pumps_then g.F.RunFeed (c.look.ensures.pumps sents) (c.ask.ensures sents)
+
+pub returns-then-look : goal.returns-then-look
+returns-then-look g c = λ sents. c.look.ensures.pumps sents
 
 pub returns-then-upper-self : goal.returns-then-upper-self
 returns-then-upper-self g c = λ sents place.
@@ -35,5 +39,5 @@ returns-then-self g c = λ sents place.
     pumps_end g.F.RunFeed c.args.feed.now p _ sents place c.requires.free p.within (omega (arith, c.if-self-runs.false, ap length c.runs-runs.ensures)) c.if-self.true refl refl refl refl refl
     (c.push-then-self.ensures ∙ ap (λ (s : Stretch). p.row ++ s ∷ []) c.telling-then-self.ensures)
 
-pub returns-then-not-pass : goal.returns-then-not-pass
-returns-then-not-pass g c = λ sents place. pumps_none g.F.RunFeed c.args.feed.now c.args.self.now _ sents place refl
+pub returns-then-not-may_ask : goal.returns-then-not-may_ask
+returns-then-not-may_ask g c = λ sents. c.look.ensures.pumps sents

@@ -11,25 +11,11 @@ use Rattle.stage_run.specs.Boxes.{given_by, missed_by, served, sum}
 use Rattle.stage_run.specs.Rows.{Kept, waiting}
 use Rattle.stage_run.proofs.Counts.{acts_child}
 use Rattle.stage_run.proofs.Rows.{skipped}
-use Rattle.stage_run.proofs.Serving.{gives_rest, gives_some, served_none, served_past}
+use Rattle.stage_run.proofs.Serving.{gives_rest, gives_some}
 use Rattle.stage_run.proofs.outbox.Outbox.give_feeds.Goals as goal
 
 sent_of : (xs : List (Tx Feed)) (c : _) (tx : Tx Feed) → c < length xs → tx ≡ get_or xs c tx → sent tx ≡ get_or (map sent xs) c (sent tx)
 sent_of xs c tx low is = ap sent is ∙ sym (get_or-map sent xs c tx (sent tx) low)
-
-pub returns-then-self-len-clause-gives : goal.returns-then-self-len-clause-gives
-returns-then-self-len-clause-gives c =
-    let s = c.args.self.now in
-    let sents = map sent s.children.items in
-    let past : length sents ≤ s.place = omega (arith, length-map s.children.items sent, c.if-self-len.true, c.len.ensures, s.children.ok.0) in (
-      0,
-      [],
-      omega arith,
-      record {
-        may = tt;
-        is = ap (λ r. served 0 r sents) c.clear.ensures ∙ served_none 0 sents ∙ sym (served_past s.place s.fed sents past);
-      },
-    )
 
 pub returns-then-count-kept-clause-links : goal.returns-then-count-kept-clause-links
 returns-then-count-kept-clause-links c =
@@ -54,7 +40,7 @@ returns-then-count-kept-clause-gives c =
     let n = c.offer_some-count.result in
     let w = waiting s.fed in
     let is = c.waiting.ensures.list in
-    let low : s.place < length items = omega (arith, c.if-self-len.false, c.len.ensures, s.children.ok.0) in
+    let low : s.place < length items = omega (arith, s.served, s.for_children, c.requires.some, s.children.ok.0) in
     let lower : s.place < length (map sent items) = omega (arith, low, length-map items sent) in
     let row = c.skip.new.self in
     let some = gives_some s.place (take n w) (drop n w) s.fed row (map sent items) (sent tx) lower (sent_of items s.place tx low c.index_mut.ensures.value) (sym (take-append-drop n w))
@@ -76,7 +62,7 @@ returns-clause-gives c =
     let w = waiting s.fed in
     let is = c.waiting.ensures.list in
     let all : length w ≤ n = omega (arith, ap length is, ap length c.waiting-kept.ensures.list, c.if-count-kept.false) in
-    let low : s.place < length items = omega (arith, c.if-self-len.false, c.len.ensures, s.children.ok.0) in
+    let low : s.place < length items = omega (arith, s.served, s.for_children, c.requires.some, s.children.ok.0) in
     let lower : s.place < length (map sent items) = omega (arith, low, length-map items sent) in
     let row : Kept Feed = record { list = s.fed.list; at = length s.fed.list } in
     let none : waiting row ≡ [] = gone s.fed.list in
@@ -108,7 +94,7 @@ returns-then-count-kept-clause-act c =
     let kept = c.waiting-kept.result.now in
     let row = c.waiting.result.now in
     let same : length row ≡ length kept = ap length (c.waiting.ensures.list ∙ sym c.waiting-kept.ensures.list) in
-    let low : s.place < length items = omega (arith, c.if-self-len.false, c.len.ensures, s.children.ok.0) in
+    let low : s.place < length items = omega (arith, s.served, s.for_children, c.requires.some, s.children.ok.0) in
     let longer : length (sent new) ≡ length (sent tx) + n = omega (arith, ap length e.sent, length-append (sent tx) (take n row), length-take n row, e.within) in
     subst (λ a. Acts a (given_by s) (length (sent s.marks) + sum (map (λ t. length (sent t)) (set items s.place new))) (missed_by s) (tx_misses s.marks + sum (map tx_misses (set items s.place new)))) (sym c.act_of.ensures)
     (acts_child (length (sent s.marks)) (tx_misses s.marks) n (length kept) items s.place tx new low c.index_mut.ensures.value (omega (arith, e.within, same)) longer (e.misses ∙ ap (λ k. more_if (nat_lt n k) (tx_misses tx)) same))
@@ -125,7 +111,7 @@ returns-clause-act c =
     let row = c.waiting.result.now in
     let is = c.go_on.ensures.same in
     let same : length row ≡ length kept = ap length (c.waiting.ensures.list ∙ sym c.waiting-kept.ensures.list) in
-    let low : s.place < length items = omega (arith, c.if-self-len.false, c.len.ensures, s.children.ok.0) in
+    let low : s.place < length items = omega (arith, s.served, s.for_children, c.requires.some, s.children.ok.0) in
     let longer : length (sent new) ≡ length (sent tx) + n = omega (arith, ap length e.sent, length-append (sent tx) (take n row), length-take n row, e.within) in
     let given : given_by c.go_on.new.self ≡ length (sent s.marks) + sum (map (λ t. length (sent t)) (set items s.place new)) = λ i. length (sent (is.marks i)) + sum (map (λ t. length (sent t)) (is.children i).items) in
     let missed : missed_by c.go_on.new.self ≡ tx_misses s.marks + sum (map tx_misses (set items s.place new)) = λ i. tx_misses (is.marks i) + sum (map tx_misses (is.children i).items) in

@@ -1,4 +1,4 @@
-use Rattle.std.proofs.Common.{◌≡◌, ◌∙◌, ◌++◌, ◌∷◌, [], List, map, refl, sym, ap, arith}
+use Rattle.std.proofs.Common.{◌≡◌, ◌∙◌, ◌++◌, ◌∷◌, [], List, true, map, refl, sym, ap, arith}
 use Rattle.std.proofs.lemmas.List.{append-nil}
 use Rattle.la_base.specs.declared.wires.Feed.TheVariants.{End as EndFeed}
 use Rattle.la_base.specs.declared.wires.Mark.TheVariants.{End as EndMark}
@@ -6,6 +6,7 @@ use Rattle.decoder_core.specs.Inputs.{Item}
 use Rattle.stack_laws.specs.Feeds.{items_in}
 use Rattle.stack_laws.specs.Moves.{CloseUp, makes}
 use Rattle.stage_run.proofs.Coming.{idle_waits}
+use Rattle.stage_run.proofs.Lessening.{less_closed}
 use Rattle.stage_run.proofs.Making.{links_kept, one_of}
 use Rattle.stage_run.proofs.stage.Stage.close.Goals as goal
 
@@ -37,3 +38,6 @@ returns-clause-goes g c =
             },
           );
     }
+
+pub returns-clause-less : goal.returns-clause-less
+returns-clause-less g c = less_closed c.args.self.now (record c.args.self.now { outbox = c.end.new.self; closed = true }) refl refl c.requires.going refl

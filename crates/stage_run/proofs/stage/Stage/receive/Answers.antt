@@ -21,7 +21,7 @@ returns-else-count-eq0-clause-goes g c =
       links = links_to s.inbox.input _ s.outbox e.link.0 e.link.1;
       setup = refl;
       moves = λ start view v.
-          let took = took_all (whole_at m start s) (near_at m start s) more view (v.closed ∙ c.requires.going) in
+          let took = took_all (whole_at m start s) (near_at m start s) more view (v.closed ∙ c.requires.going) (v.told ∙ c.requires.told) in
           let all : items_in view.received ≡ view.consumed = v.left ∙ ap (λ (l : List Item). view.consumed ++ l) (idle_waits s.inbox c.requires.done) ∙ append-nil view.consumed in (
             map TakeIn more,
             omega (arith, length-map more TakeIn, e.came.1),
@@ -52,7 +52,7 @@ returns-then-count-eq0-clause-goes g c =
       links = links_to s.inbox.input _ s.outbox e.link.0 e.link.1;
       setup = refl;
       moves = λ start view v.
-          let took = took_all (whole_at m start s) (near_at m start s) more view (v.closed ∙ c.requires.going) in
+          let took = took_all (whole_at m start s) (near_at m start s) more view (v.closed ∙ c.requires.going) (v.told ∙ c.requires.told) in
           let all : items_in view.received ≡ view.consumed = v.left ∙ ap (λ (l : List Item). view.consumed ++ l) (idle_waits s.inbox c.requires.done) ∙ append-nil view.consumed in (
             map TakeIn more,
             omega (arith, length-map more TakeIn, e.came.1),

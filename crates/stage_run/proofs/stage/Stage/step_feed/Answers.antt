@@ -10,6 +10,7 @@ use Rattle.stack_laws.specs.Moves.{StepOn, makes}
 use Rattle.stage_run.specs.Boxes.{children_of, told_of}
 use Rattle.stage_run.specs.Rows.{waiting}
 use Rattle.stage_run.proofs.Behind.{behind_gives}
+use Rattle.stage_run.proofs.Lessening.{feeds_less}
 use Rattle.stage_run.proofs.Stepping.{feeds_step, first_is, left_on}
 use Rattle.stage_run.proofs.Making.{links_kept, makes_outs, one_of}
 use Rattle.stage_run.proofs.stage.Stage.step_feed.Goals as goal
@@ -50,3 +51,14 @@ returns-clause-goes g c =
             },
           );
     }
+
+pub returns-clause-less : goal.returns-clause-less
+returns-clause-less g c =
+    let s = c.args.self.now in
+    let e = c.step-left.ensures.step in
+    let w = waiting s.inbox.feeds in
+    let feed = c.index-waiting-0.result in
+    let runs = map Sample (samples_of (waiting s.inbox.runs)) in
+    let first = first_is w feed c.requires.some (c.index-waiting-0.is ∙ ap (λ (l : List Feed). get_or l 0 feed) c.waiting.ensures.list) in
+    let left = feeds_step w _ feed c.step-left.result e.front runs first (ap (λ (l : List Run). map Sample (samples_of l)) c.requires.no_runs) e.split c.skip_but.ensures in
+    feeds_less w _ feed c.step-left.result e.front _ _ first c.skip_but.ensures left e.split e.some e.more

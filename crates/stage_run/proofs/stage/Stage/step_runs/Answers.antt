@@ -1,7 +1,8 @@
-use Rattle.std.proofs.Common.{◌≡◌, ◌∙◌, ◌∷◌, ◌++◌, [], List, None, Some, map, take, refl, sym, ap, subst, arith, append_assoc}
+use Rattle.std.proofs.Common.{◌≡◌, ◌<◌, ◌∙◌, ◌∷◌, ◌++◌, [], List, None, Some, length, map, take, refl, sym, ap, subst, arith, append_assoc}
 use Rattle.la_base.specs.Runs.{samples_of}
 use Rattle.la_base.specs.declared.samples.Run.{Run}
 use Rattle.la_base.specs.declared.wires.Out.{Out}
+use Rattle.decoder_core.specs.Driving.{LeavesFewer}
 use Rattle.decoder_core.specs.Inputs.{Sample}
 use Rattle.decoder_core.specs.Marks.{marks_of}
 use Rattle.stack_laws.specs.Feeds.{feeds_of, items_in}
@@ -9,6 +10,7 @@ use Rattle.stack_laws.specs.Moves.{StepOn, makes}
 use Rattle.stage_run.specs.Boxes.{children_of, told_of}
 use Rattle.stage_run.specs.Rows.{waiting}
 use Rattle.stage_run.proofs.Behind.{behind_gives}
+use Rattle.stage_run.proofs.Lessening.{front_some, runs_less, some_taken}
 use Rattle.stage_run.proofs.Stepping.{left_on, runs_step}
 use Rattle.stage_run.proofs.Making.{links_kept, makes_outs, one_of}
 use Rattle.stage_run.proofs.stage.Stage.step_runs.Goals as goal
@@ -49,3 +51,17 @@ returns-clause-goes g c =
             },
           );
     }
+
+pub returns-clause-less : goal.returns-clause-less
+returns-clause-less g c =
+    let s = c.args.self.now in
+    let e = c.step_runs-taken.ensures in
+    let taken = c.step_runs-taken.result in
+    let w = waiting s.inbox.runs in
+    let feeds = waiting s.inbox.feeds in
+    let runs_is = c.waiting.ensures.list in
+    let split = ap (λ (l : List Run). map Sample (samples_of (take taken.count l))) (sym runs_is) ∙ e.steps.split in
+    let some = e.some (subst (λ (l : List Run). 0 < length l) (sym runs_is) c.requires.some) in
+    let fewer = subst (λ (l : List Run). LeavesFewer (samples_of (take taken.count l)) taken.rest) runs_is e.fewer in
+    let front = front_some (samples_of (take taken.count w)) taken.rest e.steps.front split (some_taken w taken.count c.requires.some some) fewer in
+    runs_less _ _ e.steps.front (length feeds) (runs_step w _ taken.count taken.rest e.steps.front (items_in feeds) split (c.skip_but.ensures ∙ ap (λ (l : List Run). l) refl)) front
