@@ -6,10 +6,10 @@ use Rattle.view_store.specs.declared.added.Added.TheVariants.{Note as NoteAdded,
 use Rattle.view_store.specs.declared.front.Front.{Front}
 use Rattle.view_store.specs.declared.store.Content.{Content}
 use Rattle.view_store.specs.declared.store.Change.{Change}
-use Rattle.view_store.specs.declared.store.Change.TheVariants.{Add as AddChange, End as EndChange, Keep as KeepChange}
+use Rattle.view_store.specs.declared.store.Change.TheVariants.{Add as AddChange, Keep as KeepChange}
 use Rattle.view_store.specs.Blocks.{notes_of_block}
 use Rattle.view_store.specs.declared.block.Block.{Block}
-use Rattle.view_store.specs.Listings.{notes_of, ended_of, is_empty, is_listing, listing_of, IsFront, GoesOn}
+use Rattle.view_store.specs.Listings.{notes_of, ended_of, is_end, is_empty, is_listing, listing_of, IsFront, GoesOn}
 use Rattle.view_store.specs.Stores.{with_change, Owes, IsTied}
 
 -- a change behind changes
@@ -32,15 +32,20 @@ ended_same [] note = refl
 ended_same (NoteAdded other ∷ log) note = ended_same log note
 ended_same (EndAdded ∷ log) note = refl
 
--- notes that have what was added, and then a note more; or its end
-pub owes_note : (before behind : List (ℕ × Note)) (ended : Bool) (log : List Added) (note : ℕ × Note) → Owes (before ++ behind) ended log → Owes (before ++ (behind ++ note ∷ [])) ended (log ++ NoteAdded note ∷ [])
-owes_note before behind ended log note owes = record {
+-- a listing that goes on is ended by its end alone
+pub ended_by : (log : List Added) (added : Added) → ended_of log ≡ false → is_end added ≡ ended_of (log ++ added ∷ [])
+ended_by log (NoteAdded note) going = sym (ended_same log note ∙ going)
+ended_by log EndAdded going = sym (ended_append log)
+
+-- notes that have what was added, and then a note more
+pub owes_note : (before behind : List (ℕ × Note)) (log : List Added) (note : ℕ × Note) → Owes (before ++ behind) log → Owes (before ++ (behind ++ note ∷ [])) (log ++ NoteAdded note ∷ [])
+owes_note before behind log note owes = record {
   notes = sym (append_assoc before behind (note ∷ [])) ∙ (ap (λ (l : List (ℕ × Note)). l ++ note ∷ []) owes.notes ∙ sym (notes_append log (NoteAdded note ∷ [])));
-  ended = owes.ended ∙ sym (ended_same log note);
 }
 
-pub owes_end : (notes : List (ℕ × Note)) (ended : Bool) (log : List Added) → Owes notes ended log → Owes notes true (log ++ EndAdded ∷ [])
-owes_end notes ended log owes = record { notes = owes.notes ∙ (sym (append-nil (notes_of log)) ∙ sym (notes_append log (EndAdded ∷ []))); ended = sym (ended_append log) }
+-- or the end
+pub end_added : (notes : List (ℕ × Note)) (log log' : List Added) → log' ≡ log ++ EndAdded ∷ [] → Owes notes log → Owes notes log'
+end_added notes log log' longer owes = rw longer (record { notes = owes.notes ∙ (sym (append-nil (notes_of log)) ∙ sym (notes_append log (EndAdded ∷ []))) })
 
 -- the listing to which a note, or the end, was added
 pub note_listed : (log : List Added) (note : ℕ × Note) → listing_of (log ++ NoteAdded note ∷ []) ≡ record (listing_of log) { notes = notes_of log ++ note ∷ [] }
@@ -85,23 +90,17 @@ length_listing (EndAdded ∷ log) legal = let none = empty_is log legal in rw no
 
 -- what a writer's changes make of the content that is shown
 module _ (shown shown' : Content) (changes changes' : List Change) (same : shown' ≡ shown) where
-  -- the end was added to the changes
-  pub end_added : (behind : List (ℕ × Note)) (log log' : List Added) → changes' ≡ changes ++ EndChange ∷ [] → log' ≡ log ++ EndAdded ∷ []
-      → Owes ((fold with_change shown changes).notes ++ behind) (fold with_change shown changes).ended log → Owes ((fold with_change shown' changes').notes ++ behind) (fold with_change shown' changes').ended log'
-  end_added behind log log' grown longer owes =
-      rw (same, grown, longer, fold_last with_change shown changes EndChange) (owes_end ((fold with_change shown changes).notes ++ behind) (fold with_change shown changes).ended log owes)
-
   -- a block was handed on
   pub block_added : (block : Block) (behind : List (ℕ × Note)) (log : List Added) → changes' ≡ changes ++ AddChange block ∷ []
-      → Owes ((fold with_change shown changes).notes ++ (notes_of_block block ++ behind)) (fold with_change shown changes).ended log → Owes ((fold with_change shown' changes').notes ++ behind) (fold with_change shown' changes').ended log
+      → Owes ((fold with_change shown changes).notes ++ (notes_of_block block ++ behind)) log → Owes ((fold with_change shown' changes').notes ++ behind) log
   block_added block behind log grown owes =
-      rw (same, grown, fold_last with_change shown changes (AddChange block)) (record { notes = append_assoc (fold with_change shown changes).notes (notes_of_block block) behind ∙ owes.notes; ended = owes.ended })
+      rw (same, grown, fold_last with_change shown changes (AddChange block)) (record { notes = append_assoc (fold with_change shown changes).notes (notes_of_block block) behind ∙ owes.notes })
 
   -- the history was kept
   pub front_kept : (front : Front) (behind : List (ℕ × Note)) (log : List Added) → changes' ≡ changes ++ KeepChange front ∷ []
-      → Owes ((fold with_change shown changes).notes ++ behind) (fold with_change shown changes).ended log → Owes ((fold with_change shown' changes').notes ++ behind) (fold with_change shown' changes').ended log
+      → Owes ((fold with_change shown changes).notes ++ behind) log → Owes ((fold with_change shown' changes').notes ++ behind) log
   front_kept front behind log grown owes =
-      rw (same, grown, fold_last with_change shown changes (KeepChange front)) (record { notes = owes.notes; ended = owes.ended })
+      rw (same, grown, fold_last with_change shown changes (KeepChange front)) (record { notes = owes.notes })
 
 pub on_ok : {A E P Q : Type 0} (result : Result A E) → (P → Q) → OnOk result P → OnOk result Q
 on_ok (Ok x) f p = f p
@@ -109,19 +108,19 @@ on_ok (Err e) f p = p
 
 -- where all that was added is in the changes, and then its history is kept, the content is tied to that history
 pub tied_after : (shown shown' next : Content) (changes changes' : List Change) (front front' : Front) (behind : List (ℕ × Note)) → behind ≡ [] → shown' ≡ shown → changes' ≡ changes ++ KeepChange front' ∷ [] → front'.seen ≡ front.seen
-    → Owes ((fold with_change shown changes).notes ++ behind) (fold with_change shown changes).ended front.seen.log → is_listing front.seen.log ≡ true → next ≡ fold with_change shown' changes' → IsTied next × (next.seen ≡ front.seen)
+    → Owes ((fold with_change shown changes).notes ++ behind) front.seen.log → is_listing front.seen.log ≡ true → next ≡ fold with_change shown' changes' → IsTied next × (next.seen ≡ front.seen)
 tied_after shown shown' next changes changes' front front' behind none same grown kept owes legal is =
     let before = fold with_change shown changes in
     let all : next ≡ record before { seen = front.seen } = is ∙ (rw (same, grown) (fold_last with_change shown changes (KeepChange front')) ∙ (λ i. record before { seen = kept i })) in
     let notes : before.notes ≡ notes_of front.seen.log = sym (append-nil before.notes) ∙ (ap (λ (l : List (ℕ × Note)). before.notes ++ l) (sym none) ∙ owes.notes) in
-    (rw all (record { owes = record { notes = notes; ended = owes.ended }; legal = legal }), ap (λ (c : Content). c.seen) all)
+    (rw all (record { owes = record { notes = notes }; legal = legal }), ap (λ (c : Content). c.seen) all)
 
 -- nothing was added
-pub blank_tied : (content : Content) → content.notes ≡ [] → content.ended ≡ false → content.seen.log ≡ [] → IsTied content
-blank_tied content notes ended log = record { owes = record { notes = notes ∙ sym (ap notes_of log); ended = ended ∙ sym (ap ended_of log) }; legal = ap is_listing log }
+pub blank_tied : (content : Content) → content.notes ≡ [] → content.seen.log ≡ [] → IsTied content
+blank_tied content notes log = record { owes = record { notes = notes ∙ sym (ap notes_of log) }; legal = ap is_listing log }
 
 -- a note was put behind those that wait
-pub note_added : (before held items items' : List (ℕ × Note)) (ended : Bool) (log log' : List Added) (note : ℕ × Note) → items' ≡ items ++ note ∷ [] → log' ≡ log ++ NoteAdded note ∷ []
-    → Owes (before ++ (held ++ items)) ended log → Owes (before ++ (held ++ items')) ended log'
-note_added before held items items' ended log log' note grown longer owes =
-    rw (grown, longer, sym (append_assoc held items (note ∷ []))) (owes_note before (held ++ items) ended log note owes)
+pub note_added : (before held items items' : List (ℕ × Note)) (log log' : List Added) (note : ℕ × Note) → items' ≡ items ++ note ∷ [] → log' ≡ log ++ NoteAdded note ∷ []
+    → Owes (before ++ (held ++ items)) log → Owes (before ++ (held ++ items')) log'
+note_added before held items items' log log' note grown longer owes =
+    rw (grown, longer, sym (append_assoc held items (note ∷ []))) (owes_note before (held ++ items) log note owes)

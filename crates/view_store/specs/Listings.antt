@@ -21,6 +21,10 @@ ended_of [] = false
 ended_of (NoteAdded note ∷ more) = ended_of more
 ended_of (EndAdded ∷ more) = true
 
+abbrev pub is_end : Added → Bool
+is_end (NoteAdded note) = false
+is_end EndAdded = true
+
 abbrev pub is_empty : List Added → Bool
 is_empty [] = true
 is_empty (added ∷ more) = false

@@ -1,5 +1,5 @@
 -- What a store has, how it changes, and the rule that it and what its threads know keep.
-use Rattle.std.specs.Prelude.{ℕ, ◌≡◌, Bool, true, List, ◌++◌, Option, Some}
+use Rattle.std.specs.Prelude.{ℕ, ◌≡◌, true, List, ◌++◌, Option, Some}
 use mathlib.Core.Option.{some}
 use lib.ListN.{get_elem?}
 use Rattle.logbook.specs.Pages.{Book}
@@ -9,32 +9,26 @@ use Rattle.view_store.specs.Blocks.{notes_in, notes_of_block}
 use Rattle.view_store.specs.declared.store.Store.{Store}
 use Rattle.view_store.specs.declared.store.Content.{Content}
 use Rattle.view_store.specs.declared.store.Change.{Change}
-use Rattle.view_store.specs.declared.store.Change.TheVariants.{Add, End, Keep}
+use Rattle.view_store.specs.declared.store.Change.TheVariants.{Add, Keep}
 use Rattle.view_store.specs.declared.rule.Name.{Name}
-use Rattle.view_store.specs.Listings.{is_listing, notes_of, ended_of}
+use Rattle.view_store.specs.Listings.{is_listing, notes_of}
 
 abbrev pub content_of : Store → Content
 content_of store =
-    record {
-      notes = notes_in store.blocks.items;
-      ended = store.ended;
-      seen = store.front.seen;
-    }
+    record { notes = notes_in store.blocks.items; seen = store.front.seen }
 
 -- a content after a change
 abbrev pub with_change : Content → Change → Content
 with_change content (Add block) = record content { notes = content.notes ++ notes_of_block block }
-with_change content End = record content { ended = true }
 with_change content (Keep front) = record content { seen = front.seen }
 
--- these are the notes and the end that were added
-pub record Owes (these : List (ℕ × Note)) (over : Bool) (log : List Added) : Type 0 where
+-- these are the notes that were added
+pub record Owes (these : List (ℕ × Note)) (log : List Added) : Type 0 where
   pub notes : these ≡ notes_of log
-  pub ended : over ≡ ended_of log
 
 -- a content has just what its history says
 pub record IsTied (content : Content) : Type 0 where
-  pub owes : Owes content.notes content.ended content.seen.log
+  pub owes : Owes content.notes content.seen.log
   pub legal : is_listing content.seen.log ≡ true
 
 -- which history it is

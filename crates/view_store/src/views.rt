@@ -45,8 +45,6 @@ pub struct ViewWriter {
     pub ghost owed: { Owes
         ((fold with_change (content_of writer.desk.shown.value)
         (drop writer.behind writer.log.items)).notes ++ (notes_held held ++ notes.items))
-        (fold with_change (content_of writer.desk.shown.value)
-        (drop writer.behind writer.log.items)).ended
         front.seen.log },
 }
 

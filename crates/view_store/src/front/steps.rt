@@ -1,12 +1,19 @@
 // What is done with a beginning of a history.
 ghost use Rattle.std.specs.Prelude.{◌≡◌, [], ◌∷◌, ◌++◌, true, false, IfSome, ◌≤◌, length};
-ghost use Rattle.view_store.specs.Listings.{IsFront, ended_of};
+ghost use Rattle.view_store.specs.Listings.{IsFront, ended_of, is_end};
 ghost use Rattle.view_store.specs.Histories.{head_of};
 
 use super::Front;
 use crate::added::Added;
 use crate::history::{Add, Beginning, Head, Law, Nothing};
 use logbook::{Offer, Seen, Start, Word};
+
+// Whether this is the end.
+fn is_end(added: &Added) -> bool
+    ensures { result ≡ is_end added.now }
+{
+    matches!(added, Added::End)
+}
 
 impl Front {
     /// A history to which nothing is added yet.
@@ -16,7 +23,12 @@ impl Front {
     {
         let (seen, mut first, _second) = Seen::open(Start::alone(), 0, 0);
         let head = Word::tracked(0, &mut first);
-        (Front { count: 0, seen }, head)
+        let front = Front {
+            count: 0,
+            ended: false,
+            seen,
+        };
+        (front, head)
     }
 
     /// A copy.
@@ -25,6 +37,7 @@ impl Front {
     {
         Front {
             count: self.count,
+            ended: self.ended,
             seen: self.seen.again(),
         }
     }
@@ -40,6 +53,7 @@ impl Front {
         if self.count == u64::MAX {
             return None;
         }
+        let ended = is_end(&added);
         let mut seen = self.seen.again();
         let mut offer: Offer<Added, u64, Law, Nothing> = seen.plain::<Nothing, Added, Add>(&added);
         let mut pen = seen.no_pen();
@@ -53,6 +67,7 @@ impl Front {
         if found == self.count {
             Some(Front {
                 count: self.count + 1,
+                ended,
                 seen,
             })
         } else {

@@ -21,10 +21,6 @@ impl Absorb<Change> for Store {
     fn absorb_first(&mut self, operation: &Change, _other: &Store) -> Result<(), AllocError> {
         match operation {
             Change::Add(block) => block.share(&mut self.blocks),
-            Change::End => {
-                self.ended = true;
-                Ok(())
-            }
             Change::Keep(front) => {
                 self.front = front.again();
                 Ok(())

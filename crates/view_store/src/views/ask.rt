@@ -2,8 +2,7 @@
 ghost use Rattle.std.specs.Prelude.{◌≡◌, ◌⊎◌, IfOk, OnErr, IfSome, length};
 ghost use Rattle.view_store.specs.Blocks.{notes_in};
 ghost use Rattle.std.specs.List.{filter};
-ghost use Rattle.view_store.specs.Listings.{GoesOn, IsFront, ended_of, is_between, listing_of};
-ghost use Rattle.view_store.specs.Listings.{notes_of};
+ghost use Rattle.view_store.specs.Listings.{GoesOn, IsFront, is_between, listing_of, notes_of};
 ghost use Rattle.view_store.specs.Stores.{IsTied, content_of};
 ghost use Rattle.view_store.specs.Views.{Answers, Asked, known, reader_shelf, told_listing};
 ghost use Rattle.view_store.specs.Views.{told_shelf};
@@ -20,18 +19,16 @@ use std::alloc::Global;
 use std::sync::Wait;
 use std::thread;
 
-// What was taken of a store for the notes of a range: the blocks in which there may be some,
-// whether it was ended, and its history.
+// What was taken of a store for the notes of a range: the blocks in which there may be some, and its
+// history.
 #[derive(Drop)]
 struct Taken {
     start: u64,
     end: u64,
     blocks: Vec<Block>,
-    ended: bool,
     front: Front,
     ghost found: { filter (is_between start end) (notes_in blocks.items)
         ≡ filter (is_between start end) (notes_of front.seen.log) },
-    ghost told: { ended ≡ ended_of front.seen.log },
 }
 
 // What is taken of a store; none where it isn't as long as what is known.
@@ -58,7 +55,6 @@ fn look(
                 start,
                 end,
                 blocks,
-                ended: store.ended,
                 front: store.front.again(),
             };
             Some(Ok(taken))
@@ -73,22 +69,21 @@ fn answered(alloc: Global, taken: Taken) -> Result<(Answer, Front), NoMemory>
         × Answers (listing_of taken.front.seen.log) taken.start taken.end t.0) }
 {
     let notes = between(alloc, &taken.blocks, taken.start, taken.end)?;
-    let seen = notes_added(&taken.front, taken.ended);
-    let Taken { front, ended, .. } = taken;
-    Ok((Answer { notes, seen, ended }, front))
+    let seen = notes_added(&taken.front);
+    let ended = taken.front.ended;
+    Ok((Answer { notes, seen, ended }, taken.front))
 }
 
 // How many notes were added.
-fn notes_added(front: &Front, ended: bool) -> u64
-    requires { ended ≡ ended_of front.now.seen.log }
+fn notes_added(front: &Front) -> u64
     ensures { result ≡ length (notes_of front.now.seen.log) }
 {
-    front.count - u64::from(ended)
+    front.count - u64::from(front.ended)
 }
 
 impl ViewReader {
     /// Asks for the notes that start in a range, both ends counted. What is answered is over one
-    /// listing that was published, which goes on from each that this reader saw or was told.
+    /// listing of its shelf, which goes on from each that this reader saw or was told.
     ///
     /// It fails where there is no memory, and then changes nothing. Where the writer is gone, it
     /// may wait for ever.

@@ -1,5 +1,5 @@
 // Makes a shelf.
-ghost use Rattle.std.specs.Prelude.{◌≡◌, ◌≤◌, ◌<◌, ◌+◌, [], false, All, IfOk, Some, vec_len};
+ghost use Rattle.std.specs.Prelude.{◌≡◌, ◌≤◌, ◌<◌, ◌+◌, [], All, IfOk, Some, vec_len};
 ghost use Rattle.std.specs.Prelude.{vec_capacity};
 ghost use Rattle.left_right.specs.Sides.{view};
 ghost use Rattle.view_store.specs.Listings.{nothing};
@@ -17,12 +17,10 @@ use std::sync::Wait;
 use std::thread;
 
 fn blank(alloc: Global, front: &Front) -> Store
-    ensures { (result.blocks.items ≡ []) × (result.ended ≡ false)
-        × (result.front.seen ≡ front.now.seen) }
+    ensures { (result.blocks.items ≡ []) × (result.front.seen ≡ front.now.seen) }
 {
     Store {
         blocks: Vec::new(alloc),
-        ended: false,
         front: front.again(),
     }
 }

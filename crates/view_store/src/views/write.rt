@@ -27,6 +27,10 @@ impl ViewWriter {
         }) }
         ensures err { OnErr result (pending self.new ≡ pending self.old) }
     {
+        // Room comes first, since what the history has got can't be taken back.
+        if self.notes.try_reserve(1).is_err() {
+            return Err(NoMemory);
+        }
         // Nobody else adds to the history, so it is as long as is known.
         let Some(front) = self
             .front
@@ -34,13 +38,9 @@ impl ViewWriter {
         else {
             return Err(NoMemory);
         };
-        match self.notes.push((instance, note)) {
-            Ok(()) => {
-                self.front = front;
-                Ok(())
-            }
-            Err(_) => Err(NoMemory),
-        }
+        self.notes.push_reserved((instance, note));
+        self.front = front;
+        Ok(())
     }
 
     // Hands notes that wait to the store, where there are as many as a block has.
@@ -69,7 +69,7 @@ impl ViewWriter {
         self.put(instance, note)
     }
 
-    /// Ends what is pending. It fails where there is no memory, and then changes nothing.
+    /// Ends what is pending. It takes no memory; where it fails it changes nothing.
     pub fn finish(&mut self) -> Result<(), NoMemory>
         requires { (pending self.old).ended ≡ false }
         ensures shelf { shelf_of self.new ≡ shelf_of self.old }
@@ -80,13 +80,8 @@ impl ViewWriter {
         let Some(front) = self.front.longer_by(&self.head, Added::End) else {
             return Err(NoMemory);
         };
-        match self.writer.append(Change::End) {
-            Ok(()) => {
-                self.front = front;
-                Ok(())
-            }
-            Err(_) => Err(NoMemory),
-        }
+        self.front = front;
+        Ok(())
     }
 
     // Makes a block of the notes, to be published next.
@@ -130,7 +125,7 @@ impl ViewWriter {
                     self.held = Some(block);
                     Err(NoMemory)
                 }
-                Err(Change::End) | Err(Change::Keep(_)) => Err(NoMemory),
+                Err(Change::Keep(_)) => Err(NoMemory),
             },
         }
     }

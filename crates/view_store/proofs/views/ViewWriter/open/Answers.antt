@@ -11,5 +11,5 @@ publish_as-requires g c next is =
     let blank = c.blank-first.ensures in
     let first = c.blank-first.result in
     let same : content_of next ≡ content_of first = is ∙ (ap (fold with_change (content_of c.in_ok-writer.writer.desk.shown.value)) made.1 ∙ ap content_of made.0) in
-    let tied = blank_tied (content_of next) (ap (λ s. s.notes) same ∙ ap notes_in blank.0) (ap (λ s. s.ended) same ∙ blank.1) (ap (λ s. s.seen.log) same ∙ (ap (λ s. s.log) blank.2 ∙ c.open-front.ensures.empty)) in
+    let tied = blank_tied (content_of next) (ap (λ s. s.notes) same ∙ ap notes_in blank.0) (ap (λ s. s.seen.log) same ∙ (ap (λ s. s.log) blank.1 ∙ c.open-front.ensures.empty)) in
     publishes _ _ _ next tied (ap (λ s. s.seen.book) same ∙ ap (λ s. s.front.seen.book) (sym made.0))

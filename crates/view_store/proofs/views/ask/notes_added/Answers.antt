@@ -12,5 +12,5 @@ pub returns : goal.returns
 returns c =
     let log = c.args.front.now.seen.log in
     let all : length log ≡ length (notes_of log) + one_more (ended_of log) = length_listing log c.args.front.now.legal in
-    let byte : c.from.result ≡ one_more (ended_of log) = c.from.ensures ∙ (one_byte c.args.ended ∙ ap one_more c.requires) in
+    let byte : c.from.result ≡ one_more (ended_of log) = c.from.ensures ∙ (one_byte c.args.front.now.ended ∙ ap one_more c.args.front.now.over) in
     omega (arith, all, byte, c.args.front.now.counted)
