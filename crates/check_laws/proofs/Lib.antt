@@ -1,1 +1,3 @@
 pub mod Resumes
+pub mod Growing
+pub mod Together

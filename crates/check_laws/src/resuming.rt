@@ -12,6 +12,10 @@ use stack_direct::run_direct;
 /// was made behind, and how the run ended. Where the word is a checkpoint of machines of their
 /// setups, behind samples on which these stand, it isn't refused, the run gives what follows the
 /// outputs on these samples, and the machines stand on the whole.
+///
+/// This is the law of a checkpoint by itself, over any feed and whatever takes the marks, for who
+/// runs a tree in another way. The program's own promise of a part (`part` of `decode_job`) says the
+/// same of what is written, and doesn't call it.
 pub fn resume<M: Keep, F: RunFeed, G: MarkTake>(
     word: &str,
     machines: &mut [M],

@@ -51,12 +51,13 @@ pub record PushesEntries {M : Type 0} (saves : M → List ℕ → Type 0) (kinds
   pub entries : AreEntries kinds all tail
   pub behind : after ≡ before ++ tail
 
--- bytes are a check of these machines
+-- bytes are a check of these machines, and the word in lower case is read as these bytes
 pub record IsCheckOf {M : Type 0} (saves : M → List ℕ → Type 0) (samples : ℕ) (kinds : List ℕ)
     (machines : List M) (bytes : List ℕ) : Type 0 where
   pub all : List (List ℕ)
   pub save : AllSave saves machines all
   pub check : IsCheck bytes samples kinds all
+  pub back : decode_of (encode_lower bytes) ≡ Ok bytes
 
 -- the line of a check of these machines was written, or a front of it
 pub record WritesCheck {M : Type 0} (saves : M → List ℕ → Type 0) (samples : ℕ) (kinds : List ℕ)

@@ -3,7 +3,7 @@ ghost use Rattle.std.specs.Prelude.{◌≡◌, ◌≤◌, ◌+◌, ◌*◌, ◌^
 ghost use Rattle.std.specs.Io.KnownBytes.{Appends};
 ghost use Rattle.la_io.specs.Causes.{AppendsFront, HasCause};
 ghost use Rattle.check_point.specs.Checks.{IsCheckOf, PushesEntries, WritesCheck, check_line};
-ghost use Rattle.hex.specs.Hex.{encode_lower};
+ghost use Rattle.hex.specs.Hex.{decode_of, encode_lower};
 
 use arrayvec::ArrayVec;
 use decoder_core::Keep;
@@ -37,6 +37,11 @@ fn push_entries<M: Keep>(kinds: &[u8], machines: &[M], into: &mut Check)
     }
 }
 
+// The word of bytes is read as these bytes. (A law; nothing is done.)
+fn word_is_read_back(bytes: &[u8])
+    ensures { decode_of (encode_lower bytes.now) ≡ Ok bytes.now }
+{}
+
 // The bytes of a check of these machines behind so many samples.
 fn check_of<M: Keep>(samples: u64, machines: &[M], kinds: &[u8]) -> Check
     requires few { samples ≤ 2 ^ 59 }
@@ -49,6 +54,7 @@ fn check_of<M: Keep>(samples: u64, machines: &[M], kinds: &[u8]) -> Check
     append(&mut check, &samples.to_be_bytes());
     check.push(kinds.len() as u8);
     push_entries(kinds, machines, &mut check);
+    word_is_read_back(check.as_slice());
     check
 }
 
