@@ -2,6 +2,7 @@ pub mod FeedLemmas
 mod Showing
 pub mod Seen
 pub mod Listed
+pub mod Together
 mod Ends
 mod Handing
 mod Closing

@@ -1,6 +1,7 @@
 pub mod Asking
 pub mod Feeding
 pub mod Listing
+pub mod Together
 pub mod Ending
 pub mod Decoding
 pub mod Running

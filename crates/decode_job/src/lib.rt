@@ -5,6 +5,7 @@
 mod capture_feed;
 mod ending;
 mod job;
+mod laws;
 mod part_end;
 mod part_job;
 mod running;
@@ -13,6 +14,7 @@ mod up_to;
 pub use capture_any::ListingEnd as DecodeEnd;
 pub use capture_feed::CaptureFeed;
 pub use job::{decode, decode_in_threads};
+pub use laws::parts_list_the_whole;
 pub use part_end::PartEnd;
 pub use part_job::part;
 pub use running::InThreads;

@@ -16,3 +16,4 @@ mod PartTold
 mod Decoding
 mod Shelving
 mod Viewing
+mod Together

@@ -12,3 +12,4 @@ pub mod MadeTrees
 pub mod Sums
 pub mod Opening
 pub mod Watching
+pub mod Together

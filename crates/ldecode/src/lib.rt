@@ -23,7 +23,7 @@ mod work;
 pub use annot_merge::Merge;
 pub use check_point::{CheckFault, CheckWhy};
 pub use la_io::CaptureFault;
-pub use laws::made_captures_are_read_back;
+pub use laws::{made_captures_are_read_back, parts_write_the_whole};
 pub use note_lister::{ListStop, Lister};
 pub use stack_spec::{BindFault, StackFault, StackWhy};
 pub use stage_crew::{Pacer, PlainPacer};
