@@ -234,8 +234,7 @@ near_in None last = last
 near_in (Some []) last = last
 near_in (Some (status ∷ others)) last = part_near (takes status.a) status (data_in others) last
 
--- *near*: the start of what has begun in the last part and may still give notes; else that of the
--- last packet
-unfoldable pub midi_near : List Packet → ℕ
-midi_near packets =
-    near_in (last_of (parts is_status (bytes_in packets))) (last_start 0 packets)
+-- *near*: the start of what has begun in the last part and may still give notes; else the place
+-- from which on all that come start
+unfoldable pub midi_near : List Packet → ℕ → ℕ
+midi_near packets from = near_in (last_of (parts is_status (bytes_in packets))) from

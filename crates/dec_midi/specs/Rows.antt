@@ -92,7 +92,7 @@ Passed =
 abbrev pub OpenExclusive : Type 0
 OpenExclusive =
     (midi_outs (bytes (144 ∷ 240 ∷ 1 ∷ 2 ∷ [])) ≡ [])
-    × (midi_near (bytes (144 ∷ 240 ∷ 1 ∷ 2 ∷ [])) ≡ 10)
+    × (midi_near (bytes (144 ∷ 240 ∷ 1 ∷ 2 ∷ [])) 30 ≡ 10)
 
 -- of a value of nine bits the lowest eight are read
 abbrev pub NineBits : Type 0

@@ -205,7 +205,7 @@ impl PacketMachine for Midi {
 
     ghost outs = { λ _ packets. midi_outs packets };
 
-    ghost near = { λ _ packets. midi_near packets };
+    ghost near = { λ _ packets from. midi_near packets from };
 
     ghost stands = { λ machine packets. StandsFor machine packets };
 

@@ -142,7 +142,7 @@ started_at None last = last
 started_at (Some []) last = last
 started_at (Some (first ∷ others)) last = if is_frame first.kind then first.start else last
 
--- *near*: where the message starts that nothing has ended, else the start of the last packet
-unfoldable pub modbus_near : ℕ → List Packet → ℕ
-modbus_near gap packets =
-    started_at (last_of (messages gap packets)) (last_start 0 packets)
+-- *near*: where the message starts that nothing has ended, else the place from which on all that
+-- come start
+unfoldable pub modbus_near : ℕ → List Packet → ℕ → ℕ
+modbus_near gap packets from = started_at (last_of (messages gap packets)) from

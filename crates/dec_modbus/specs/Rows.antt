@@ -121,7 +121,7 @@ TooLong =
 
 -- a message is open from its first frame on; behind a break none is
 abbrev pub NearOpen : Type 0
-NearOpen = modbus_near 10 (frame 0 1 ∷ frame 2 1 ∷ frame 3 2 ∷ []) ≡ 200
+NearOpen = modbus_near 10 (frame 0 1 ∷ frame 2 1 ∷ frame 3 2 ∷ []) 300 ≡ 200
 
 abbrev pub NearEnded : Type 0
-NearEnded = modbus_near 10 (frame 0 1 ∷ frame 2 1 ∷ spanned UartBreak 300 95 0 0 ∷ []) ≡ 300
+NearEnded = modbus_near 10 (frame 0 1 ∷ frame 2 1 ∷ spanned UartBreak 300 95 0 0 ∷ []) 400 ≡ 400

@@ -76,7 +76,7 @@ impl PacketMachine for Modbus {
 
     ghost outs = { λ line packets. modbus_outs (gap_of line.opts line.rate) packets };
 
-    ghost near = { λ line packets. modbus_near (gap_of line.opts line.rate) packets };
+    ghost near = { λ line packets from. modbus_near (gap_of line.opts line.rate) packets from };
 
     ghost stands = { λ machine packets. StandsFor machine packets };
 

@@ -242,6 +242,6 @@ near_in (reset ∷ presence ∷ others) last =
     if is_presence presence.kind then begun_at (segment_cut (bits_in others)).rest last else last
 
 -- *near*: where the reset starts behind which nothing stands yet, or the bits that are left over of
--- a segment; else the start of the last packet
-unfoldable pub net_near : List Packet → ℕ
-net_near packets = near_in (last_part (resets packets)) (last_start 0 packets)
+-- a segment; else the place from which on all that come start
+unfoldable pub net_near : List Packet → ℕ → ℕ
+net_near packets from = near_in (last_part (resets packets)) from

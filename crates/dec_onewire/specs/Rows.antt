@@ -149,7 +149,8 @@ unfolding net_outs groups after_groups
 unanswered = refl
 
 -- Skip ROM has no ROM, and what has begun behind it is a byte
-pub begun_byte : net_near (packet 0 OwReset 0 ∷ packet 1 OwPresence 0 ∷ bits 8 2 204 ++ bits 3 10 7)
+pub begun_byte : net_near
+    (packet 0 OwReset 0 ∷ packet 1 OwPresence 0 ∷ bits 8 2 204 ++ bits 3 10 7) 120
     ≡ 100
 unfolding net_near groups after_groups
 begun_byte = refl

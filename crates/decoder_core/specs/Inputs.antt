@@ -3,7 +3,8 @@ use Rattle.std.specs.Prelude.{ℕ, ◌^◌, List, [], ◌∷◌, map, take, Opti
 use Rattle.la_base.specs.declared.samples.Run.{Run}
 use Rattle.la_base.specs.declared.wires.Packet.{Packet}
 use Rattle.la_base.specs.declared.wires.Feed.{Feed}
-use Rattle.la_base.specs.declared.wires.Feed.TheVariants.{Run as RunFeed, Packet as PacketFeed, End}
+use Rattle.la_base.specs.declared.wires.Feed.TheVariants.{Run as RunFeed, Packet as PacketFeed}
+use Rattle.la_base.specs.declared.wires.Feed.TheVariants.{From, End}
 use Rattle.la_base.specs.Samples.{samples}
 
 -- one sample, or one packet
@@ -15,6 +16,7 @@ pub data Item : Type 0 where
 abbrev pub items_of : Feed → List Item
 items_of (RunFeed run) = map Sample (samples run)
 items_of (PacketFeed packet) = Pack packet ∷ []
+items_of (From start) = []
 items_of End = []
 
 abbrev pub left_items : Option Feed → List Item

@@ -5,7 +5,7 @@ use Rattle.la_base.specs.declared.wires.Packet.{Packet}
 use Rattle.la_base.specs.declared.wires.Out.{Out}
 use Rattle.la_base.specs.declared.wires.Wire.{Wire}
 use Rattle.decoder_core.specs.Inputs.{Item, Sample, Pack}
-use Rattle.decoder_core.specs.Promises.{NotesFrom, packet_starts}
+use Rattle.decoder_core.specs.Promises.{NotesFrom, PacketsFrom, packet_starts}
 use Rattle.std.specs.List.Sorted.{IsNonDecreasing}
 
 -- a packet counts behind one that starts at `last`: it is of this wire, and starts no earlier
@@ -39,11 +39,25 @@ CountFrom wire last (packet ∷ packets) =
 abbrev pub AllCount : Wire → List Packet → Type 0
 AllCount wire packets = CountFrom wire 0 packets
 
--- *floor* of packets: each note that further packets add, which count, starts there or later
-abbrev pub IsPacketFloor : Wire → (List Packet → List Out) → List Packet → ℕ → Type 0
-IsPacketFloor wire outs seen floor =
-    (more : List Packet) (new : List Out) → AllCount wire (seen ++ more)
-    → outs (seen ++ more) ≡ outs seen ++ new → NotesFrom floor new
+-- each packet among items starts at this sample or later
+abbrev pub ItemsFrom : ℕ → List Item → Type 0
+ItemsFrom above [] = Unit {0}
+ItemsFrom above (Sample value ∷ items) = ItemsFrom above items
+ItemsFrom above (Pack packet ∷ items) = (above ≤ packet.start) × ItemsFrom above items
+
+-- *floor* over what comes from `above` on: each note and each packet that further items add starts
+-- there or later, where each packet among them starts at `above` or later
+abbrev pub IsFloorOver : ℕ → (List Item → List Out) → List Item → ℕ → Type 0
+IsFloorOver above outs input floor =
+    (more : List Item) (new : List Out) → ItemsFrom above more
+    → outs (input ++ more) ≡ outs input ++ new → NotesFrom floor new × PacketsFrom floor new
+
+-- *floor* of packets: each note and each packet that further packets add, which count after one
+-- that starts at `from`, starts there or later
+abbrev pub IsPacketFloor : Wire → (List Packet → List Out) → List Packet → ℕ → ℕ → Type 0
+IsPacketFloor wire outs seen from floor =
+    (more : List Packet) (new : List Out) → AllCount wire seen → CountFrom wire from more
+    → outs (seen ++ more) ≡ outs seen ++ new → NotesFrom floor new × PacketsFrom floor new
 
 -- *order* of packets: where packets count, the starts of those that are put out never fall
 abbrev pub PacketsStayInOrder : Wire → (List Packet → List Out) → Type 0

@@ -19,6 +19,13 @@ NotesFrom floor (NoteOut note ∷ outs) = (floor ≤ note.start) × NotesFrom fl
 NotesFrom floor (PieceOut piece ∷ outs) = NotesFrom floor outs
 NotesFrom floor (PacketOut packet ∷ outs) = NotesFrom floor outs
 
+-- each packet among outputs starts at this sample or later
+abbrev pub PacketsFrom : ℕ → List Out → Type 0
+PacketsFrom floor [] = Unit {0}
+PacketsFrom floor (NoteOut note ∷ outs) = PacketsFrom floor outs
+PacketsFrom floor (PieceOut piece ∷ outs) = PacketsFrom floor outs
+PacketsFrom floor (PacketOut packet ∷ outs) = (floor ≤ packet.start) × PacketsFrom floor outs
+
 -- where the packets among outputs start
 abbrev pub packet_starts : List Out → List ℕ
 packet_starts [] = []
@@ -31,6 +38,12 @@ abbrev pub IsFloor : {X : Type 0} → (List X → List Out) → List X → ℕ �
 IsFloor {X} outs input floor =
     (more : List X) (new : List Out) → outs (input ++ more) ≡ outs input ++ new
     → NotesFrom floor new
+
+-- *floor* of packets: each packet that a longer input adds starts at this sample or later
+abbrev pub GivesFrom : {X : Type 0} → (List X → List Out) → List X → ℕ → Type 0
+GivesFrom {X} outs input floor =
+    (more : List X) (new : List Out) → outs (input ++ more) ≡ outs input ++ new
+    → PacketsFrom floor new
 
 -- *nothing*: no input gives nothing
 abbrev pub GivesNothing : {X : Type 0} → (List X → List Out) → Type 0

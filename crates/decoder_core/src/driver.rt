@@ -262,7 +262,7 @@ impl<L: LogicMachine> Machine for Driver<L> {
 
     ghost outputs = { λ setup input. L.outs setup (counted_samples input) };
 
-    ghost near = { λ setup input. L.near setup (counted_samples input) };
+    ghost near = { λ setup input above. L.near setup (counted_samples input) };
 
     ghost wire = { λ _. Logic };
 
@@ -283,6 +283,7 @@ impl<L: LogicMachine> Machine for Driver<L> {
                 None => None,
             },
             Feed::Packet(_) => None,
+            Feed::From(_) => None,
             Feed::End => None,
         }
     }
@@ -301,7 +302,7 @@ impl<L: LogicMachine> Machine for Driver<L> {
         self.look_on(run, into)
     }
 
-    fn floor(&self) -> u64 {
+    fn floor(&self, _above: u64) -> u64 {
         self.machine.floor(self.waiter.consumed())
     }
 

@@ -1,7 +1,8 @@
 // Gives a decoder of packets the packets that count.
-ghost use Rattle.std.specs.Prelude.{◌≡◌, [], ◌∷◌, List};
+ghost use Rattle.std.specs.Prelude.{◌≡◌, [], ◌∷◌, List, max};
 ghost use Rattle.decoder_core.specs.Inputs.{Item, Pack};
 ghost use Rattle.decoder_core.specs.Packets.{Follows, NoneCount, counted_packets, counts};
+ghost use Rattle.decoder_core.specs.Packets.{last_start};
 ghost use Rattle.decoder_core.specs.laws.PacketLaws.{nothing_followed, front_followed};
 ghost use Rattle.decoder_core.specs.laws.PacketLaws.{order_followed, few_followed, wire_followed};
 
@@ -44,7 +45,9 @@ impl<D: PacketMachine> Machine for Follower<D> {
 
     ghost outputs = { λ setup input. D.outs setup (counted_packets (D.wire setup) input) };
 
-    ghost near = { λ setup input. D.near setup (counted_packets (D.wire setup) input) };
+    ghost near = { λ setup input above.
+        let packets = counted_packets (D.wire setup) input in
+        D.near setup packets (max (last_start 0 packets) above) };
 
     ghost wire = { λ setup. D.wire setup };
 
@@ -69,6 +72,7 @@ impl<D: PacketMachine> Machine for Follower<D> {
                 None
             }
             Feed::Run(_) => None,
+            Feed::From(_) => None,
             Feed::End => None,
         }
     }
@@ -84,8 +88,8 @@ impl<D: PacketMachine> Machine for Follower<D> {
         None
     }
 
-    fn floor(&self) -> u64 {
-        self.machine.floor(self.from)
+    fn floor(&self, above: u64) -> u64 {
+        self.machine.floor(self.from.max(above))
     }
 
     ghost nothing = { λ f. nothing_followed (D.wire (D.setup f.machine))

@@ -8,11 +8,13 @@ ghost use Rattle.wait_cond.specs.declared.alt.Alt.{Alt};
 ghost use Rattle.wait_cond.specs.Conds.{cond_alts};
 ghost use Rattle.wait_cond.specs.Waiting.{Waits, alts_of, wait_from, consumed_by, last_of};
 ghost use Rattle.decoder_core.specs.Inputs.{Item, left_feed};
-ghost use Rattle.decoder_core.specs.Promises.{IsFloor, GivesNothing, GivesOn, KeepsFront};
+ghost use Rattle.decoder_core.specs.Promises.{IsFloor, GivesFrom, GivesNothing, GivesOn};
+ghost use Rattle.decoder_core.specs.Promises.{KeepsFront};
 ghost use Rattle.decoder_core.specs.Promises.{PacketsInOrder, AddsFew, Rests, IsQuiet, IsLoud};
 ghost use Rattle.decoder_core.specs.Promises.{StandsThere, OneMachine, OneLastStop};
 ghost use Rattle.la_base.specs.declared.wires.Packet.{Packet};
-ghost use Rattle.decoder_core.specs.Packets.{AllCount, IsPacketFloor, OnePacketMachine};
+ghost use Rattle.decoder_core.specs.Packets.{AllCount, IsFloorOver, IsPacketFloor};
+ghost use Rattle.decoder_core.specs.Packets.{OnePacketMachine};
 ghost use Rattle.decoder_core.specs.Packets.{PacketsStayInOrder, last_start};
 ghost use Rattle.decoder_core.specs.Driving.{LeavesFewer, ReachesStop, Steps, StepsRuns, StopsFirst};
 
@@ -76,13 +78,18 @@ pub trait LogicMachine: Configured {
             (alts self.old) at value met into.new }
         ensures waits { result ≡ false → alts self.new ≡ alts self.old };
 
-    /// At most the start of every note that is still to come, where `next` is the number of samples
-    /// consumed so far; and at least the start of what has begun and isn't given yet.
+    /// At most the start of every note and of every packet that is still to come, where `next` is
+    /// the number of samples consumed so far; and at least the start of what has begun and isn't
+    /// given yet.
     fn floor(&self, next: u64) -> u64
         ensures floor { (seen more : List ℕ) → stands self.now seen
             → Rests (alts self.now) seen more
             → next ≡ length (seen ++ more)
             → IsFloor (outs (Self.setup self.now)) (seen ++ more) result }
+        ensures packets { (seen more : List ℕ) → stands self.now seen
+            → Rests (alts self.now) seen more
+            → next ≡ length (seen ++ more)
+            → GivesFrom (outs (Self.setup self.now)) (seen ++ more) result }
         ensures near { (seen more : List ℕ) → stands self.now seen → Rests (alts self.now) seen more
             → next ≡ length (seen ++ more) → near (Self.setup self.now) (seen ++ more) ≤ result };
 
@@ -127,9 +134,9 @@ pub trait PacketMachine: Configured {
     /// The outputs of a whole list of packets that count, by the decoder's definition.
     ghost outs: { Self.Setup → List Packet → List Out };
 
-    /// Where what has begun in these packets and may still give notes starts; the start of the last
-    /// packet where nothing has.
-    ghost near: { Self.Setup → List Packet → ℕ };
+    /// Where what has begun in these packets and may still give notes starts; where nothing has,
+    /// the place from which on all that come start.
+    ghost near: { Self.Setup → List Packet → ℕ → ℕ };
 
     /// It stands for these packets.
     ghost stands: { Self → List Packet → Type 0 };
@@ -151,14 +158,15 @@ pub trait PacketMachine: Configured {
             → outs (Self.setup self.old) (seen ++ packet ∷ [])
             ≡ outs (Self.setup self.old) seen ++ into.new };
 
-    /// At most the start of every note that is still to come, where the last packet starts at
-    /// `from` (0 where there is none); and at least the start of what has begun and may still give
-    /// notes.
+    /// At most the start of every note and of every packet that is still to come, where all packets
+    /// that come start at `from` or later, which is no earlier than the last one; and at least the
+    /// start of what has begun and may still give notes, or `from`.
     fn floor(&self, from: u64) -> u64
-        ensures floor { (seen : List Packet) → stands self.now seen → from ≡ last_start 0 seen
-            → IsPacketFloor (wire (Self.setup self.now)) (outs (Self.setup self.now)) seen result }
-        ensures near { (seen : List Packet) → stands self.now seen → from ≡ last_start 0 seen
-            → near (Self.setup self.now) seen ≤ result };
+        ensures floor { (seen : List Packet) → stands self.now seen → last_start 0 seen ≤ from
+            → IsPacketFloor (wire (Self.setup self.now)) (outs (Self.setup self.now)) seen from
+            result }
+        ensures near { (seen : List Packet) → stands self.now seen → last_start 0 seen ≤ from
+            → near (Self.setup self.now) seen from ≤ result };
 
     /// *Nothing*: no packets give nothing.
     ghost nothing: { (machine : Self) → GivesNothing (outs (Self.setup machine)) };
@@ -200,8 +208,9 @@ pub trait Machine {
     /// The outputs of a whole input, by the decoder's definition.
     ghost outputs: { Self.Setup → List Item → List Out };
 
-    /// Where what has begun in this input and isn't given yet starts.
-    ghost near: { Self.Setup → List Item → ℕ };
+    /// Where what has begun in this input and isn't given yet starts, where all packets that come
+    /// start at this sample or later.
+    ghost near: { Self.Setup → List Item → ℕ → ℕ };
 
     /// The wire that it wants.
     ghost wire: { Self.Setup → Wire };
@@ -251,13 +260,14 @@ pub trait Machine {
         ensures stops { ReachesStop (consumed self.old) (sleeps self.old) (Feed.Run run)
             (left_feed result) };
 
-    /// At most the start of every note that is still to come, and at least the start of what has
-    /// begun and isn't given yet.
-    fn floor(&self) -> u64
+    /// At most the start of every note and of every packet that is still to come, where all packets
+    /// that come start at `above` or later; and at least the start of what has begun and isn't
+    /// given yet.
+    fn floor(&self, above: u64) -> u64
         ensures floor { (input : List Item) → consumed self.now input
-            → IsFloor (outputs (setup self.now)) input result }
+            → IsFloorOver above (outputs (setup self.now)) input result }
         ensures near { (input : List Item) → consumed self.now input
-            → near (setup self.now) input ≤ result };
+            → near (setup self.now) input above ≤ result };
 
     /// *Nothing*: no input gives nothing.
     ghost nothing: { (machine : Self) → GivesNothing (outputs (setup machine)) };

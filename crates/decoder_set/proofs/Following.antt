@@ -7,8 +7,7 @@ use Rattle.la_base.specs.declared.wires.Packet.{Packet}
 use Rattle.la_base.specs.declared.wires.Wire.{Wire}
 use Rattle.decoder_core.specs.Driving.{Steps, StepsRuns}
 use Rattle.decoder_core.specs.Inputs.{Item}
-use Rattle.decoder_core.specs.Packets.{Follows}
-use Rattle.decoder_core.specs.Promises.{IsFloor}
+use Rattle.decoder_core.specs.Packets.{Follows, IsFloorOver}
 use Rattle.decoder_core.specs.declared.follower.Follower.{Follower}
 use Rattle.decoder_set.specs.declared.any_machine.AnyMachine.{AnyMachine}
 use Rattle.decoder_set.specs.declared.setup.Setup.{Setup}
@@ -47,7 +46,7 @@ module _ {D S : Type 0} (setup : Setup) (wrap : Follower D S → AnyMachine) (st
         same_outs input has (input ++ steps.front) ∙ steps.gives input (own input has).1.follows ∙ ap (λ (l : List Out). l ++ into) (sym (same_outs input has input));
   }
 
-  pub floor_followed : (floor : ℕ) → ((input : List Item) → Follows stands reads follower.machine follower.from input → IsFloor outs input floor)
-      → (input : List Item) → Has setup machine input → IsFloor (outs_of setup) input floor
-  floor_followed floor below input has more new is_new =
-      below input (own input has).1.follows more new (sym (same_outs input has (input ++ more)) ∙ is_new ∙ ap (λ (l : List Out). l ++ new) (same_outs input has input))
+  pub floor_followed : (above floor : ℕ) → ((input : List Item) → Follows stands reads follower.machine follower.from input → IsFloorOver above outs input floor)
+      → (input : List Item) → Has setup machine input → IsFloorOver above (outs_of setup) input floor
+  floor_followed above floor below input has more new from is_new =
+      below input (own input has).1.follows more new from (sym (same_outs input has (input ++ more)) ∙ is_new ∙ ap (λ (l : List Out). l ++ new) (same_outs input has input))

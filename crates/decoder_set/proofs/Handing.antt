@@ -6,7 +6,7 @@ use Rattle.la_base.specs.declared.wires.Out.{Out}
 use Rattle.wait_cond.specs.declared.alt.Alt.{Alt}
 use Rattle.decoder_core.specs.Driving.{Drives, ReachesStop, Sleeps, Steps, StepsRuns, StopsFirst}
 use Rattle.decoder_core.specs.Inputs.{Item, counted_samples}
-use Rattle.decoder_core.specs.Promises.{IsFloor}
+use Rattle.decoder_core.specs.Packets.{IsFloorOver}
 use Rattle.decoder_core.specs.declared.driver.Driver.{Driver}
 use Rattle.decoder_set.specs.declared.any_machine.AnyMachine.{AnyMachine}
 use Rattle.decoder_set.specs.declared.setup.Setup.{Setup}
@@ -58,16 +58,16 @@ module _ {L S : Type 0} (setup : Setup) (wrap : Driver L S → AnyMachine) (stan
           same_outs input has (input ++ steps.front) ∙ steps.gives input (own input has).1.drives ∙ ap (λ (l : List Out). l ++ into) (sym (same_outs input has input));
     }
 
-    pub floor_by : (floor : ℕ) → ((input : List Item) → Drives stands alts driver.machine driver.waiter input → IsFloor (λ input. outs (counted_samples input)) input floor)
-        → (input : List Item) → Has setup machine input → IsFloor (outs_of setup) input floor
-    floor_by floor below input has more new is_new =
-        below input (own input has).1.drives more new (sym (same_outs input has (input ++ more)) ∙ is_new ∙ ap (λ (l : List Out). l ++ new) (same_outs input has input))
+    pub floor_by : (above floor : ℕ) → ((input : List Item) → Drives stands alts driver.machine driver.waiter input → IsFloorOver above (λ input. outs (counted_samples input)) input floor)
+        → (input : List Item) → Has setup machine input → IsFloorOver above (outs_of setup) input floor
+    floor_by above floor below input has more new from is_new =
+        below input (own input has).1.drives more new from (sym (same_outs input has (input ++ more)) ∙ is_new ∙ ap (λ (l : List Out). l ++ new) (same_outs input has input))
 
-  pub near_by : (near : List ℕ → ℕ) → (IsOf setup (wrap driver) → IsOwn driver.machine → (input : List Item) → near_of setup input ≡ near (counted_samples input)) → (floor : ℕ)
-      → ((input : List Item) → Drives stands alts driver.machine driver.waiter input → near (counted_samples input) ≤ floor) → (input : List Item) → Has setup machine input → near_of setup input ≤ floor
-  near_by near same floor above input has =
+  pub near_by : (near : List ℕ → ℕ) → (IsOf setup (wrap driver) → IsOwn driver.machine → (input : List Item) (above : ℕ) → near_of setup input above ≡ near (counted_samples input)) → (above floor : ℕ)
+      → ((input : List Item) → Drives stands alts driver.machine driver.waiter input → near (counted_samples input) ≤ floor) → (input : List Item) → Has setup machine input → near_of setup input above ≤ floor
+  near_by near same above floor below input has =
       let o = own input has in
-      subst (λ (n : ℕ). n ≤ floor) (sym (same o.0 o.1.own input)) (above input o.1.drives)
+      subst (λ (n : ℕ). n ≤ floor) (sym (same o.0 o.1.own input above)) (below input o.1.drives)
 
   pub stops_by : (feed : Feed) (left : Option Feed) → ((input more : List Item) → Sleeps alts driver.machine driver.waiter input more → SleepsBy (wrap driver) input more)
       → ((input more : List Item) → SleepsBy (wrap driver) input more → Sleeps alts driver.machine driver.waiter input more)

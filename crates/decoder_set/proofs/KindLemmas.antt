@@ -72,40 +72,40 @@ module _ (setup : Setup) where
   i2c_outs_are machine is own input =
       ap (λ (k : Kind). outs_by k values setup.rate input) is ∙ (λ i. i2c_outs (sym own.0 i) (sym own.1 i) (counted_samples input))
 
-  pub i2c_near_is : (machine : I2c) → setup.kind ≡ kind.I2c → IsI2c (i2c_options setup.values.given) machine → (input : List Item)
-      → near_of setup input ≡ i2c_near (i2c.bus_of machine).scl (i2c.bus_of machine).sda (counted_samples input)
-  i2c_near_is machine is own input =
-      ap (λ (k : Kind). near_by k values setup.rate input) is ∙ (λ i. i2c_near (sym own.0 i) (sym own.1 i) (counted_samples input))
+  pub i2c_near_is : (machine : I2c) → setup.kind ≡ kind.I2c → IsI2c (i2c_options setup.values.given) machine → (input : List Item) (above : ℕ)
+      → near_of setup input above ≡ i2c_near (i2c.bus_of machine).scl (i2c.bus_of machine).sda (counted_samples input)
+  i2c_near_is machine is own input above =
+      ap (λ (k : Kind). near_by k values setup.rate input above) is ∙ (λ i. i2c_near (sym own.0 i) (sym own.1 i) (counted_samples input))
 
   pub spi_outs_are : (machine : Spi) → setup.kind ≡ kind.Spi → IsSpi (spi_options setup.values.given) machine → (input : List Item)
       → outs_of setup input ≡ spi_outs (spi.opts_of machine) (counted_samples input)
   spi_outs_are machine is own input =
       ap (λ (k : Kind). outs_by k values setup.rate input) is ∙ ap (λ (o : SpiOpts). spi_outs o (counted_samples input)) (sym own)
 
-  pub spi_near_is : (machine : Spi) → setup.kind ≡ kind.Spi → IsSpi (spi_options setup.values.given) machine → (input : List Item)
-      → near_of setup input ≡ spi_near (spi.opts_of machine) (counted_samples input)
-  spi_near_is machine is own input =
-      ap (λ (k : Kind). near_by k values setup.rate input) is ∙ ap (λ (o : SpiOpts). spi_near o (counted_samples input)) (sym own)
+  pub spi_near_is : (machine : Spi) → setup.kind ≡ kind.Spi → IsSpi (spi_options setup.values.given) machine → (input : List Item) (above : ℕ)
+      → near_of setup input above ≡ spi_near (spi.opts_of machine) (counted_samples input)
+  spi_near_is machine is own input above =
+      ap (λ (k : Kind). near_by k values setup.rate input above) is ∙ ap (λ (o : SpiOpts). spi_near o (counted_samples input)) (sym own)
 
   pub uart_outs_are : (machine : Uart) → setup.kind ≡ kind.Uart → IsUart (uart_options setup.values.given) setup.rate machine → (input : List Item)
       → outs_of setup input ≡ uart_outs (uart.line_of machine).opts (uart.line_of machine).rate (counted_samples input)
   uart_outs_are machine is own input =
       ap (λ (k : Kind). outs_by k values setup.rate input) is ∙ (λ i. uart_outs (sym own.0 i) (sym own.1 i) (counted_samples input))
 
-  pub uart_near_is : (machine : Uart) → setup.kind ≡ kind.Uart → IsUart (uart_options setup.values.given) setup.rate machine → (input : List Item)
-      → near_of setup input ≡ uart_near (uart.line_of machine).opts (uart.line_of machine).rate (counted_samples input)
-  uart_near_is machine is own input =
-      ap (λ (k : Kind). near_by k values setup.rate input) is ∙ (λ i. uart_near (sym own.0 i) (sym own.1 i) (counted_samples input))
+  pub uart_near_is : (machine : Uart) → setup.kind ≡ kind.Uart → IsUart (uart_options setup.values.given) setup.rate machine → (input : List Item) (above : ℕ)
+      → near_of setup input above ≡ uart_near (uart.line_of machine).opts (uart.line_of machine).rate (counted_samples input)
+  uart_near_is machine is own input above =
+      ap (λ (k : Kind). near_by k values setup.rate input above) is ∙ (λ i. uart_near (sym own.0 i) (sym own.1 i) (counted_samples input))
 
   pub link_outs_are : (machine : OwLink) → setup.kind ≡ kind.OwLink → IsLink (link_options setup.values.given) setup.rate machine → (input : List Item)
       → outs_of setup input ≡ link_outs (onewire.line_of machine).opts (onewire.line_of machine).rate (counted_samples input)
   link_outs_are machine is own input =
       ap (λ (k : Kind). outs_by k values setup.rate input) is ∙ (λ i. link_outs (sym own.0 i) (sym own.1 i) (counted_samples input))
 
-  pub link_near_is : (machine : OwLink) → setup.kind ≡ kind.OwLink → IsLink (link_options setup.values.given) setup.rate machine → (input : List Item)
-      → near_of setup input ≡ link_near (onewire.line_of machine).opts (counted_samples input)
-  link_near_is machine is own input =
-      ap (λ (k : Kind). near_by k values setup.rate input) is ∙ (λ i. link_near (sym own.0 i) (counted_samples input))
+  pub link_near_is : (machine : OwLink) → setup.kind ≡ kind.OwLink → IsLink (link_options setup.values.given) setup.rate machine → (input : List Item) (above : ℕ)
+      → near_of setup input above ≡ link_near (onewire.line_of machine).opts (counted_samples input)
+  link_near_is machine is own input above =
+      ap (λ (k : Kind). near_by k values setup.rate input above) is ∙ (λ i. link_near (sym own.0 i) (counted_samples input))
 
   pub eeprom_outs_are : (machine : Phased Eeprom Chip) → setup.kind ≡ kind.Eeprom24 → IsEeprom (eeprom_options setup.values.given) machine → (input : List Item) → outs_of setup input ≡ eeprom_gives (eeprom_opening.chip_in machine) input
   eeprom_outs_are machine is own input =

@@ -1,8 +1,10 @@
 -- What a decoder of each kind gives, by its setup.
-use Rattle.std.specs.Prelude.{ℕ, List, Option}
+use Rattle.std.specs.Prelude.{ℕ, List, Option, max}
 use Rattle.la_base.specs.declared.samples.Rate.{Rate}
 use Rattle.la_base.specs.declared.wires.Note.{Note}
 use Rattle.la_base.specs.declared.wires.Out.{Out}
+use Rattle.la_base.specs.declared.wires.Packet.{Packet}
+use Rattle.la_base.specs.declared.wires.Wire.{Wire}
 use Rattle.decoder_core.specs.Inputs.{Item, counted_samples}
 use Rattle.dec_i2c.specs.Bus.{i2c_outs, i2c_near}
 use Rattle.dec_i2c.specs.Texts as i2c
@@ -17,7 +19,7 @@ use Rattle.dec_uart.specs.Texts as uart
 use Rattle.dec_onewire.specs.Link.{link_outs, link_near}
 use Rattle.dec_onewire.specs.Net.{net_outs, net_near}
 use Rattle.dec_onewire.specs.Texts as onewire
-use Rattle.decoder_core.specs.Packets.{counted_packets}
+use Rattle.decoder_core.specs.Packets.{counted_packets, last_start}
 use Rattle.dev_ds18b20.specs.Probe.{probe_near, probe_outs}
 use Rattle.dev_ds18b20.specs.Texts as probe
 use Rattle.dev_ds1307.specs.Clock.{clock_outs}
@@ -66,26 +68,33 @@ outs_by Midi values rate input = midi_outs (counted_packets wire.Uart input)
 abbrev pub outs_of : Setup → List Item → List Out
 outs_of setup input = outs_by setup.kind setup.values.given setup.rate input
 
--- where what has begun and isn't given yet starts, for a kind with these values at a rate
-abbrev pub near_by : Kind → List (Option ℕ) → Rate → List Item → ℕ
-near_by I2c values rate input =
-    i2c_near (i2c_options values).scl (i2c_options values).sda (counted_samples input)
-near_by Spi values rate input = spi_near (spi_options values) (counted_samples input)
-near_by Uart values rate input = uart_near (uart_options values) rate (counted_samples input)
-near_by OwLink values rate input = link_near (link_options values) (counted_samples input)
-near_by OwNet values rate input = net_near (counted_packets wire.OwLink input)
-near_by Eeprom24 values rate input = phase_near (counted_packets wire.I2c input)
-near_by Ds1307 values rate input = phase_near (counted_packets wire.I2c input)
-near_by Lm75 values rate input = phase_near (counted_packets wire.I2c input)
-near_by Ds18b20 values rate input = probe_near (counted_packets wire.OwNet input)
-near_by Flash25 values rate input = flash_near (counted_packets wire.Spi input)
-near_by Modbus values rate input =
-    modbus_near (gap_of (modbus_options values) rate) (counted_packets wire.Uart input)
-near_by Midi values rate input = midi_near (counted_packets wire.Uart input)
+-- what is asked of a decoder of packets: those that count, and the place from which on all that
+-- come start, where each starts at `above` or later
+abbrev pub near_behind : (List Packet → ℕ → ℕ) → Wire → List Item → ℕ → ℕ
+near_behind near wants input above =
+    near (counted_packets wants input) (max (last_start 0 (counted_packets wants input)) above)
 
--- where what has begun in this input and isn't given yet starts
-abbrev pub near_of : Setup → List Item → ℕ
-near_of setup input = near_by setup.kind setup.values.given setup.rate input
+-- where what has begun and isn't given yet starts, for a kind with these values at a rate
+abbrev pub near_by : Kind → List (Option ℕ) → Rate → List Item → ℕ → ℕ
+near_by I2c values rate input above =
+    i2c_near (i2c_options values).scl (i2c_options values).sda (counted_samples input)
+near_by Spi values rate input above = spi_near (spi_options values) (counted_samples input)
+near_by Uart values rate input above = uart_near (uart_options values) rate (counted_samples input)
+near_by OwLink values rate input above = link_near (link_options values) (counted_samples input)
+near_by OwNet values rate input above = near_behind net_near wire.OwLink input above
+near_by Eeprom24 values rate input above = near_behind phase_near wire.I2c input above
+near_by Ds1307 values rate input above = near_behind phase_near wire.I2c input above
+near_by Lm75 values rate input above = near_behind phase_near wire.I2c input above
+near_by Ds18b20 values rate input above = near_behind probe_near wire.OwNet input above
+near_by Flash25 values rate input above = near_behind flash_near wire.Spi input above
+near_by Modbus values rate input above =
+    near_behind (modbus_near (gap_of (modbus_options values) rate)) wire.Uart input above
+near_by Midi values rate input above = near_behind midi_near wire.Uart input above
+
+-- where what has begun in this input and isn't given yet starts, where each packet that comes
+-- starts at `above` or later
+abbrev pub near_of : Setup → List Item → ℕ → ℕ
+near_of setup input above = near_by setup.kind setup.values.given setup.rate input above
 
 -- the text of a note
 abbrev pub note_text : Kind → Note → Text

@@ -17,7 +17,7 @@ impl Machine for AnyDecoder {
 
     ghost outputs = { λ setup input. outs_of setup input };
 
-    ghost near = { λ setup input. near_of setup input };
+    ghost near = { λ setup input above. near_of setup input above };
 
     ghost wire = { λ setup. (kind_row setup.kind).input };
 
@@ -84,20 +84,20 @@ impl Machine for AnyDecoder {
         }
     }
 
-    fn floor(&self) -> u64 {
+    fn floor(&self, above: u64) -> u64 {
         match &self.machine {
-            AnyMachine::I2c(driver) => driver.floor(),
-            AnyMachine::Spi(driver) => driver.floor(),
-            AnyMachine::Uart(driver) => driver.floor(),
-            AnyMachine::OwLink(driver) => driver.floor(),
-            AnyMachine::OwNet(follower) => follower.floor(),
-            AnyMachine::Eeprom24(follower) => follower.floor(),
-            AnyMachine::Ds1307(follower) => follower.floor(),
-            AnyMachine::Lm75(follower) => follower.floor(),
-            AnyMachine::Ds18b20(follower) => follower.floor(),
-            AnyMachine::Flash25(follower) => follower.floor(),
-            AnyMachine::Modbus(follower) => follower.floor(),
-            AnyMachine::Midi(follower) => follower.floor(),
+            AnyMachine::I2c(driver) => driver.floor(above),
+            AnyMachine::Spi(driver) => driver.floor(above),
+            AnyMachine::Uart(driver) => driver.floor(above),
+            AnyMachine::OwLink(driver) => driver.floor(above),
+            AnyMachine::OwNet(follower) => follower.floor(above),
+            AnyMachine::Eeprom24(follower) => follower.floor(above),
+            AnyMachine::Ds1307(follower) => follower.floor(above),
+            AnyMachine::Lm75(follower) => follower.floor(above),
+            AnyMachine::Ds18b20(follower) => follower.floor(above),
+            AnyMachine::Flash25(follower) => follower.floor(above),
+            AnyMachine::Modbus(follower) => follower.floor(above),
+            AnyMachine::Midi(follower) => follower.floor(above),
         }
     }
 

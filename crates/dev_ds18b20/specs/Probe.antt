@@ -146,7 +146,7 @@ probe = record {
 abbrev pub probe_outs : List Packet → List Out
 probe_outs packets = transaction_outs probe packets
 
--- *near*: the start of the reset that opened the present transaction; that of the last packet where
--- none is open
-abbrev pub probe_near : List Packet → ℕ
-probe_near packets = transaction_near probe packets
+-- *near*: the start of the reset that opened the present transaction; where none is open, the place
+-- from which on all that come start
+abbrev pub probe_near : List Packet → ℕ → ℕ
+probe_near packets from = transaction_near probe packets from

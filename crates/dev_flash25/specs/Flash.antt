@@ -195,7 +195,7 @@ flash = record {
 abbrev pub flash_outs : List Packet → List Out
 flash_outs packets = transaction_outs flash packets
 
--- *near*: the start of the select that opened the present transaction; that of the last packet
--- where none is open
-abbrev pub flash_near : List Packet → ℕ
-flash_near packets = transaction_near flash packets
+-- *near*: the start of the select that opened the present transaction; where none is open, the
+-- place from which on all that come start
+abbrev pub flash_near : List Packet → ℕ → ℕ
+flash_near packets from = transaction_near flash packets from

@@ -120,6 +120,6 @@ abbrev pub starts_at : ℕ → List Packet → ℕ
 starts_at last [] = last
 starts_at last (packet ∷ packets) = if is_start packet.kind then packet.start else last
 
--- *near*: where the open phase starts, else the start of the last packet
-abbrev pub phase_near : List Packet → ℕ
-phase_near packets = starts_at (last_start 0 packets) (last_part (parts is_mark packets))
+-- *near*: where the open phase starts, else the place from which on all that come start
+abbrev pub phase_near : List Packet → ℕ → ℕ
+phase_near packets from = starts_at from (last_part (parts is_mark packets))

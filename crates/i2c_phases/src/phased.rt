@@ -72,7 +72,7 @@ impl<D: I2cDevice> PacketMachine for Phased<D> {
     ghost outs = { λ setup packets.
         phased (D.bus_address setup) (D.takes_reset setup) (D.step setup) packets };
 
-    ghost near = { λ _ packets. phase_near packets };
+    ghost near = { λ _ packets from. phase_near packets from };
 
     ghost stands = { λ m packets. StandsFor (D.knows m.device) (D.bus_address (D.setup m.device))
         (D.takes_reset (D.setup m.device)) m.kept packets };

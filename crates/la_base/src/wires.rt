@@ -93,6 +93,8 @@ pub enum Out {
 pub enum Feed {
     Run(Run),
     Packet(Packet),
+    /// Each packet that follows starts at this sample or later.
+    From(u64),
     /// Nothing follows.
     End,
 }

@@ -1,5 +1,5 @@
 -- What the outputs of a sound walk over packets promise.
-use Rattle.std.specs.Prelude.{ℕ, ◌≡◌, List}
+use Rattle.std.specs.Prelude.{ℕ, ◌≡◌, ◌≤◌, List}
 use Rattle.la_base.specs.declared.wires.Out.{Out}
 use Rattle.la_base.specs.declared.wires.Packet.{Packet}
 use Rattle.la_base.specs.declared.wires.Wire.{Wire}
@@ -7,7 +7,7 @@ use Rattle.decoder_core.specs.Packets.{AllCount, IsPacketFloor, PacketsStayInOrd
 use Rattle.decoder_core.specs.Promises.{AddsFew, GivesNothing, GivesOn, KeepsFront}
 use Rattle.packet_walks.specs.Walks.{PacketWalk, SoundPackets, PushedPackets}
 
--- nothing, prefix, few, wire, order, and the floor of all later packets
+-- nothing, prefix, few, wire, order, and the floor of all packets that come from a place on
 pub record Promises {H : Type 0} (w : PacketWalk H) (wants gives : Wire)
     (outs : List Packet → List Out) (kept : List Packet → H) : Type 0 where
   pub nothing : GivesNothing outs
@@ -15,14 +15,14 @@ pub record Promises {H : Type 0} (w : PacketWalk H) (wants gives : Wire)
   pub few : AddsFew outs
   pub on_wire : GivesOn gives outs
   pub order : PacketsStayInOrder wants outs
-  pub floor : (seen : List Packet)
-      → IsPacketFloor wants outs seen (w.near (kept seen) (last_start 0 seen))
+  pub floor : (seen : List Packet) (from : ℕ) → last_start 0 seen ≤ from
+      → IsPacketFloor wants outs seen from (w.near (kept seen) from)
 
--- a state that packets leave which count, the last of which starts there
+-- a state that packets leave which count, the last of which starts there or earlier
 abbrev pub Reached : {H : Type 0} → Wire → (List Packet → H) → H → ℕ → Type 0
 Reached wants kept h last =
     (packets : List Packet) × AllCount wants packets × (kept packets ≡ h)
-    × (last_start 0 packets ≡ last)
+    × (last_start 0 packets ≤ last)
 
 -- outputs that go on as a walk says which is sound where packets lead keep these promises
 abbrev pub KeepsPromises : Type 0 → Type 0

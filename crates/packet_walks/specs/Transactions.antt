@@ -61,7 +61,7 @@ module _ (device : Device) where
   begun_at [] last = last
   begun_at (first ∷ packets) last = first.start
 
-  -- *near*: the start of the packet that opened the present transaction; that of the last packet
-  -- where none is open
-  unfoldable pub transaction_near : List Packet → ℕ
-  transaction_near packets = begun_at (open_part packets) (last_start 0 packets)
+  -- *near*: the start of the packet that opened the present transaction; where none is open, the
+  -- place from which on all that come start
+  unfoldable pub transaction_near : List Packet → ℕ → ℕ
+  transaction_near packets from = begun_at (open_part packets) from

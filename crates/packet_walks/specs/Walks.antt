@@ -8,7 +8,7 @@ use Rattle.decoder_core.specs.Promises.{NotesFrom, PacketsOn, packet_starts}
 use Rattle.sample_walks.specs.Walks.{Between}
 
 -- a walk: its states, what one more packet does to one, and where that starts which has begun and
--- isn't given yet, by where the last packet starts
+-- isn't given yet, by the place from which on all that come start
 pub record PacketWalk (H : Type 0) : Type 0 where
   pub begin : H
   pub next : H → Packet → H
@@ -16,12 +16,13 @@ pub record PacketWalk (H : Type 0) : Type 0 where
   pub near : H → ℕ → ℕ
 
 -- what a walk owes, of one state and one packet that counts. `fits`: a state may stand behind
--- packets the last of which starts there
+-- packets the last of which starts there or earlier
 pub record SoundPackets {H : Type 0} (w : PacketWalk H) (on : Wire)
     (fits : H → ℕ → Type 0) : Type 0 where
   pub begin_fits : fits w.begin 0
   pub next_fits : (h : H) (last : ℕ) (p : Packet) → fits h last → last ≤ p.start
       → fits (w.next h p) p.start
+  pub later_fits : (h : H) (last from : ℕ) → fits h last → last ≤ from → fits h from
   pub few : (h : H) (p : Packet) → length (w.gives h p) ≤ 16
   pub on_wire : (h : H) (p : Packet) → PacketsOn on (w.gives h p)
   pub notes : (h : H) (last : ℕ) (p : Packet) → fits h last → last ≤ p.start

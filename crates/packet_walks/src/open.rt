@@ -59,7 +59,8 @@ pub trait OpenTransaction: Drop {
         requires { into.old ≡ [] }
         ensures { into.new ≡ steps.closes self.now };
 
-    /// Where that starts which may still give notes, where the last packet starts at `from`.
+    /// Where that starts which may still give notes, where all packets that come start at `from`
+    /// or later.
     fn near(&self, from: u64) -> u64
         ensures { result ≡ steps.near self.now from };
 

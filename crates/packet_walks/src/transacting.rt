@@ -84,7 +84,7 @@ impl<O: OpenTransaction> PacketMachine for Transacting<O> {
 
     ghost outs = { λ _ packets. transaction_outs O.device packets };
 
-    ghost near = { λ _ packets. transaction_near O.device packets };
+    ghost near = { λ _ packets from. transaction_near O.device packets from };
 
     ghost stands = { λ m packets. m.held ≡ held_of O.device O.steps O.kept packets };
 

@@ -1,13 +1,14 @@
 -- What the outputs of a sound walk promise.
 use Rattle.std.specs.Prelude.{ℕ, ◌≡◌, List, [], ◌++◌, length, Option}
 use Rattle.la_base.specs.declared.wires.Out.{Out}
-use Rattle.decoder_core.specs.Promises.{IsFloor, GivesNothing, KeepsFront, PacketsInOrder, AddsFew}
-use Rattle.decoder_core.specs.Promises.{Rests}
+use Rattle.decoder_core.specs.Promises.{IsFloor, GivesFrom, GivesNothing, KeepsFront}
+use Rattle.decoder_core.specs.Promises.{PacketsInOrder, AddsFew, Rests}
 use Rattle.list_cuts.specs.Neighbours.{at_neighbours, last_of}
 use Rattle.sample_walks.specs.Walks.{Walk, walked, given, EndsThere, Sound}
 use Rattle.sample_walks.specs.Events.{EventWalk, by_events, PushedEvents}
 
--- quiet, one stop, nothing, prefix, order, few, and the floor of all later samples
+-- quiet, one stop, nothing, prefix, order, few, and the floor of all later samples, of notes and of
+-- packets
 pub record Promises {H : Type 0} (w : Walk H) (outs : List ℕ → List Out) : Type 0 where
   pub quiet : (seen more : List ℕ) → EndsThere w seen → Rests (w.alts (walked w seen)) seen more
       → outs (seen ++ more) ≡ outs seen
@@ -18,6 +19,7 @@ pub record Promises {H : Type 0} (w : Walk H) (outs : List ℕ → List Out) : T
   pub order : PacketsInOrder outs
   pub few : AddsFew outs
   pub floor : (list : List ℕ) → IsFloor outs list (w.near (walked w list) (length list))
+  pub packets : (list : List ℕ) → GivesFrom outs list (w.near (walked w list) (length list))
 
 -- a state that samples leave, and one that they leave where the last of them is a stop
 abbrev pub Reached : {H : Type 0} → Walk H → H → ℕ → Option ℕ → Type 0

@@ -34,20 +34,21 @@ midi_order =
 
 -- what is kept of packets makes the floor, the near place, and what one more packet does
 module _ (machine : Midi) (seen : List Packet) (stands : StandsFor machine seen) where
-  module _ (from result : ℕ) (from_is : from ≡ last_start 0 seen)
+  module _ (from result : ℕ) (later : last_start 0 seen ≤ from)
       (result_is : result ≡ near_by machine.held from) where
-    same : result ≡ near_by (held_of seen) (last_start 0 seen)
-    same = result_is ∙ (λ i. near_by (stands i) (from_is i))
+    same : result ≡ near_by (held_of seen) from
+    same = result_is ∙ ap (λ (h : Held). near_by h from) stands
 
-    pub midi_floor : IsPacketFloor UartWire midi_outs seen result
+    pub midi_floor : IsPacketFloor UartWire midi_outs seen from result
     midi_floor =
-        subst (IsPacketFloor UartWire midi_outs seen) (sym same)
+        subst (IsPacketFloor UartWire midi_outs seen from) (sym same)
         (walk_floor midi_walk midi_outs held_of midi_pushed NoWire midi_fits midi_sound UartWire
-        seen)
+        seen from later)
 
-    pub midi_near_below : midi_near seen ≤ result
+    pub midi_near_below : midi_near seen from ≤ result
     midi_near_below =
-        subst (λ (n : ℕ). midi_near seen ≤ n) (near_is seen ∙ sym same) (le_refl (midi_near seen))
+        subst (λ (n : ℕ). midi_near seen from ≤ n) (near_is seen from ∙ sym same)
+        (le_refl (midi_near seen from))
 
   module _ (packet : Packet) where
     pub midi_stands : (new : Held) → new ≡ next machine.held packet

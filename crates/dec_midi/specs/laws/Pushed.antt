@@ -434,8 +434,8 @@ module _ (last : ℕ) where
   near_in_is (Some (status ∷ others)) =
       part_near_is (takes status.a) status (data_in others)
 
-pub near_is : (packets : List Packet)
-    → midi_near packets ≡ near_by (held_of packets) (last_start 0 packets)
+pub near_is : (packets : List Packet) (from : ℕ)
+    → midi_near packets from ≡ near_by (held_of packets) from
 unfolding midi_near held_of
-near_is packets =
-    near_in_is (last_start 0 packets) (last_of (parts is_status (bytes_in packets)))
+near_is packets from =
+    near_in_is from (last_of (parts is_status (bytes_in packets)))

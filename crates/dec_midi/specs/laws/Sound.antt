@@ -27,6 +27,13 @@ midi_fits (Running status) last = Unit {0}
 midi_fits (Begun status start first) last = start ≤ last
 midi_fits (Exclusive start end count) last = (start ≤ last) × (start ≤ end)
 
+fits_later : (h : Held) (last from : ℕ) → last ≤ from → midi_fits h last → midi_fits h from
+fits_later Stray last from later fit = tt
+fits_later (Running status) last from later fit = tt
+fits_later (Begun status start first) last from later fit = omega (arith, fit, later)
+fits_later (Exclusive start end count) last from later fit =
+    (omega (arith, fit.0, later), fit.1)
+
 -- outputs without a packet, whose notes start there or later
 record Plain (low : ℕ) (outs : List Out) : Type 0 where
   pub notes : NotesFrom low outs
@@ -247,6 +254,7 @@ pub midi_sound : SoundPackets midi_walk NoWire midi_fits
 midi_sound = record {
   begin_fits = tt;
   next_fits = λ h last p fit after. (later_next last p after h fit).0;
+  later_fits = λ h last from fit later. fits_later h last from later fit;
   few = λ h p. omega (arith, (few_gives h p).0);
   on_wire = λ h p. (few_gives h p).1;
   notes = λ h last p fit after. (plain_gives last p after h fit).notes;

@@ -113,7 +113,8 @@ next gap Outside packet = begin_next packet
 next gap (Inside message) packet =
     inside_next (follows gap message.end packet) message packet
 
--- where the message starts that nothing has ended yet; else where the last packet starts
+-- where the message starts that nothing has ended yet; else the place from which on all that come
+-- start
 abbrev pub near_by : Held → ℕ → ℕ
 near_by Outside last = last
 near_by (Inside message) last = message.start

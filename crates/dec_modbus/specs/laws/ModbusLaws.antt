@@ -43,31 +43,31 @@ module _ (gap : ℕ) where
       walk_order (modbus_walk gap) (modbus_outs gap) (held_of gap) (modbus_pushed gap) NoWire
       modbus_fits (modbus_sound gap) UartWire
 
-  modbus_floor_of : (seen : List Packet)
-      → IsPacketFloor UartWire (modbus_outs gap) seen
-      (near_by (held_of gap seen) (last_start 0 seen))
-  modbus_floor_of seen =
+  modbus_floor_of : (seen : List Packet) (from : ℕ) → last_start 0 seen ≤ from
+      → IsPacketFloor UartWire (modbus_outs gap) seen from (near_by (held_of gap seen) from)
+  modbus_floor_of =
       walk_floor (modbus_walk gap) (modbus_outs gap) (held_of gap) (modbus_pushed gap) NoWire
-      modbus_fits (modbus_sound gap) UartWire seen
+      modbus_fits (modbus_sound gap) UartWire
 
 -- what is kept of packets makes the floor, the near place, and what one more packet does
 module _ (machine : Modbus) (seen : List Packet) (stands : StandsFor machine seen) where
   abbrev gap : ℕ
   gap = gap_of machine.line.opts machine.line.rate
 
-  module _ (from result : ℕ) (from_is : from ≡ last_start 0 seen)
+  module _ (from result : ℕ) (later : last_start 0 seen ≤ from)
       (result_is : result ≡ near_by machine.held from) where
-    same : result ≡ near_by (held_of gap seen) (last_start 0 seen)
-    same = result_is ∙ (λ i. near_by (stands i) (from_is i))
+    same : result ≡ near_by (held_of gap seen) from
+    same = result_is ∙ ap (λ (h : Held). near_by h from) stands
 
-    pub modbus_floor : IsPacketFloor UartWire (modbus_outs gap) seen result
+    pub modbus_floor : IsPacketFloor UartWire (modbus_outs gap) seen from result
     modbus_floor =
-        subst (IsPacketFloor UartWire (modbus_outs gap) seen) (sym same) (modbus_floor_of gap seen)
+        subst (IsPacketFloor UartWire (modbus_outs gap) seen from) (sym same)
+        (modbus_floor_of gap seen from later)
 
-    pub modbus_near_below : modbus_near gap seen ≤ result
+    pub modbus_near_below : modbus_near gap seen from ≤ result
     modbus_near_below =
-        subst (λ (n : ℕ). modbus_near gap seen ≤ n) (near_is gap seen ∙ sym same)
-        (le_refl (modbus_near gap seen))
+        subst (λ (n : ℕ). modbus_near gap seen from ≤ n) (near_is gap seen from ∙ sym same)
+        (le_refl (modbus_near gap seen from))
 
   module _ (packet : Packet) where
     pub modbus_stands : (new : Held) → new ≡ next machine.gap machine.held packet

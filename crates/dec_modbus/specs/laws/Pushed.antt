@@ -308,18 +308,17 @@ modbus_pushed gap = record {
 }
 
 -- where what has begun starts
-pub near_is : (gap : ℕ) (packets : List Packet)
-    → modbus_near gap packets ≡ near_by (held_of gap packets) (last_start 0 packets)
+pub near_is : (gap : ℕ) (packets : List Packet) (from : ℕ)
+    → modbus_near gap packets from ≡ near_by (held_of gap packets) from
 unfolding modbus_near held_of
-near_is gap packets = by (last_of (messages gap packets))
+near_is gap packets from = by (last_of (messages gap packets))
   where
-    by : (row : Option (List Packet))
-        → started_at row (last_start 0 packets) ≡ near_by (held_in row) (last_start 0 packets)
+    by : (row : Option (List Packet)) → started_at row from ≡ near_by (held_in row) from
     by None = refl
     by (Some []) = refl
     by (Some (x ∷ xs)) = go (is_frame x.kind)
       where
-        go : (b : Bool) → (if b then x.start else last_start 0 packets)
-            ≡ near_by (if b then Inside (message_of x xs) else Outside) (last_start 0 packets)
+        go : (b : Bool) → (if b then x.start else from)
+            ≡ near_by (if b then Inside (message_of x xs) else Outside) from
         go true = refl
         go false = refl

@@ -24,6 +24,11 @@ abbrev pub modbus_fits : Held → ℕ → Type 0
 modbus_fits Outside last = Unit {0}
 modbus_fits (Inside message) last = (message.start ≤ last) × (message.start ≤ message.end)
 
+fits_later : (h : Held) (last from : ℕ) → modbus_fits h last → last ≤ from → modbus_fits h from
+fits_later Outside last from fit later = tt
+fits_later (Inside message) last from fit later =
+    let below = fit.0 in (omega (arith, below, later), fit.1)
+
 -- notes alone, which start there or later
 abbrev NotesAlone : ℕ → ℕ → List Out → Type 0
 NotesAlone most low outs =
@@ -125,6 +130,7 @@ pub modbus_sound : (gap : ℕ) → SoundPackets (modbus_walk gap) NoWire modbus_
 modbus_sound gap = record {
   begin_fits = tt;
   next_fits = λ h last p fit after. fits_next gap h last p fit after;
+  later_fits = fits_later;
   few = λ h p. (few_from gap h p).0;
   on_wire = λ h p. (few_from gap h p).1;
   notes = λ h last p fit after. (alone gap h last p fit after).2;

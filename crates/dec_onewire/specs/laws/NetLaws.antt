@@ -34,19 +34,21 @@ net_order = walk_order net_walk net_outs held_of net_pushed NetWire net_fits net
 
 -- what is kept of packets makes the floor, the near place, and what one more packet does
 module _ (machine : OwNet) (seen : List Packet) (stands : NetStandsFor machine seen) where
-  module _ (from result : ℕ) (from_is : from ≡ last_start 0 seen)
+  module _ (from result : ℕ) (later : last_start 0 seen ≤ from)
       (result_is : result ≡ near_by machine.held from) where
-    same : result ≡ near_by (held_of seen) (last_start 0 seen)
-    same = result_is ∙ (λ i. near_by (stands i) (from_is i))
+    same : result ≡ near_by (held_of seen) from
+    same = result_is ∙ ap (λ (h : Held). near_by h from) stands
 
-    pub net_floor : IsPacketFloor LinkWire net_outs seen result
+    pub net_floor : IsPacketFloor LinkWire net_outs seen from result
     net_floor =
-        subst (IsPacketFloor LinkWire net_outs seen) (sym same)
-        (walk_floor net_walk net_outs held_of net_pushed NetWire net_fits net_sound LinkWire seen)
+        subst (IsPacketFloor LinkWire net_outs seen from) (sym same)
+        (walk_floor net_walk net_outs held_of net_pushed NetWire net_fits net_sound LinkWire
+        seen from later)
 
-    pub net_near_below : net_near seen ≤ result
+    pub net_near_below : net_near seen from ≤ result
     net_near_below =
-        subst (λ (n : ℕ). net_near seen ≤ n) (near_is seen ∙ sym same) (le_refl (net_near seen))
+        subst (λ (n : ℕ). net_near seen from ≤ n) (near_is seen from ∙ sym same)
+        (le_refl (net_near seen from))
 
   module _ (packet : Packet) where
     pub net_stands : (new : Held) → new ≡ next machine.held packet

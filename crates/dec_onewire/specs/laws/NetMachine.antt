@@ -133,8 +133,8 @@ gives held packet = if is_reset packet.kind then [] else inside_gives held packe
 abbrev pub next : Held → Packet → Held
 next held packet = if is_reset packet.kind then Reset packet.start else inside_next held packet
 
--- where the reset starts that nothing has followed yet, or what has begun and isn't whole; else
--- where the last packet starts
+-- where the reset starts that nothing has followed yet, or what has begun and isn't whole; else the
+-- place from which on all that come start
 abbrev pub near_by : Held → ℕ → ℕ
 near_by Outside last = last
 near_by (Reset start) last = start

@@ -278,10 +278,10 @@ net_pushed = record {
 }
 
 -- where what has begun starts
-pub near_is : (packets : List Packet)
-    → net_near packets ≡ near_by (held_of packets) (last_start 0 packets)
+pub near_is : (packets : List Packet) (from : ℕ)
+    → net_near packets from ≡ near_by (held_of packets) from
 unfolding net_near held_of
-near_is packets = by (last_part (resets packets))
+near_is packets from = by (last_part (resets packets))
   where
     rest_is : (last : ℕ) (kind : Role) (rest : List Packet)
         → begun_at rest last ≡ near_by (Inside kind (begun_by kind rest)) last
@@ -290,17 +290,17 @@ near_is packets = by (last_part (resets packets))
         sym (when_no (suc (length rest) == 0) last x.start (suc_no (length rest)))
 
     by : (part : List Packet)
-        → near_in part (last_start 0 packets) ≡ near_by (held_in part) (last_start 0 packets)
+        → near_in part from ≡ near_by (held_in part) from
     by [] = refl
     by (reset ∷ []) = refl
     by (reset ∷ presence ∷ others) = go (is_presence presence.kind)
       where
         go : (t : Bool)
-            → (if t then begun_at (segment_cut (bits_in others)).rest (last_start 0 packets)
-            else last_start 0 packets) ≡ near_by
-            (if t then inside_of (segment_cut (bits_in others)) else Outside) (last_start 0 packets)
+            → (if t then begun_at (segment_cut (bits_in others)).rest from
+            else from) ≡ near_by
+            (if t then inside_of (segment_cut (bits_in others)) else Outside) from
         go true =
-            rest_is (last_start 0 packets)
+            rest_is from
             (role_behind Command (segment_cut (bits_in others)).whole)
             (segment_cut (bits_in others)).rest
         go false = refl

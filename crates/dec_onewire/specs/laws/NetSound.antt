@@ -36,6 +36,11 @@ net_fits Outside last = Unit {0}
 net_fits (Reset start) last = start ≤ last
 net_fits (Inside role begun) last = begun.start ≤ last
 
+fits_later : (h : Held) (last from : ℕ) → last ≤ from → net_fits h last → net_fits h from
+fits_later Outside last from later fit = tt
+fits_later (Reset start) last from later fit = omega (arith, fit, later)
+fits_later (Inside role begun) last from later fit = omega (arith, fit, later)
+
 -- at most 16 outputs, whose packets are of the network's wire
 abbrev Few : List Out → Type 0
 Few outs = (length outs ≤ 16) × PacketsOn NetWire outs
@@ -235,6 +240,7 @@ pub net_sound : SoundPackets net_walk NetWire net_fits
 net_sound = record {
   begin_fits = tt;
   next_fits = λ h last p fit after. fits_next last p after h fit;
+  later_fits = λ h last from fit later. fits_later h last from later fit;
   few = λ h p. (few_gives h p).0;
   on_wire = λ h p. (few_gives h p).1;
   notes = λ h last p fit after. (within_gives last p after h fit).0;

@@ -91,7 +91,7 @@ impl PacketMachine for OwNet {
 
     ghost outs = { λ _ packets. net_outs packets };
 
-    ghost near = { λ _ packets. net_near packets };
+    ghost near = { λ _ packets from. net_near packets from };
 
     ghost stands = { λ machine packets. NetStandsFor machine packets };
 

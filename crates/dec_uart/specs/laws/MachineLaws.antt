@@ -6,12 +6,14 @@ use Rattle.la_base.specs.declared.samples.Rate.{Rate}
 use Rattle.la_base.specs.declared.wires.Out.{Out}
 use Rattle.wait_cond.specs.declared.alt.Alt.{Alt}
 use Rattle.list_cuts.specs.Neighbours.{last_of}
-use Rattle.decoder_core.specs.Promises.{IsFloor, GivesNothing, KeepsFront, PacketsInOrder, AddsFew}
+use Rattle.decoder_core.specs.Promises.{IsFloor, GivesFrom, GivesNothing, KeepsFront}
+use Rattle.decoder_core.specs.Promises.{PacketsInOrder, AddsFew}
 use Rattle.decoder_core.specs.Promises.{Rests, StopsIn}
 use Rattle.sample_walks.specs.Walks.{Walk, walked, given, EndsThere}
 use Rattle.sample_walks.specs.laws.WalkLaws.{walked_fits, outs_nothing, outs_prefix, outs_few}
 use Rattle.sample_walks.specs.laws.WalkLaws.{outs_order}
 use Rattle.sample_walks.specs.laws.HeldLaws.{held_quiet, held_one_stop, held_floor, held_near}
+use Rattle.sample_walks.specs.laws.HeldLaws.{held_packets}
 use Rattle.sample_walks.specs.laws.HeldLaws.{Stopped, held_stop}
 use Rattle.dec_uart.specs.declared.held.Held.{Held}
 use Rattle.dec_uart.specs.declared.held.Line.{Line}
@@ -105,6 +107,11 @@ module _ (opts : UartOpts) (rate : Rate) {most : ℕ} (ranges : InRange most opt
         floor_is =
             held_floor walk fits timed (uart_sound opts rate ranges fast) (uart_outs opts rate) same
             (walked walk seen) seen more ends refl none_then count result count_is near_is
+
+        pub packets_are : GivesFrom (uart_outs opts rate) (seen ++ more) result
+        packets_are =
+            held_packets walk fits timed (uart_sound opts rate ranges fast) (uart_outs opts rate)
+            same (walked walk seen) seen more ends refl none_then count result count_is near_is
 
         pub near_below : uart_near opts rate (seen ++ more) ≤ result
         near_below =

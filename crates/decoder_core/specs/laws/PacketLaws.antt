@@ -1,6 +1,6 @@
 -- What outputs of the packets that count promise, where outputs of packets promise it.
 use Rattle.std.proofs.Common.{◌≡◌, ℕ, ◌+◌, ◌≤◌, Bool, true, false, List, [], ◌∷◌, ◌++◌, length, map}
-use Rattle.std.proofs.Common.{refl, sym, ◌∙◌, ap, subst, if◌then◌else◌, arith}
+use Rattle.std.proofs.Common.{refl, sym, ◌∙◌, ap, subst, if◌then◌else◌, arith, max}
 use Rattle.std.specs.Prelude.{nat_le, ◌&&◌}
 use Rattle.std.proofs.lemmas.Bool.Decides.{nat_tests}
 use Rattle.std.proofs.lemmas.List.{append-nil}
@@ -24,9 +24,10 @@ use Rattle.la_base.specs.declared.wires.Wire.TheVariants.{Logic, I2c, Spi, Uart,
 use Rattle.la_base.specs.declared.wires.Wire.TheVariants.{Nothing}
 use Rattle.decoder_core.specs.Inputs.{Item, Sample, Pack}
 use Rattle.decoder_core.specs.Promises.{GivesNothing, KeepsFront, PacketsInOrder, AddsFew, GivesOn}
-use Rattle.decoder_core.specs.Promises.{IsFloor, PacketsOn, packet_starts}
+use Rattle.decoder_core.specs.Promises.{GivesFrom, PacketsFrom, PacketsOn, packet_starts}
 use Rattle.decoder_core.specs.Packets.{counts, counting, counted_packets, last_start, CountFrom}
 use Rattle.decoder_core.specs.Packets.{AllCount, PacketsStayInOrder, IsPacketFloor}
+use Rattle.decoder_core.specs.Packets.{IsFloorOver, ItemsFrom}
 
 pub same_wire_true : (one other : Wire) → same_wire one other ≡ true → one ≡ other
 same_wire_true Logic Logic e = refl
@@ -50,6 +51,12 @@ counts_means wire last packet e =
       same_wire_true (wire_of packet.kind) wire parts.0,
       (let less : last ≤ packet.start = grind (arith, nat_tests) in less),
     )
+
+-- whatever comes starts at the first sample or later
+pub from_nought : (items : List Item) → ItemsFrom 0 items
+from_nought [] = tt
+from_nought (Sample v ∷ items) = from_nought items
+from_nought (Pack p ∷ items) = (omega arith, from_nought items)
 
 -- one input behind another
 pub counting-append : (wire : Wire) (last : ℕ) (xs ys : List Item)
@@ -166,14 +173,32 @@ module _ (wire : Wire) where
         (counts wire (last_start 0 (counted_packets wire input)) p) few
         (counted_on input (Pack p ∷ []))
 
-    pub floor_followed : (input : List Item) (floor : ℕ)
-        → IsPacketFloor wire outs (counted_packets wire input) floor
-        → IsFloor (λ i. outs (counted_packets wire i)) input floor
-    floor_followed input floor holds more new is =
+    -- what counts of items whose packets start there or later counts from there on
+    count_above : (last above : ℕ) (items : List Item) → ItemsFrom above items
+        → CountFrom wire (max last above) (counting wire last items)
+    count_above last above [] from = tt
+    count_above last above (Sample v ∷ items) from = count_above last above items from
+    count_above last above (Pack p ∷ items) from =
+        by (counts wire last p) refl (all_count wire p.start items)
+        (count_above last above items from.1)
+      where
+        by : (b : Bool) → counts wire last p ≡ b
+            → CountFrom wire p.start (counting wire p.start items)
+            → CountFrom wire (max last above) (counting wire last items)
+            → CountFrom wire (max last above)
+            (if b then p ∷ counting wire p.start items else counting wire last items)
+        by true e longer passed =
+            let m = counts_means wire last p e in (m.0, omega (arith, m.1, from.0), longer)
+        by false e longer passed = passed
+
+    pub floor_followed : (input : List Item) (above floor : ℕ)
+        → IsPacketFloor wire outs (counted_packets wire input)
+        (max (last_start 0 (counted_packets wire input)) above) floor
+        → IsFloorOver above (λ i. outs (counted_packets wire i)) input floor
+    floor_followed input above floor holds more new from is =
         let had = counted_packets wire input in
         let added = counting wire (last_start 0 had) more in
-        holds added new
-        (subst (AllCount wire) (counted_on input more) (packets_count (input ++ more)))
+        holds added new (packets_count input) (count_above (last_start 0 had) above more from)
         (ap outs (sym (counted_on input more)) ∙ is)
 
 -- no kind of packet is of the wire Nothing
@@ -201,6 +226,25 @@ no_starts [] on = refl
 no_starts (NoteOut note ∷ outs) on = no_starts outs on
 no_starts (PieceOut piece ∷ outs) on = no_starts outs on
 no_starts (PacketOut packet ∷ outs) on = absurd (none_of packet.kind on.0)
+
+-- what puts no packet out puts none out from any place on
+no_packets_from : (floor : ℕ) (outs : List Out) → PacketsOn Nothing outs → PacketsFrom floor outs
+no_packets_from floor [] on = tt
+no_packets_from floor (NoteOut note ∷ outs) on = no_packets_from floor outs on
+no_packets_from floor (PieceOut piece ∷ outs) on = no_packets_from floor outs on
+no_packets_from floor (PacketOut packet ∷ outs) on = absurd (none_of packet.kind on.0)
+
+rest_on : (xs ys : List Out) → PacketsOn Nothing (xs ++ ys) → PacketsOn Nothing ys
+rest_on [] ys on = on
+rest_on (NoteOut note ∷ xs) ys on = rest_on xs ys on
+rest_on (PieceOut piece ∷ xs) ys on = rest_on xs ys on
+rest_on (PacketOut packet ∷ xs) ys on = rest_on xs ys on.1
+
+pub from_free : {X : Type 0} (outs : List X → List Out) → GivesOn Nothing outs
+    → (input : List X) (floor : ℕ) → GivesFrom outs input floor
+from_free outs on input floor more new is =
+    no_packets_from floor new
+    (rest_on (outs input) new (subst (PacketsOn Nothing) is (on (input ++ more))))
 
 -- what puts no packet out puts packets out in order
 pub order_free : (wire : Wire) (outs : List Packet → List Out) → GivesOn Nothing outs

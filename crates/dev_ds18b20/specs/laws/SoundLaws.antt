@@ -274,6 +274,8 @@ pub probe_sound : Sound probe probe_steps probe_fits
 probe_sound = record {
   opens_fits = λ p. (le_refl p.start, tt);
   next_fits = fits_next;
+  later_fits = λ kept last from fit later. let below = fit.0 in
+      (omega (arith, below, later), fit.1);
   opens_near = λ p. le_refl p.start;
   next_near = λ kept last p fit after. near_goes_on kept last p after;
   near_below = λ kept last fit. near_above kept.stage kept.start last fit.0;

@@ -241,6 +241,8 @@ pub flash_sound : Sound flash flash_steps flash_fits
 flash_sound = record {
   opens_fits = λ p. (le_refl p.start, tt);
   next_fits = fits_next;
+  later_fits = λ kept last from fit later. let below = fit.0 in
+      (omega (arith, below, later), fit.1);
   opens_near = λ p. le_refl p.start;
   next_near = λ kept last p fit after. start_stays kept p;
   near_below = λ kept last fit. fit.0;

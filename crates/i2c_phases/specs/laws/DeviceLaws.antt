@@ -1,5 +1,6 @@
 -- What follows for the outputs of a device on an I2C bus from what it promises.
-use Rattle.std.proofs.Common.{◌≡◌, inl, inr, ℕ, Bool, true, false, if◌then◌else◌, List, [], ◌∷◌}
+use Rattle.std.proofs.Common.{◌≡◌, ◌≤◌, inl, inr, ℕ, Bool, true, false, if◌then◌else◌, List, []}
+use Rattle.std.proofs.Common.{◌∷◌}
 use Rattle.std.proofs.Common.{◌++◌, refl, sym, ◌∙◌, ap, subst, append_assoc, arith}
 use Rattle.std.proofs.lemmas.List.{append-nil}
 use Rattle.la_base.specs.declared.wires.Out.{Out}
@@ -7,7 +8,7 @@ use Rattle.la_base.specs.declared.wires.Packet.{Packet}
 use Rattle.la_base.specs.declared.wires.Wire.TheVariants.{Nothing as NoWire, I2c as I2cWire}
 use Rattle.decoder_core.specs.Promises.{AddsFew, GivesNothing, GivesOn, KeepsFront, NotesFrom}
 use Rattle.decoder_core.specs.Packets.{IsPacketFloor, PacketsStayInOrder, last_start}
-use Rattle.decoder_core.specs.laws.PacketLaws.{order_free}
+use Rattle.decoder_core.specs.laws.PacketLaws.{from_free, order_free}
 use Rattle.list_cuts.specs.Along.{along}
 use Rattle.list_cuts.proofs.AlongLaws.{along_push}
 use Rattle.list_cuts.specs.Parts.{parts}
@@ -114,12 +115,16 @@ module _ (step : List Meaning → Meaning → List Out) (bytes : GivesByByte ste
         adds_few device resets (FewFrom 0) (StartsFrom 0) step (bytes 0) (λ p. omega arith)
         (λ new few. few.0)
 
-    pub phased_floor : (seen : List Packet)
-        → IsPacketFloor I2cWire (phased device resets step) seen (phase_near seen)
-    phased_floor =
-        floor_is device resets step
-        (λ floor before. by_weaker (FewFrom floor) (NotesFrom floor) (StartsFrom floor)
-        (step before) (λ l few. few.1) (bytes floor before)) I2cWire
+    pub phased_floor : GivesOn NoWire (phased device resets step) → (seen : List Packet) (from : ℕ)
+        → last_start 0 seen ≤ from
+        → IsPacketFloor I2cWire (phased device resets step) seen from (phase_near seen from)
+    phased_floor on seen from later more new all behind is = (
+      floor_is device resets step
+          (λ floor before. by_weaker (FewFrom floor) (NotesFrom floor) (StartsFrom floor)
+          (step before) (λ l few. few.1) (bytes floor before)) I2cWire seen from later all more new
+          behind is,
+      from_free (phased device resets step) on seen (phase_near seen from) more new is,
+    )
 
 -- where a packet happens to a device, and what is kept follows it, the device stands for one packet
 -- more
@@ -161,13 +166,13 @@ module _ (step : List Meaning → Meaning → List Out) (no_packets : GivesNoPac
 
 -- where the open phase starts
 module _ (device : ℕ) (resets : Bool) where
-  pub near_is : (packets : List Packet)
-      → near_by (track device resets packets) (last_start 0 packets) ≡ phase_near packets
+  pub near_is : (packets : List Packet) (from : ℕ)
+      → near_by (track device resets packets) from ≡ phase_near packets from
   unfolding track
-  near_is packets = by (last_part (parts is_mark packets))
+  near_is packets from = by (last_part (parts is_mark packets))
     where
-      by : (part : List Packet) → near_by (track_of device resets part) (last_start 0 packets)
-          ≡ starts_at (last_start 0 packets) part
+      by : (part : List Packet) → near_by (track_of device resets part) from
+          ≡ starts_at from part
       by [] = refl
       by (x ∷ xs) = go (is_start x.kind)
         where
@@ -176,16 +181,16 @@ module _ (device : ℕ) (resets : Bool) where
                 begun = true;
                 start = x.start;
                 role = ends device resets Fresh xs;
-              }) else no_phase) (last_start 0 packets)
-              ≡ (if t then x.start else last_start 0 packets)
+              }) else no_phase) from
+              ≡ (if t then x.start else from)
           go true = refl
           go false = refl
 
   pub near_kept : (kept : Track) (packets : List Packet) (from result : ℕ)
-      → kept ≡ track device resets packets → from ≡ last_start 0 packets
-      → result ≡ near_by kept from → phase_near packets ≡ result
-  near_kept kept packets from result is from_is result_is =
-      sym (result_is ∙ (λ i. near_by (is i) (from_is i)) ∙ near_is packets)
+      → kept ≡ track device resets packets → result ≡ near_by kept from
+      → phase_near packets from ≡ result
+  near_kept kept packets from result is result_is =
+      sym (result_is ∙ ap (λ (t : Track). near_by t from) is ∙ near_is packets from)
 
   pub kept_nothing : no_phase ≡ track device resets []
   unfolding track

@@ -1,5 +1,6 @@
 -- Where the phase that is open starts, and what comes behind it.
-use Rattle.std.proofs.Common.{ℕ, ◌≤◌, Bool, true, false, if◌then◌else◌, cond, List, [], ◌∷◌, ◌++◌}
+use Rattle.std.proofs.Common.{ℕ, ◌≡◌, ◌≤◌, Bool, true, false, if◌then◌else◌, cond, List, [], ◌∷◌}
+use Rattle.std.proofs.Common.{◌++◌}
 use Rattle.std.proofs.Common.{sym, ◌∙◌, subst, arith}
 use Rattle.std.proofs.lemmas.List.{append_cancel_left}
 use Rattle.la_base.specs.declared.wires.Out.{Out}
@@ -7,8 +8,7 @@ use Rattle.la_base.specs.declared.wires.Packet.{Packet}
 use Rattle.la_base.specs.declared.wires.Wire.{Wire}
 use Rattle.decoder_core.specs.Promises.{NotesFrom}
 use Rattle.decoder_core.specs.laws.OutLaws.{NotesFrom-append}
-use Rattle.decoder_core.specs.Packets.{CountFrom, IsPacketFloor, last_start}
-use Rattle.decoder_core.specs.laws.PacketLaws.{count_rest}
+use Rattle.decoder_core.specs.Packets.{AllCount, CountFrom, last_start}
 use Rattle.list_cuts.specs.Along.{along}
 use Rattle.list_cuts.specs.Parts.{before_mark, parts}
 use Rattle.i2c_phases.specs.Devices.{ByByte, Each}
@@ -63,18 +63,19 @@ last_of Q [] all = tt
 last_of Q (p ∷ []) all = all
 last_of Q (p ∷ q ∷ ps) all = last_of Q (q ∷ ps) all
 
-near_each : (last : ℕ) (part : List Packet) → Opens last part
-    → PartEach (λ p. starts_at last part ≤ p.start) part
-near_each last [] all = tt
-near_each last (x ∷ xs) all =
-    λ e. subst (λ (b : Bool). Each (λ p. (if b then x.start else last) ≤ p.start) xs) (sym e) all.0
+near_each : (last from : ℕ) (part : List Packet) → Opens last part
+    → PartEach (λ p. starts_at from part ≤ p.start) part
+near_each last from [] all = tt
+near_each last from (x ∷ xs) all =
+    λ e. subst (λ (b : Bool). Each (λ p. (if b then x.start else from) ≤ p.start) xs) (sym e) all.0
 
-near_low : (last : ℕ) (part : List Packet) → Opens last part → starts_at last part ≤ last
-near_low last [] all = omega arith
-near_low last (x ∷ xs) all = by (is_start x.kind)
+near_low : (last from : ℕ) (part : List Packet) → last ≤ from → Opens last part
+    → starts_at from part ≤ from
+near_low last from [] later all = omega arith
+near_low last from (x ∷ xs) later all = by (is_start x.kind)
   where
-    by : (t : Bool) → (if t then x.start else last) ≤ last
-    by true = all.1
+    by : (t : Bool) → (if t then x.start else from) ≤ from
+    by true = let below = all.1 in omega (arith, below, later)
     by false = omega arith
 
 -- where each phase gives notes of its own bytes, what packets add starts where the open phase
@@ -82,25 +83,21 @@ near_low last (x ∷ xs) all = by (is_start x.kind)
 module _ (device : ℕ) (resets : Bool) (step : List Meaning → Meaning → List Out)
     (laws : (floor : ℕ) (before : List Meaning)
     → ByByte (NotesFrom floor) (λ p. floor ≤ p.start) (step before)) (wire : Wire) where
-  pub floor_is : (seen : List Packet) → IsPacketFloor wire
-      (λ packets. along step (meanings device resets packets)) seen (phase_near seen)
-  floor_is seen = λ more new all is.
-      let f = phase_near seen in
-      let front = front_counts 0 seen more all in
-      let opened = opens wire 0 seen front in
-      let low = near_low (last_start 0 seen) (last_part (parts is_mark seen)) opened in
+  pub floor_is : (seen : List Packet) (from : ℕ) → last_start 0 seen ≤ from
+      → AllCount wire seen → (more : List Packet) (new : List Out) → CountFrom wire from more
+      → along step (meanings device resets (seen ++ more))
+      ≡ along step (meanings device resets seen) ++ new → NotesFrom (phase_near seen from) new
+  floor_is seen from later all more new behind is =
+      let f = phase_near seen from in
+      let opened = opens wire 0 seen all in
+      let low = near_low (last_start 0 seen) from (last_part (parts is_mark seen)) later opened in
       let last =
       last_of (λ p. f ≤ p.start) (parts is_mark seen)
-      (near_each (last_start 0 seen) (last_part (parts is_mark seen)) opened) in
-      let each = count_each wire f (last_start 0 seen) more low (count_rest wire 0 seen more all) in
+      (near_each (last_start 0 seen) from (last_part (parts is_mark seen)) opened) in
+      let each = count_each wire f from more low behind in
       let added =
       packets_more device resets (NotesFrom f) (λ p. f ≤ p.start) step (laws f)
       (NotesFrom-append f) seen more last each in
       subst (NotesFrom f)
       (append_cancel_left (along step (meanings device resets seen)) added.0 new
       (sym added.1 ∙ is)) added.2
-    where
-      front_counts : (last : ℕ) (xs ys : List Packet) → CountFrom wire last (xs ++ ys)
-          → CountFrom wire last xs
-      front_counts last [] ys all = tt
-      front_counts last (x ∷ xs) ys all = (all.0, all.1, front_counts x.start xs ys all.2)

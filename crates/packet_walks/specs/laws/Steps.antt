@@ -19,7 +19,7 @@ NoPackets (PacketOut packet ∷ outs) = ⊥
 
 -- what is kept of the transaction that is open: behind the packet that begins it; how one more
 -- packet changes it, and what that gives; what the packet gives that ends it; and where that starts
--- which may still give notes, by where the last packet starts
+-- which may still give notes, by the place from which on all that come start
 pub record Steps (O : Type 0) : Type 0 where
   pub opens : Packet → O
   pub next : O → Packet → O
@@ -77,11 +77,12 @@ module _ {O : Type 0} (device : Device) (steps : Steps O) where
         → first.start ≤ steps.near (kept first ps) last
 
   -- what a device owes of one transaction and one packet. `fits`: this may be kept behind packets
-  -- the last of which starts there
+  -- the last of which starts there or earlier
   pub record Sound (fits : O → ℕ → Type 0) : Type 0 where
     pub opens_fits : (p : Packet) → fits (steps.opens p) p.start
     pub next_fits : (kept : O) (last : ℕ) (p : Packet) → fits kept last → last ≤ p.start
         → fits (steps.next kept p) p.start
+    pub later_fits : (kept : O) (last from : ℕ) → fits kept last → last ≤ from → fits kept from
     pub opens_near : (p : Packet) → p.start ≤ steps.near (steps.opens p) p.start
     pub next_near : (kept : O) (last : ℕ) (p : Packet) → fits kept last → last ≤ p.start
         → steps.near kept last ≤ steps.near (steps.next kept p) p.start

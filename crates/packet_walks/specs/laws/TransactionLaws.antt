@@ -20,7 +20,8 @@ use Rattle.packet_walks.specs.Promises.{Promises}
 use Rattle.packet_walks.specs.laws.Steps.{NoPackets, Steps, begin_next, held_gives, held_next}
 use Rattle.packet_walks.specs.laws.Steps.{held_near, transaction_walk, held_in, held_of, Pushed}
 use Rattle.packet_walks.specs.laws.Steps.{Sound}
-use Rattle.packet_walks.specs.laws.WalkLaws.{notes_from_less, walk_nothing, walk_prefix, walk_few}
+use Rattle.packet_walks.specs.laws.WalkLaws.{notes_from_less, packets_from_less, walk_nothing}
+use Rattle.packet_walks.specs.laws.WalkLaws.{walk_prefix, walk_few}
 use Rattle.packet_walks.specs.laws.WalkLaws.{walk_on, walk_order, walk_floor}
 use Rattle.packet_walks.specs.laws.CutLaws.{grown_first, first_push, ended_of, last_of, ended_stay}
 use Rattle.packet_walks.specs.laws.CutLaws.{last_grows, ended_grow, last_begins}
@@ -198,6 +199,11 @@ module _ {O : Type 0} (device : Device) (steps : Steps O) where
         by true = fits_begin p
         by false = sound.next_fits kept last p fit after
 
+    fits_later : (h : Option O) (last from : ℕ) → held_fits fits h last → last ≤ from
+        → held_fits fits h from
+    fits_later None last from fit later = tt
+    fits_later (Some kept) last from fit later = sound.later_fits kept last from fit later
+
     few : (h : Option O) (p : Packet) → length (held_gives device steps h p) ≤ 16
     few None p = omega arith
     few (Some kept) p = by (device.ends p)
@@ -250,6 +256,7 @@ module _ {O : Type 0} (device : Device) (steps : Steps O) where
     transactions_sound = record {
       begin_fits = tt;
       next_fits = fits_next;
+      later_fits = fits_later;
       few = few;
       on_wire = λ h p. any_wire NoWire (held_gives device steps h p) (none h p);
       notes = notes;
@@ -263,16 +270,15 @@ module _ {O : Type 0} (device : Device) (steps : Steps O) where
 
   -- the near place is no later than the one that is kept
   module _ (kept : Packet → List Packet → O) (pushed : Pushed device steps kept) where
-    pub near_most : (packets : List Packet) → transaction_near device packets ≤ held_near device
-        steps (held_of device steps kept packets) (last_start 0 packets)
+    pub near_most : (packets : List Packet) (from : ℕ) → transaction_near device packets from
+        ≤ held_near device steps (held_of device steps kept packets) from
     unfolding transaction_near held_of
-    near_most packets = by (open_part device packets)
+    near_most packets from = by (open_part device packets)
       where
-        by : (part : List Packet) → begun_at device part
-            (last_start 0 packets) ≤ held_near device steps (held_in device steps kept part)
-            (last_start 0 packets)
-        by [] = le_refl (last_start 0 packets)
-        by (first ∷ others) = pushed.near_after first others (last_start 0 packets)
+        by : (part : List Packet) → begun_at device part from
+            ≤ held_near device steps (held_in device steps kept part) from
+        by [] = le_refl from
+        by (first ∷ others) = pushed.near_after first others from
 
 -- what a device promises that owes this
 module _ {O : Type 0} (device : Device) (steps : Steps O) (wants : Wire) (fits : O → ℕ → Type 0)
@@ -297,29 +303,34 @@ module _ {O : Type 0} (device : Device) (steps : Steps O) (wants : Wire) (fits :
             (held_fits device steps fits) walks_soundly wants;
       }
 
-  pub floor_is : (seen : List Packet)
-      → IsPacketFloor wants (transaction_outs device) seen (transaction_near device seen)
-  floor_is seen more new all is =
-      notes_from_less new (transaction_near device seen)
-      (held_near device steps (held_of device steps kept seen) (last_start 0 seen))
-      (near_most device steps kept pushed seen) (promises.floor seen more new all is)
+  pub floor_is : (seen : List Packet) (from : ℕ) → last_start 0 seen ≤ from
+      → IsPacketFloor wants (transaction_outs device) seen from (transaction_near device seen from)
+  floor_is seen from later more new all behind is =
+      let low = transaction_near device seen from in
+      let high = held_near device steps (held_of device steps kept seen) from in
+      let below = near_most device steps kept pushed seen from in
+      let both = promises.floor seen from later more new all behind is in (
+        notes_from_less new low high below both.0,
+        packets_from_less new low high below both.1,
+      )
 
   -- what is kept of packets makes the floor and the near place, and says what one more packet does
   module _ (held : Option O) (seen : List Packet)
       (stands : held ≡ held_of device steps kept seen) where
-    module _ (from result : ℕ) (from_is : from ≡ last_start 0 seen)
+    module _ (from result : ℕ) (later : last_start 0 seen ≤ from)
         (result_is : result ≡ held_near device steps held from) where
-      same : held_near device steps (held_of device steps kept seen) (last_start 0 seen) ≡ result
-      same = sym (result_is ∙ (λ i. held_near device steps (stands i) (from_is i)))
+      same : held_near device steps (held_of device steps kept seen) from ≡ result
+      same = sym (result_is ∙ ap (λ (h : Option O). held_near device steps h from) stands)
 
-      pub kept_floor : IsPacketFloor wants (transaction_outs device) seen result
+      pub kept_floor : IsPacketFloor wants (transaction_outs device) seen from result
       kept_floor =
-          subst (IsPacketFloor wants (transaction_outs device) seen) same (promises.floor seen)
+          subst (IsPacketFloor wants (transaction_outs device) seen from) same
+          (promises.floor seen from later)
 
-      pub kept_near : transaction_near device seen ≤ result
+      pub kept_near : transaction_near device seen from ≤ result
       kept_near =
-          subst (λ (n : ℕ). transaction_near device seen ≤ n) same
-          (near_most device steps kept pushed seen)
+          subst (λ (n : ℕ). transaction_near device seen from ≤ n) same
+          (near_most device steps kept pushed seen from)
 
     module _ (packet : Packet) where
       pub kept_stands : (new : Option O) → new ≡ held_next device steps held packet

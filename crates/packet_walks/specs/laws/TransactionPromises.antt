@@ -1,9 +1,9 @@
 -- What the outputs of a device's transactions promise.
-use Rattle.std.specs.Prelude.{ℕ, List, Some}
+use Rattle.std.specs.Prelude.{ℕ, ◌≤◌, List, Some}
 use Rattle.la_base.specs.declared.wires.Packet.{Packet}
 use Rattle.la_base.specs.declared.wires.Wire.{Wire}
 use Rattle.la_base.specs.declared.wires.Wire.TheVariants.{Nothing as NoWire}
-use Rattle.decoder_core.specs.Packets.{IsPacketFloor}
+use Rattle.decoder_core.specs.Packets.{IsPacketFloor, last_start}
 use Rattle.packet_walks.specs.Transactions.{Device, transaction_outs, transaction_near}
 use Rattle.packet_walks.specs.Promises.{Promises, Reached}
 use Rattle.packet_walks.specs.laws.Steps.{Steps, transaction_walk, held_of, Pushed, Sound}
@@ -21,5 +21,5 @@ TransactionsKeepPromises O =
     → Sound device steps (ReachedOpen device steps wants kept) → Pushed device steps kept
     → Promises (transaction_walk device steps) wants NoWire (transaction_outs device)
     (held_of device steps kept)
-    × ((seen : List Packet)
-    → IsPacketFloor wants (transaction_outs device) seen (transaction_near device seen))
+    × ((seen : List Packet) (from : ℕ) → last_start 0 seen ≤ from
+    → IsPacketFloor wants (transaction_outs device) seen from (transaction_near device seen from))

@@ -11,11 +11,11 @@ use Rattle.la_base.specs.declared.wires.Packet.{Packet}
 use Rattle.la_base.specs.declared.wires.Wire.{Wire}
 use Rattle.decoder_core.specs.Packets.{CountFrom, IsPacketFloor, PacketsStayInOrder, last_start}
 use Rattle.decoder_core.specs.Promises.{AddsFew, GivesNothing, GivesOn, KeepsFront, NotesFrom}
-use Rattle.decoder_core.specs.Promises.{PacketsOn, packet_starts}
+use Rattle.decoder_core.specs.Promises.{PacketsFrom, PacketsOn, packet_starts}
 use Rattle.decoder_core.specs.laws.OutLaws.{NotesFrom-append, PacketsOn-append}
 use Rattle.decoder_core.specs.laws.OutLaws.{packet_starts-append}
-use Rattle.decoder_core.specs.laws.PacketLaws.{count_rest}
 use Rattle.sample_walks.specs.Walks.{Between}
+use Rattle.sample_walks.specs.laws.WalkLaws.{between_packets}
 use Rattle.packet_walks.specs.Walks.{PacketWalk, SoundPackets, PushedPackets}
 
 -- numbers that never fall
@@ -59,6 +59,16 @@ notes_from_less (PieceOut piece ∷ outs) less low below from =
     notes_from_less outs less low below from
 notes_from_less (PacketOut packet ∷ outs) less low below from =
     notes_from_less outs less low below from
+
+pub packets_from_less : (outs : List Out) (less low : ℕ) → less ≤ low → PacketsFrom low outs
+    → PacketsFrom less outs
+packets_from_less [] less low below from = tt
+packets_from_less (NoteOut note ∷ outs) less low below from =
+    packets_from_less outs less low below from
+packets_from_less (PieceOut piece ∷ outs) less low below from =
+    packets_from_less outs less low below from
+packets_from_less (PacketOut packet ∷ outs) less low below from =
+    (omega (arith, below, from.0), packets_from_less outs less low below from.1)
 
 module _ {H : Type 0} (w : PacketWalk H) where
   -- what packets give one after another, and what is then kept
@@ -141,6 +151,12 @@ module _ {H : Type 0} (w : PacketWalk H) where
             (w.near (walk_from w.begin ps) (last_start 0 ps))
             (packets_from ps w.begin 0 sound.begin_fits all))
 
+        later_packets : (ps : List Packet) (h : H) (low last : ℕ) → fits h last
+            → CountFrom wire last ps → low ≤ w.near h last → PacketsFrom low (given_from h ps)
+        later_packets ps h low last fit all below =
+            between_packets (given_from h ps) low (w.near h last) _ below
+            (packets_from ps h last fit all)
+
         notes_from : (ps : List Packet) (h : H) (low last : ℕ) → fits h last
             → CountFrom wire last ps → low ≤ w.near h last → NotesFrom low (given_from h ps)
         notes_from [] h low last fit all below = tt
@@ -154,21 +170,18 @@ module _ {H : Type 0} (w : PacketWalk H) where
             (notes_from ps (w.next h p) low p.start (sound.next_fits h last p fit all.1) all.2
             (omega (arith, below, rise)))
 
-        front_counts : (last : ℕ) (ps more : List Packet) → CountFrom wire last (ps ++ more)
-            → CountFrom wire last ps
-        front_counts last [] more all = tt
-        front_counts last (p ∷ ps) more all = (all.0, all.1, front_counts p.start ps more all.2)
-
-        pub walk_floor : (seen : List Packet)
-            → IsPacketFloor wire outs seen (w.near (kept seen) (last_start 0 seen))
-        walk_floor seen more new all is =
+        pub walk_floor : (seen : List Packet) (from : ℕ) → last_start 0 seen ≤ from
+            → IsPacketFloor wire outs seen from (w.near (kept seen) from)
+        walk_floor seen from later more new all behind is =
             let last = last_start 0 seen in
-            let floor = w.near (kept seen) last in
-            let fit : fits (kept seen) last =
-            subst (λ (h : H). fits h last) (sym (kept_is seen))
-            (fits_from seen w.begin 0 sound.begin_fits (front_counts 0 seen more all)) in
-            subst (NotesFrom floor)
+            let floor = w.near (kept seen) from in
+            let fit : fits (kept seen) from =
+            sound.later_fits (kept seen) last from
+            (subst (λ (h : H). fits h last) (sym (kept_is seen))
+            (fits_from seen w.begin 0 sound.begin_fits all)) later in
+            subst (λ (l : List Out). NotesFrom floor l × PacketsFrom floor l)
             (append_cancel_left (outs seen) (given_from (kept seen) more) new
-            (sym (outs_more more seen) ∙ is))
-            (notes_from more (kept seen) floor last fit (count_rest wire 0 seen more all)
-            (omega arith))
+            (sym (outs_more more seen) ∙ is)) (
+              notes_from more (kept seen) floor from fit behind (omega arith),
+              later_packets more (kept seen) floor from fit behind (omega arith),
+            )

@@ -5,11 +5,12 @@ use Rattle.std.proofs.Common.{ap, subst}
 use Rattle.std.proofs.lemmas.List.{append-nil}
 use Rattle.la_base.specs.declared.wires.Out.{Out}
 use Rattle.decoder_core.specs.Promises.{IsFloor, GivesNothing, KeepsFront, PacketsInOrder, AddsFew}
-use Rattle.decoder_core.specs.Promises.{GivesOn, PacketsOn, Rests, StopsIn}
+use Rattle.decoder_core.specs.Promises.{GivesFrom, GivesOn, PacketsOn, Rests, StopsIn}
 use Rattle.sample_walks.specs.Walks.{Walk, walked, given, EndsThere, Sound}
 use Rattle.sample_walks.specs.Events.{EventWalk, by_events, gives_all, next_all, SoundEvents}
 use Rattle.sample_walks.specs.laws.EventWalks.{events_sound, events_on}
-use Rattle.sample_walks.specs.laws.HeldLaws.{held_quiet, held_one_stop, held_floor, held_near}
+use Rattle.sample_walks.specs.laws.HeldLaws.{held_quiet, held_one_stop, held_floor, held_packets}
+use Rattle.sample_walks.specs.laws.HeldLaws.{held_near}
 use Rattle.sample_walks.specs.laws.HeldLaws.{Stopped, held_stop}
 use Rattle.sample_walks.specs.laws.WalkLaws.{outs_nothing, outs_prefix, outs_few, outs_order}
 
@@ -71,6 +72,11 @@ module _ {H E : Type 0} (d : EventDecoder H E) where
         pub floor_of : IsFloor d.outs (seen ++ more) result
         floor_of =
             held_floor samples d.fits timed sound d.outs d.given_is held seen more holds.0 holds.1
+            none count result count_is result_is
+
+        pub packets_of : GivesFrom d.outs (seen ++ more) result
+        packets_of =
+            held_packets samples d.fits timed sound d.outs d.given_is held seen more holds.0 holds.1
             none count result count_is result_is
 
         pub near_of : d.near (seen ++ more) ≤ result

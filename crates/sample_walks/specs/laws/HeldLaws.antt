@@ -5,9 +5,10 @@ use Rattle.std.proofs.Math.Nat.{le_refl}
 use Rattle.la_base.specs.Samples.{before_of}
 use Rattle.la_base.specs.declared.wires.Out.{Out}
 use Rattle.wait_cond.specs.Stops.{MetSet}
-use Rattle.decoder_core.specs.Promises.{IsFloor, Rests, StopsIn}
+use Rattle.decoder_core.specs.Promises.{IsFloor, GivesFrom, Rests, StopsIn}
 use Rattle.sample_walks.specs.Walks.{Walk, walked, given, EndsThere, Sound}
-use Rattle.sample_walks.specs.laws.WalkLaws.{walked_quiet, outs_quiet, outs_floor, one_stop}
+use Rattle.sample_walks.specs.laws.WalkLaws.{walked_quiet, outs_quiet, outs_floor, outs_packets}
+use Rattle.sample_walks.specs.laws.WalkLaws.{one_stop}
 use Rattle.sample_walks.specs.laws.WalkLaws.{stop_fits, stop_set, stop_moves, stop_gives}
 use Rattle.sample_walks.specs.laws.WalkLaws.{stop_keeps, stop_ends}
 
@@ -50,6 +51,11 @@ module _ {H : Type 0} (w : Walk H) (fits : H → ℕ → Option ℕ → Type 0) 
       held_floor =
           subst (λ (n : ℕ). IsFloor outs (seen ++ more) n) (sym near_is)
           (outs_floor w fits timed sound outs same (seen ++ more))
+
+      pub held_packets : GivesFrom outs (seen ++ more) result
+      held_packets =
+          subst (λ (n : ℕ). GivesFrom outs (seen ++ more) n) (sym near_is)
+          (outs_packets w fits timed sound outs same (seen ++ more))
 
       pub held_near : (near : List ℕ → ℕ)
           → ((list : List ℕ) → near list ≡ w.near (walked w list) (length list))

@@ -16,7 +16,8 @@ use Rattle.la_base.specs.declared.wires.Out.TheVariants.{Packet as PacketOut}
 use Rattle.wait_cond.specs.declared.alt.Alt.{Alt}
 use Rattle.wait_cond.specs.Stops.{NoneMet, MetIn, MetSet}
 use Rattle.list_cuts.specs.Neighbours.{last_from, last_of}
-use Rattle.decoder_core.specs.Promises.{NotesFrom, IsFloor, GivesNothing, KeepsFront}
+use Rattle.decoder_core.specs.Promises.{NotesFrom, PacketsFrom, IsFloor, GivesFrom, GivesNothing}
+use Rattle.decoder_core.specs.Promises.{KeepsFront}
 use Rattle.decoder_core.specs.Promises.{PacketsInOrder, AddsFew, Rests, StopsIn, packet_starts}
 use Rattle.decoder_core.specs.laws.OutLaws.{NotesFrom-append, packet_starts-append}
 use Rattle.sample_walks.specs.Walks.{Between, Walk, walk_from, given_from, walked, given, EndsThere}
@@ -153,6 +154,20 @@ notes_lower less low (NoteOut note ∷ outs) below notes =
     (omega (arith, below, notes.0), notes_lower less low outs below notes.1)
 notes_lower less low (PieceOut piece ∷ outs) below notes = notes_lower less low outs below notes
 notes_lower less low (PacketOut packet ∷ outs) below notes = notes_lower less low outs below notes
+
+-- packets that start one after another from a place on start at any earlier place or later
+pub between_packets : (outs : List Out) (less low high : ℕ) → less ≤ low
+    → Between low high (packet_starts outs) → PacketsFrom less outs
+between_packets [] less low high below rise = tt
+between_packets (NoteOut note ∷ outs) less low high below rise =
+    between_packets outs less low high below rise
+between_packets (PieceOut piece ∷ outs) less low high below rise =
+    between_packets outs less low high below rise
+between_packets (PacketOut packet ∷ outs) less low high below rise =
+    let first = rise.0 in (
+      omega (arith, below, first),
+      between_packets outs less packet.start high (omega (arith, below, first)) rise.1,
+    )
 
 no_more : (xs ys : List ℕ) → xs ++ ys ≡ [] → ys ≡ []
 no_more [] ys is = is
@@ -502,3 +517,13 @@ module _ {H : Type 0} (w : Walk H) where
           (sym (outs_append list more) ∙ is))
           (notes_from more (walked w list) (length list) (w.near (walked w list) (length list))
           (last_of list) (walked_fits list) (omega arith))
+
+      pub outs_packets : (list : List ℕ)
+          → GivesFrom outs list (w.near (walked w list) (length list))
+      outs_packets list more new is =
+          let low = w.near (walked w list) (length list) in
+          let added = given_from w (walked w list) (length list) (last_of list) more in
+          subst (λ (l : List Out). PacketsFrom low l)
+          (append_cancel_left (outs list) added new (sym (outs_append list more) ∙ is))
+          (between_packets added low low _ (omega arith)
+          (packets_from more (walked w list) (length list) (last_of list) (walked_fits list)))

@@ -1,5 +1,5 @@
 use Rattle.sample_walks.specs.Promises.{Reached, Began}
-use Rattle.sample_walks.specs.laws.WalkLaws.{outs_quiet, one_stop, outs_nothing, outs_prefix, outs_order, outs_few, outs_floor}
+use Rattle.sample_walks.specs.laws.WalkLaws.{outs_quiet, one_stop, outs_nothing, outs_prefix, outs_order, outs_few, outs_floor, outs_packets}
 use Rattle.sample_walks.proofs.laws.walk_laws.Goals as goal
 
 pub returns : goal.returns
@@ -11,4 +11,5 @@ returns g c = λ w outs sound same. record {
   order = outs_order w (Reached w) (Began w) sound outs same;
   few = outs_few w (Reached w) (Began w) sound outs same;
   floor = outs_floor w (Reached w) (Began w) sound outs same;
+  packets = outs_packets w (Reached w) (Began w) sound outs same;
 }

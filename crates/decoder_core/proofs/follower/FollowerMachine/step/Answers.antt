@@ -43,6 +43,13 @@ returns-in-End-clause-step g c =
     let wire = m.wire (g.D.Configured.setup s.machine) in
     passes m.stands wire (m.outs (g.D.Configured.setup s.machine)) s.machine s.from c.args.feed [] c.args.into.now (ap items_of c.in-End.is) c.requires (λ input d. samples_passed wire input [])
 
+pub returns-in-From-clause-step : goal.returns-in-From-clause-step
+returns-in-From-clause-step g c =
+    let m = g.D.PacketMachine in
+    let s = c.args.self.now in
+    let wire = m.wire (g.D.Configured.setup s.machine) in
+    passes m.stands wire (m.outs (g.D.Configured.setup s.machine)) s.machine s.from c.args.feed [] c.args.into.now (ap items_of c.in-From.is) c.requires (λ input d. samples_passed wire input [])
+
 pub returns-then-counts-clause-stops : goal.returns-then-counts-clause-stops
 returns-then-counts-clause-stops g c =
     let m = g.D.PacketMachine in
@@ -66,3 +73,9 @@ returns-in-End-clause-stops g c =
     let m = g.D.PacketMachine in
     let s = c.args.self.now in
     end_feed (m.wire (g.D.Configured.setup s.machine)) (Follows m.stands (m.wire (g.D.Configured.setup s.machine)) s.machine s.from) c.args.feed (ap items_of c.in-End.is)
+
+pub returns-in-From-clause-stops : goal.returns-in-From-clause-stops
+returns-in-From-clause-stops g c =
+    let m = g.D.PacketMachine in
+    let s = c.args.self.now in
+    end_feed (m.wire (g.D.Configured.setup s.machine)) (Follows m.stands (m.wire (g.D.Configured.setup s.machine)) s.machine s.from) c.args.feed (ap items_of c.in-From.is)
