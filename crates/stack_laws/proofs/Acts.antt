@@ -6,11 +6,12 @@ use Rattle.la_base.specs.Samples.{samples}
 use Rattle.la_base.proofs.RunLemmas.{samples_len}
 use Rattle.la_base.specs.declared.samples.Run.{Run}
 use Rattle.la_base.specs.declared.wires.Feed.{Feed}
-use Rattle.la_base.specs.declared.wires.Feed.TheVariants.{Run as RunFeed, Packet as PacketFeed, End}
+use Rattle.la_base.specs.declared.wires.Feed.TheVariants.{Run as RunFeed, Packet as PacketFeed, From, End}
 use Rattle.decoder_core.specs.Inputs.{Item, Sample, items_of}
 use Rattle.tree_runs.specs.Machines.{Definitions}
 use Rattle.stack_laws.specs.Links.{some}
 use Rattle.stack_laws.specs.Feeds.{ends_feed, items_in, is_floor}
+use Rattle.stack_laws.specs.Heeding.{above_in}
 use Rattle.stack_laws.specs.Moves.{MayTell}
 use Rattle.stack_laws.specs.Running.{State, Stage, opening}
 use Rattle.stack_laws.specs.Events.{Take, Close, MayAll, after, after_all, more_at}
@@ -27,6 +28,7 @@ use Rattle.stack_laws.proofs.Keeping.{keep_on, opening_legal}
 end_items : (feed : Feed) → ends_feed feed ≡ true → items_of feed ≡ []
 end_items (RunFeed run) is = absurd cc
 end_items (PacketFeed packet) is = absurd cc
+end_items (From start) is = absurd cc
 end_items End is = refl
 
 -- a stage that hasn't received End hasn't closed
@@ -89,6 +91,7 @@ module _ (parents : List (Option ℕ)) (by : Definitions) (slots : ℕ) (state :
   act_tells (DoRoot i feed) may = had
   act_tells (DoTake i (RunFeed run)) may = take_tells i (RunFeed run) (λ is. absurd (left_some (at i).input.received (RunFeed run) (at i).consumed may.0 (run_some run) is))
   act_tells (DoTake i (PacketFeed packet)) may = take_tells i (PacketFeed packet) (λ is. absurd (left_some (at i).input.received (PacketFeed packet) (at i).consumed may.0 (omega arith) is))
+  act_tells (DoTake i (From start)) may = take_tells i (From start) (λ is. had i may.0)
   act_tells (DoTake i End) may = take_tells i End (λ _. had i may.0)
   act_tells (DoStep i items left new floor) may = step_tells i items left floor may.0
   act_tells (DoGive i child feed) may = had
@@ -122,9 +125,9 @@ module _ (parents : List (Option ℕ)) (by : Definitions) (slots : ℕ) (state :
         still : (at i).closed ≡ false
         still = rest_open (at i).input.received (at i).consumed items left (at i).closed (legal.fits.takes i) may.0 may.1
 
-        way : (left : List Item) → (left ≡ [] → MayTell (by.whole i) (by.near i) ((at i).consumed ++ items) floor) → (start : ℕ) → floor_behind left floor ≡ Some start
-            → MayTell (by.whole i) (by.near i) ((at i).consumed ++ items) start
-        way [] is start same = let floor_is : floor ≡ start = cc in subst (MayTell (by.whole i) (by.near i) ((at i).consumed ++ items)) floor_is (is refl)
+        way : (left : List Item) → (left ≡ [] → MayTell (above_in (at i).input.received (length ((at i).consumed ++ items))) (by.whole i) (by.near i) ((at i).consumed ++ items) floor) → (start : ℕ) → floor_behind left floor ≡ Some start
+            → MayTell (above_in (at i).input.received (length ((at i).consumed ++ items))) (by.whole i) (by.near i) ((at i).consumed ++ items) start
+        way [] is start same = let floor_is : floor ≡ start = cc in subst (MayTell (above_in (at i).input.received (length ((at i).consumed ++ items))) (by.whole i) (by.near i) ((at i).consumed ++ items)) floor_is (is refl)
         way (item ∷ left) is start same = absurd cc
     act_may (DoGive i child feed) may = (may, tt)
     act_may (DoTell i mark) may = (may, tt)

@@ -14,7 +14,6 @@ use Rattle.tree_runs.proofs.Flooring.{floored-append}
 use Rattle.tree_runs.proofs.Lists.{marks-append}
 use Rattle.stack_laws.specs.Feeds.{mark_end, floor_mark, is_floor}
 use Rattle.stack_laws.specs.Keeping.{Batched}
-use Rattle.stack_laws.specs.Moves.{MayTell}
 
 module _ (whole : List Item → List Out) (near : List Item → ℕ) where
   -- one more batch, and the floor behind it
@@ -85,7 +84,7 @@ module _ (whole : List Item → List Out) (near : List Item → ℕ) where
           ∙ ap (λ (l : List Mark). b.front ++ l) (sym (append_assoc (marks_of b.new) (marks_of new) rest) ∙ ap (λ (l : List Mark). l ++ rest) (sym (marks-append b.new new)))
 
       -- more is consumed, with a floor behind it or none
-      pub batched_step : (floor : Option ℕ) → ((start : ℕ) → floor ≡ Some start → MayTell whole near (consumed ++ items) start)
+      pub batched_step : (floor : Option ℕ) → ((start : ℕ) → floor ≡ Some start → near (consumed ++ items) ≤ start)
           → Batched whole near (consumed ++ items) (is_floor floor) closed (made ++ (marks_of new ++ floor_mark floor))
       batched_step None may = record {
         batches = b.batches;
@@ -108,7 +107,7 @@ module _ (whole : List Item → List Out) (near : List Item → ℕ) where
             front = front;
             new = [];
             cut = sym all ∙ sym (append-nil (together (b.batches ++ since ∷ [])));
-            floored = batch_more b.batches since b.front all_new start b.floored (ap whole (sym same_items) ∙ adds_all) (subst (λ (l : List Item). near l ≤ start) same_items (may start refl).1);
+            floored = batch_more b.batches since b.front all_new start b.floored (ap whole (sym same_items) ∙ adds_all) (subst (λ (l : List Item). near l ≤ start) same_items (may start refl));
             adds = ap whole (sym all) ∙ sym (append-nil (whole (together (b.batches ++ since ∷ []))));
             marks = marks_all (FloorMark start ∷ []) ∙ sym (append-nil front) ∙ (λ k. front ++ mark_end (sym going k));
             none_since = λ _. refl;

@@ -7,11 +7,12 @@ use Rattle.tree_runs.specs.Machines.{Definitions}
 use Rattle.tree_runs.specs.Passing.{IsForest}
 use Rattle.stack_laws.specs.Links.{Link, IsFront, IsLink, EndsLast, some}
 use Rattle.stack_laws.specs.Running.{State, Stage, is_over}
-use Rattle.stack_laws.specs.Feeds.{ends_feed, ends_marks, feed_end, feeds_of}
+use Rattle.stack_laws.specs.Feeds.{ends_feed, ends_marks, feed_end}
 use Rattle.stack_laws.specs.Legal.{Fits, due}
 use Rattle.stack_laws.specs.Settling.{IsEmptied}
 use Rattle.stack_laws.proofs.Lists.{some-append, some_front, front_trans, none_behind}
-use Rattle.stack_laws.proofs.Wires.{no_end_of_runs, no_end_of_packets, feed_end_is, notes_shown, notes_of_marks}
+use Rattle.stack_laws.proofs.Heeding.{made_ends, plain_some}
+use Rattle.stack_laws.proofs.Wires.{no_end_of_runs, feed_end_is, notes_shown, notes_of_marks}
 
 -- End is the last that was sent on a link
 pub end_last : {T : Type 0} (is_end : T → Bool) (slots : ℕ) (link : Link T) → IsLink is_end slots link → some is_end link.sent ≡ true → (some is_end link.made ≡ true) × (link.sent ≡ link.made)
@@ -40,15 +41,13 @@ module _ (parents : List (Option ℕ)) (by : Definitions) (slots : ℕ) (state :
   -- End was made for a root where the feed is over, and only there
   pub root_over : (i : ℕ) → slice_get parents i ≡ Some None → some ends_feed (at i).input.made ≡ is_over state
   root_over i on =
-      ap (some ends_feed) (fits.hands i ∙ ap (due by.whole state) on) ∙ some-append ends_feed (map RunFeed state.fed) (feed_end (is_over state))
+      sym (plain_some (at i).input.made) ∙ ap (some ends_feed) (fits.hands i ∙ ap (due by.whole state) on) ∙ some-append ends_feed (map RunFeed state.fed) (feed_end (is_over state))
       ∙ (λ k. no_end_of_runs state.fed k || (feed_end_is (is_over state)).0 k)
 
   -- and for any other stage where its parent has closed, and only there
   pub parent_closed : (i p : ℕ) → slice_get parents i ≡ Some (Some p) → some ends_feed (at i).input.made ≡ (at p).closed
   parent_closed i p on =
-      let outs = by.whole p (at p).consumed in
-      ap (some ends_feed) (fits.hands i ∙ ap (due by.whole state) on) ∙ some-append ends_feed (feeds_of outs) (feed_end (at p).closed)
-      ∙ (λ k. no_end_of_packets outs k || (feed_end_is (at p).closed).0 k)
+      made_ends (by.whole p (at p).consumed) (at p).closed (at i).input.made (fits.hands i ∙ ap (due by.whole state) on)
 
   module _ (forest : IsForest parents) where
     over_below : (n i : ℕ) → i < n → some ends_feed (at i).input.received ≡ true → is_over state ≡ true
@@ -58,7 +57,7 @@ module _ (parents : List (Option ℕ)) (by : Definitions) (slots : ℕ) (state :
         way (slice_get parents i) refl has (λ p less closed. over_below n p (omega (arith, less, low)) ((fits.takes p).all closed).0)
       where
         way : (place : Option (Option ℕ)) → slice_get parents i ≡ place → some ends_feed (at i).input.made ≡ true → ((p : ℕ) → p < i → (at p).closed ≡ true → is_over state ≡ true) → is_over state ≡ true
-        way None on has parent = let no : false ≡ true = sym (ap (some ends_feed) (fits.hands i ∙ ap (due by.whole state) on)) ∙ has in absurd cc
+        way None on has parent = let no : false ≡ true = sym (ap (some ends_feed) (fits.hands i ∙ ap (due by.whole state) on)) ∙ plain_some (at i).input.made ∙ has in absurd cc
         way (Some None) on has parent = sym (root_over i on) ∙ has
         way (Some (Some p)) on has parent = parent p (forest i p on) (sym (parent_closed i p on) ∙ has)
 

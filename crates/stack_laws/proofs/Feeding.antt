@@ -1,17 +1,22 @@
 -- What the driver reads, sends and stops keeps a state fits.
-use Rattle.std.proofs.Common.{◌≡◌, ℕ, Bool, true, false, not, ◌||◌, List, [], ◌∷◌, ◌++◌, map, slice_get, Option, Some, None, refl, sym, ◌∙◌, ap, subst, append_assoc, if◌then◌else◌}
+use Rattle.std.proofs.Common.{◌≡◌, ◌⊎◌, inl, inr, ℕ, Bool, true, false, not, ◌||◌, List, [], ◌∷◌, ◌++◌, map, slice_get, Option, Some, None, refl, sym, ◌∙◌, ap, subst, append_assoc, if◌then◌else◌}
 use Rattle.std.proofs.lemmas.List.{append-nil, map-append}
 use Rattle.la_base.specs.declared.samples.Run.{Run}
 use Rattle.la_base.specs.declared.wires.Feed.{Feed}
 use Rattle.la_base.specs.declared.wires.Feed.TheVariants.{Run as RunFeed, End}
 use Rattle.la_base.specs.declared.wires.Mark.{Mark}
 use Rattle.tree_runs.specs.Machines.{Definitions}
-use Rattle.stack_laws.specs.Links.{IsLink, IsNext, IsFree, EndsLast}
+use Rattle.stack_laws.specs.Links.{IsLink, IsNext, IsFree, EndsLast, some}
 use Rattle.stack_laws.specs.Running.{State, is_over, stands_on}
 use Rattle.stack_laws.specs.Feeds.{ends_feed, ends_marks, feed_end, feeds_of}
 use Rattle.stack_laws.specs.Events.{Read, Hear, after, stop_if, to, sent_feed, sent_mark}
+use Rattle.stack_laws.specs.Heeding.{TellsPlaces, without_places}
 use Rattle.stack_laws.specs.Legal.{Fits, due}
-use Rattle.stack_laws.proofs.Links.{link_made, link_sent, link_sent_none, due_last}
+use Rattle.stack_laws.proofs.Coming.{root_over}
+use Rattle.stack_laws.proofs.Heeding.{plain-append, plain_end}
+use Rattle.stack_laws.proofs.Links.{link_made, link_sent, link_sent_none}
+use Rattle.stack_laws.proofs.Lists.{ends_last-append}
+use Rattle.stack_laws.proofs.Wires.{feed_end_is}
 use Rattle.stack_laws.proofs.Places.{at_place}
 
 -- what is due hangs on what was fed, whether the feed is over, and the parents alone
@@ -22,44 +27,69 @@ due_same by one other (Some None) fed over ate closed = λ i. map RunFeed (fed i
 due_same by one other (Some (Some p)) fed over ate closed = λ i. feeds_of (by.whole p (ate p i)) ++ feed_end (closed p i)
 
 module _ (parents : List (Option ℕ)) (by : Definitions) (slots : ℕ) (state : State) (fits : Fits parents by slots state) where
-  -- where feeds are made for those that stand on `above`, and the state that results is owed just that
-  pub handed : (above : Option ℕ) (feeds : List Feed) (new : State)
-      → ((j : ℕ) → (state.stages j).input.made ++ to parents above feeds j ≡ due by.whole new (slice_get parents j))
+  -- where feeds are made for those that stand on `above`, for whom no End was made yet, or none are made
+  pub handed : (above : Option ℕ) (feeds : List Feed) → EndsLast ends_feed feeds → ((j : ℕ) → stands_on (slice_get parents j) above ≡ true → (feeds ≡ []) ⊎ (some ends_feed (state.stages j).input.made ≡ false))
       → (j : ℕ) → IsLink ends_feed slots (record (state.stages j).input { made = (state.stages j).input.made ++ to parents above feeds j })
-  handed above feeds new hands j = link_made ends_feed slots (state.stages j).input (fits.inputs j) (to parents above feeds j) (subst (EndsLast ends_feed) (sym (hands j)) (due_last by new (slice_get parents j)))
+  handed above feeds last none j = link_made ends_feed slots (state.stages j).input (fits.inputs j) (to parents above feeds j) (way (stands_on (slice_get parents j) above) refl)
+    where
+      made : List Feed
+      made = (state.stages j).input.made
+
+      as_was : (more : List Feed) → more ≡ [] → EndsLast ends_feed (made ++ more)
+      as_was more is = subst (EndsLast ends_feed) (sym (ap (λ (l : List Feed). made ++ l) is ∙ append-nil made)) (fits.inputs j).last
+
+      way : (b : Bool) → stands_on (slice_get parents j) above ≡ b → EndsLast ends_feed (made ++ (if b then feeds else []))
+      way true on = elim (none j on) [ inl nothing ↦ as_was feeds nothing | inr going ↦ ends_last-append ends_feed made feeds going last ]
+      way false off = as_was [] refl
+
+  -- no End was made for a root while the feed isn't over
+  none_yet : is_over state ≡ false → (j : ℕ) → stands_on (slice_get parents j) None ≡ true → some ends_feed (state.stages j).input.made ≡ false
+  none_yet going j on = root_over parents by slots state fits j (root_is (slice_get parents j) on) ∙ going
+    where
+      root_is : (place : Option (Option ℕ)) → stands_on place None ≡ true → place ≡ Some None
+      root_is None is = absurd cc
+      root_is (Some None) is = refl
+      root_is (Some (Some p)) is = absurd cc
+
+  -- what is made for the roots is made for no other
+  kept_places : (feeds : List Feed) (j p : ℕ) → slice_get parents j ≡ Some (Some p) → TellsPlaces (by.whole p) (state.stages p).input.received (state.stages p).consumed ((state.stages j).input.made ++ to parents None feeds j)
+  kept_places feeds j p on =
+      subst (TellsPlaces (by.whole p) (state.stages p).input.received (state.stages p).consumed)
+      (sym (ap (λ (o : Option (Option ℕ)). (state.stages j).input.made ++ (if stands_on o None then feeds else [])) on ∙ append-nil (state.stages j).input.made)) (fits.places j p on)
 
   abbrev Reads : Option Run → State
   Reads run = after parents (Read run) state
 
-  read_one : (run : Run) → is_over state ≡ false → (made : List Feed) (place : Option (Option ℕ)) → made ≡ due by.whole state place
-      → made ++ (if stands_on place None then RunFeed run ∷ [] else []) ≡ due by.whole (Reads (Some run)) place
-  read_one run going made None is = λ i. is i ++ []
+  read_one : (run : Run) → is_over state ≡ false → (made : List Feed) (place : Option (Option ℕ)) → without_places made ≡ due by.whole state place
+      → without_places (made ++ (if stands_on place None then RunFeed run ∷ [] else [])) ≡ due by.whole (Reads (Some run)) place
+  read_one run going made None is = ap without_places (append-nil made) ∙ is
   read_one run going made (Some None) is =
-      (λ i. is i ++ RunFeed run ∷ [])
+      plain-append made (RunFeed run ∷ []) ∙ (λ i. is i ++ RunFeed run ∷ [])
       ∙ (λ i. (map RunFeed state.fed ++ feed_end (going i)) ++ RunFeed run ∷ [])
       ∙ ap (λ (l : List Feed). l ++ RunFeed run ∷ []) (append-nil (map RunFeed state.fed))
       ∙ sym (map-append RunFeed state.fed (run ∷ []))
       ∙ sym (append-nil (map RunFeed (state.fed ++ run ∷ [])))
       ∙ (λ i. map RunFeed (state.fed ++ run ∷ []) ++ feed_end (sym going i))
-  read_one run going made (Some (Some p)) is = append-nil made ∙ is
+  read_one run going made (Some (Some p)) is = ap without_places (append-nil made) ∙ is
 
-  read_none : is_over state ≡ false → (made : List Feed) (place : Option (Option ℕ)) → made ≡ due by.whole state place
-      → made ++ (if stands_on place None then End ∷ [] else []) ≡ due by.whole (Reads None) place
-  read_none going made None is = λ i. is i ++ []
+  read_none : is_over state ≡ false → (made : List Feed) (place : Option (Option ℕ)) → without_places made ≡ due by.whole state place
+      → without_places (made ++ (if stands_on place None then End ∷ [] else [])) ≡ due by.whole (Reads None) place
+  read_none going made None is = ap without_places (append-nil made) ∙ is
   read_none going made (Some None) is =
-      (λ i. is i ++ End ∷ [])
+      plain-append made (End ∷ []) ∙ (λ i. is i ++ End ∷ [])
       ∙ (λ i. (map RunFeed state.fed ++ feed_end (going i)) ++ End ∷ [])
       ∙ ap (λ (l : List Feed). l ++ End ∷ []) (append-nil (map RunFeed state.fed))
-  read_none going made (Some (Some p)) is = append-nil made ∙ is
+  read_none going made (Some (Some p)) is = ap without_places (append-nil made) ∙ is
 
   pub read_fits : (run : Option Run) → is_over state ≡ false → Fits parents by slots (after parents (Read run) state)
   read_fits (Some run) going =
       let hands = λ (j : ℕ). read_one run going (state.stages j).input.made (slice_get parents j) (fits.hands j) in
       record {
-        inputs = handed None (RunFeed run ∷ []) (Reads (Some run)) hands;
+        inputs = handed None (RunFeed run ∷ []) ((λ _. refl), tt) (λ j on. inr (none_yet going j on));
         outputs = fits.outputs;
         takes = fits.takes;
         hands = hands;
+        places = kept_places (RunFeed run ∷ []);
         marks = fits.marks;
         floors = fits.floors;
         batched = fits.batched;
@@ -67,10 +97,11 @@ module _ (parents : List (Option ℕ)) (by : Definitions) (slots : ℕ) (state :
   read_fits None going =
       let hands = λ (j : ℕ). read_none going (state.stages j).input.made (slice_get parents j) (fits.hands j) in
       record {
-        inputs = handed None (End ∷ []) (Reads None) hands;
+        inputs = handed None (End ∷ []) ((λ _. refl), tt) (λ j on. inr (none_yet going j on));
         outputs = fits.outputs;
         takes = fits.takes;
         hands = hands;
+        places = kept_places (End ∷ []);
         marks = fits.marks;
         floors = fits.floors;
         batched = fits.batched;
@@ -83,6 +114,7 @@ module _ (parents : List (Option ℕ)) (by : Definitions) (slots : ℕ) (state :
     outputs = fits.outputs;
     takes = fits.takes;
     hands = λ j. fits.hands j ∙ due_same by state (stop_if parents stops state) (slice_get parents j) refl refl (λ p. refl) (λ p. refl);
+    places = fits.places;
     marks = fits.marks;
     floors = fits.floors;
     batched = fits.batched;
@@ -97,23 +129,29 @@ module _ (parents : List (Option ℕ)) (by : Definitions) (slots : ℕ) (state :
   hear_one false true = refl
   hear_one false false = refl
 
-  hear_hands : (made : List Feed) (place : Option (Option ℕ)) → made ≡ due by.whole state place
-      → made ++ (if stands_on place None then feed_end (not (is_over state)) else []) ≡ due by.whole Hears place
-  hear_hands made None is = λ i. is i ++ []
+  hear_hands : (made : List Feed) (place : Option (Option ℕ)) → without_places made ≡ due by.whole state place
+      → without_places (made ++ (if stands_on place None then feed_end (not (is_over state)) else [])) ≡ due by.whole Hears place
+  hear_hands made None is = ap without_places (append-nil made) ∙ is
   hear_hands made (Some None) is =
-      (λ i. is i ++ feed_end (not (is_over state)))
+      plain-append made (feed_end (not (is_over state))) ∙ (λ i. is i ++ plain_end (not (is_over state)) i)
       ∙ append_assoc (map RunFeed state.fed) (feed_end (is_over state)) (feed_end (not (is_over state)))
       ∙ (λ i. map RunFeed state.fed ++ hear_one state.ended state.heard i)
-  hear_hands made (Some (Some p)) is = append-nil made ∙ is
+  hear_hands made (Some (Some p)) is = ap without_places (append-nil made) ∙ is
+
+  -- End is made where none was, or nothing is
+  hear_ends : (over : Bool) → is_over state ≡ over → (j : ℕ) → stands_on (slice_get parents j) None ≡ true → (feed_end (not (is_over state)) ≡ []) ⊎ (some ends_feed (state.stages j).input.made ≡ false)
+  hear_ends true is j on = inl (λ i. feed_end (not (is i)))
+  hear_ends false is j on = inr (none_yet is j on)
 
   pub hear_fits : Fits parents by slots (after parents Hear state)
   hear_fits =
       let hands = λ (j : ℕ). hear_hands (state.stages j).input.made (slice_get parents j) (fits.hands j) in
       record {
-        inputs = handed None (feed_end (not (is_over state))) Hears hands;
+        inputs = handed None (feed_end (not (is_over state))) (feed_end_is (not (is_over state))).1 (hear_ends (is_over state) refl);
         outputs = fits.outputs;
         takes = fits.takes;
         hands = hands;
+        places = kept_places (feed_end (not (is_over state)));
         marks = fits.marks;
         floors = fits.floors;
         batched = fits.batched;
@@ -132,6 +170,7 @@ module _ (parents : List (Option ℕ)) (by : Definitions) (slots : ℕ) (state :
     outputs = fits.outputs;
     takes = fits.takes;
     hands = λ j. fits.hands j ∙ due_same by state (Sends i feed) (slice_get parents j) refl refl (λ p. refl) (λ p. refl);
+    places = fits.places;
     marks = fits.marks;
     floors = fits.floors;
     batched = fits.batched;
@@ -147,6 +186,7 @@ module _ (parents : List (Option ℕ)) (by : Definitions) (slots : ℕ) (state :
         (λ j. link_sent_none ends_marks slots (state.stages j).marks (fits.outputs j));
     takes = fits.takes;
     hands = λ j. fits.hands j ∙ due_same by state (record state { stages = sent_mark i mark state.stages }) (slice_get parents j) refl refl (λ p. refl) (λ p. refl);
+    places = fits.places;
     marks = fits.marks;
     floors = fits.floors;
     batched = fits.batched;

@@ -1,5 +1,5 @@
 -- Each event keeps a state legal, and so does each list of them.
-use Rattle.std.proofs.Common.{◌≡◌, ℕ, Bool, true, false, ◌||◌, List, [], ◌∷◌, ◌++◌, slice_get, Option, Some, None, refl, sym, ◌∙◌, ap, arith, append_assoc, if◌then◌else◌}
+use Rattle.std.proofs.Common.{◌≡◌, ℕ, Bool, true, false, ◌||◌, List, [], ◌∷◌, ◌++◌, slice_get, Option, Some, None, refl, sym, ◌∙◌, ap, subst, arith, append_assoc, if◌then◌else◌}
 use Rattle.std.specs.Prelude.{nat_eq}
 use Rattle.std.specs.List.{All}
 use Rattle.std.proofs.lemmas.List.Elements.{All-nil}
@@ -18,8 +18,10 @@ use Rattle.stack_laws.specs.Links.{IsNext, IsFree}
 use Rattle.stack_laws.specs.Running.{State, opening, is_over}
 use Rattle.stack_laws.specs.Feeds.{feeds_of}
 use Rattle.stack_laws.specs.Events.{Event, Read, Hear, Root, Take, Close, Step, Give, Tell, Gather, Print, May, MayAll, after, after_all, gathered, sent_feed}
+use Rattle.stack_laws.specs.Heeding.{Heeds, without_places}
 use Rattle.stack_laws.specs.Legal.{Fits, Legal, due}
 use Rattle.stack_laws.specs.Laws.{IsLawful, EventKeepsLegal}
+use Rattle.stack_laws.proofs.Heeding.{heeds_front}
 use Rattle.stack_laws.proofs.Places.{at_place}
 use Rattle.stack_laws.proofs.Batching.{batched_none}
 use Rattle.stack_laws.proofs.Feeding.{hear_fits, read_fits, send_fits, tell_fits}
@@ -37,7 +39,7 @@ module _ (parents : List (Option ℕ)) (by : Definitions) (slots : ℕ) (state :
     fits = read_fits parents by slots state legal.fits None going;
     prints = legal.prints;
     hears = legal.hears;
-    later = λ j low more new on is. legal.later j low more new (λ closed ended. absurd (not_ended state.ended state.heard going ended)) is;
+    later = λ j low more new on is. legal.later j low more new (on.0, λ closed ended. absurd (not_ended state.ended state.heard going ended)) is;
   }
 
   hear_legal : state.stopped ≡ true → Legal parents by slots (after parents Hear state)
@@ -51,14 +53,21 @@ module _ (parents : List (Option ℕ)) (by : Definitions) (slots : ℕ) (state :
   tell_legal i mark may = record { fits = tell_fits parents by slots state legal.fits i mark may.0 may.1; prints = legal.prints; hears = legal.hears; later = legal.later }
 
   take_legal : (i : ℕ) (feed : Feed) → May parents by slots (Take i feed) state → Legal parents by slots (after parents (Take i feed) state)
-  take_legal i feed may = record { fits = take_fits parents by slots state legal.fits i feed may; prints = legal.prints; hears = legal.hears; later = legal.later }
+  take_legal i feed may = record {
+    fits = take_fits parents by slots state legal.fits i feed may;
+    prints = legal.prints;
+    hears = legal.hears;
+    later = λ j low more new on is.
+        legal.later j low more new
+        (heeds_front (state.stages j).input.received (only i (feed ∷ []) j) ((state.stages j).consumed ++ more) on.0, on.1) is;
+  }
 
   close_legal : (i : ℕ) → May parents by slots (Close i) state → Legal parents by slots (after parents (Close i) state)
   close_legal i may = record {
     fits = close_fits parents by slots state legal.fits i may.0;
     prints = legal.prints;
     hears = legal.hears;
-    later = λ j low more new on is. legal.later j low more new (λ closed. on (ap (λ (b : Bool). b || nat_eq j i) closed)) is;
+    later = λ j low more new on is. legal.later j low more new (on.0, λ closed. on.1 (ap (λ (b : Bool). b || nat_eq j i) closed)) is;
   }
 
   module _ (prefix : (j : ℕ) → KeepsFront (by.whole j)) (i : ℕ) (items : List Item) (new : List Out) (floor : Option ℕ) (may : May parents by slots (Step i items new floor) state) where
@@ -74,7 +83,8 @@ module _ (parents : List (Option ℕ)) (by : Definitions) (slots : ℕ) (state :
       prints = legal.prints;
       hears = legal.hears;
       later = λ j low more notes on is.
-          legal.later j low (only i items j ++ more) notes (step_on more j on) (ap (λ (l : List Item). notes_of (by.whole j l)) (sym (append_assoc (state.stages j).consumed (only i items j) more)) ∙ is);
+          legal.later j low (only i items j ++ more) notes
+          (subst (Heeds (state.stages j).input.received) (append_assoc (state.stages j).consumed (only i items j) more) on.0, step_on more j on.1) (ap (λ (l : List Item). notes_of (by.whole j l)) (sym (append_assoc (state.stages j).consumed (only i items j) more)) ∙ is);
     }
 
 pub event_keeps : EventKeepsLegal
@@ -86,11 +96,11 @@ event_keeps parents by slots lawful (Close i) state legal may = close_legal pare
 event_keeps parents by slots lawful (Step i items new floor) state legal may = step_legal parents by slots state legal lawful.prefix i items new floor may
 event_keeps parents by slots lawful (Give i child feed) state legal may = send_legal parents by slots state legal child feed may.0.1 may.1
 event_keeps parents by slots lawful (Tell i mark) state legal may = tell_legal parents by slots state legal i mark may
-event_keeps parents by slots lawful (Gather i mark stops) state legal may = gather_legal parents by slots state legal i mark stops may
+event_keeps parents by slots lawful (Gather i mark stops) state legal may = gather_legal parents by slots state legal lawful.forest i mark stops may
 event_keeps parents by slots lawful (Print entry stops) state legal may = print_legal parents by slots state legal lawful.forest lawful.prefix entry stops may
 
 module _ (parents : List (Option ℕ)) (by : Definitions) (slots : ℕ) (lawful : IsLawful parents by) where
-  nothing_due : (place : Option (Option ℕ)) → [] ≡ due by.whole opening place
+  nothing_due : (place : Option (Option ℕ)) → without_places [] ≡ due by.whole opening place
   nothing_due None = refl
   nothing_due (Some None) = refl
   nothing_due (Some (Some p)) = λ i. feeds_of (sym (lawful.nothing p) i) ++ []
@@ -101,8 +111,9 @@ module _ (parents : List (Option ℕ)) (by : Definitions) (slots : ℕ) (lawful 
     outputs = λ i. record { sends = ([], refl); receives = ([], refl); room = omega arith; last = tt };
     takes = λ i. record { front = ([], refl); all = λ is. let no : false ≡ true = is in absurd cc };
     hands = λ i. nothing_due (slice_get parents i);
+    places = λ i parent on more heeds. tt;
     marks = λ i. record { shows = ap marks_of (sym (lawful.nothing i)); last = tt; ends = refl };
-    floors = λ i more. tt;
+    floors = λ i more heeds. tt;
     batched = λ i. batched_none (by.whole i) (by.near i) (lawful.nothing i);
   }
 

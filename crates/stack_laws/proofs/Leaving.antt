@@ -10,7 +10,7 @@ use Rattle.la_base.specs.declared.wires.Out.{Out}
 use Rattle.decoder_core.specs.Inputs.{Item}
 use Rattle.decoder_core.specs.Marks.{marks_of}
 use Rattle.stack_laws.specs.Running.{State, Stage}
-use Rattle.stack_laws.specs.Feeds.{feeds_of, floor_mark, is_floor}
+use Rattle.stack_laws.specs.Feeds.{feeds_of, floor_feed, floor_mark, is_floor}
 use Rattle.stack_laws.specs.Events.{Read, Hear, Root, Take, Close, Step, Give, Tell, Gather, Print, after}
 use Rattle.stack_laws.specs.Owning.{Leaves, StageLeavesOthers}
 use Rattle.stack_laws.proofs.Places.{or_none, stays_at, stays_to, stays_child}
@@ -67,7 +67,7 @@ module _ (parents : List (Option ℕ)) (state : State) (i : ℕ) where
       marks = λ k. record (at j).marks { made = stays_at i j (marks_of new ++ floor_mark floor) (at j).marks.made apart k };
       closed = refl;
     };
-    links = λ j off. (stays_to parents i j (feeds_of new) (at j).input.made off, refl);
+    links = λ j off. (stays_to parents i j (feeds_of new ++ floor_feed floor) (at j).input.made off, refl);
   }
 
   give_leaves : (child : ℕ) (feed : Feed) → slice_get parents child ≡ Some (Some i) → Leaves parents i state (after parents (Give i child feed) state)

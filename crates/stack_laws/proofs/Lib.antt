@@ -1,5 +1,6 @@
 pub mod Lists
 pub mod Wires
+pub mod Heeding
 pub mod Places
 pub mod Order
 pub mod Shown
@@ -18,6 +19,7 @@ pub mod Printing
 pub mod Keeping
 pub mod Acts
 pub mod Reading
+pub mod Heeded
 pub mod Listing
 pub mod Trees
 pub mod Rests

@@ -12,6 +12,7 @@ use Rattle.tree_runs.specs.Machines.{Definitions}
 use Rattle.stack_laws.specs.Links.{IsFront}
 use Rattle.stack_laws.specs.Running.{State, Stage}
 use Rattle.stack_laws.specs.Events.{gathered_of}
+use Rattle.stack_laws.specs.Heeding.{Heeds}
 use Rattle.stack_laws.specs.Legal.{MayFollow, Legal}
 use Rattle.stack_laws.specs.Listings.{AreInputs, listing}
 use Rattle.stack_laws.specs.Laws.{IsLawful, IsDone}
@@ -72,9 +73,11 @@ module _ (parents : List (Option ℕ)) (by : Definitions) (slots : ℕ) (lawful 
     -- where each input goes on as it may, what was printed is a front of the listing
     pub printed_front : (state.ended ≡ true → more ≡ []) → IsFront state.printed (listing parents by.whole input)
     printed_front done =
-        let front = front_whatever to_come (λ j within closed ended.
-        let g = goes parents by slots lawful state legal.fits more input reads j within in
-        append_cancel_left (at j).consumed (to_come j) [] (sym (goes_on j within) ∙ g.1 ∙ ap (λ (l : List Item). (at j).consumed ++ l) (g.2 (done ended) closed))) in
+        let front = front_whatever to_come (λ j within.
+        let g = goes parents by slots lawful state legal.fits more input reads j within in (
+          subst (Heeds (at j).input.received) (goes_on j within) g.3,
+          λ closed ended. append_cancel_left (at j).consumed (to_come j) [] (sym (goes_on j within) ∙ g.1 ∙ ap (λ (l : List Item). (at j).consumed ++ l) (g.2 (done ended) closed)),
+        )) in
         (front.0, ap listed (same_map all (gave to_come) 0 (length parents) (λ j low. ap (λ (l : List Item). notes_of (by.whole j l)) (goes_on j (omega (arith, low))))) ∙ front.1)
 
     -- where each End was gathered, the notes that were gathered are all

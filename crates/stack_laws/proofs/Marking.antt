@@ -1,5 +1,6 @@
 -- Any first marks of a stage are marks of a run.
 use Rattle.std.proofs.Common.{◌≡◌, ℕ, Bool, true, false, List, [], ◌∷◌, ◌++◌, refl, sym, ◌∙◌, ap, subst, append_assoc, append-nil, arith}
+use Rattle.la_base.specs.declared.wires.Feed.{Feed}
 use Rattle.la_base.specs.declared.wires.Mark.{Mark}
 use Rattle.la_base.specs.declared.wires.Mark.TheVariants.{Note as NoteMark, Piece as PieceMark, Floor as FloorMark, End as EndMark}
 use Rattle.la_base.specs.declared.wires.Out.{Out}
@@ -10,11 +11,13 @@ use Rattle.decoder_core.specs.Marks.{marks_of, shown, FloorsHold}
 use Rattle.decoder_core.specs.Promises.{GivesNothing, KeepsFront}
 use Rattle.decoder_core.specs.declared.end.RunEnd.{RunEnd}
 use Rattle.decoder_core.specs.declared.end.RunEnd.TheVariants.{Ended}
+use Rattle.tree_runs.proofs.Batches.{with_none}
 use Rattle.tree_runs.proofs.Lists.{marks-append, shown-append}
 use Rattle.tree_runs.specs.Floors.{FrontOfFloored}
 use Rattle.tree_runs.specs.Passing.{NoEnd}
 use Rattle.stack_laws.specs.Links.{IsFront, EndsLast, some}
 use Rattle.stack_laws.specs.Feeds.{ends_marks, mark_end}
+use Rattle.stack_laws.specs.Heeding.{Heeds}
 use Rattle.stack_laws.specs.Keeping.{Batched, Floors, Marks}
 use Rattle.stack_laws.specs.Settling.{TellsRun}
 use Rattle.stack_laws.proofs.Lists.{none_behind, or_false}
@@ -62,8 +65,9 @@ floors_front (FloorMark start ∷ marks) more all holds = (holds.0, floors_front
 floors_front (EndMark ∷ marks) more all holds = floors_front marks more all holds
 
 -- a stage that has made these marks of what it has consumed, and whose input has this rest behind that
-module _ (whole : List Item → List Out) (near : List Item → ℕ) (nothing : GivesNothing whole) (prefix : KeepsFront whole) (consumed rest : List Item) (told closed : Bool) (made : List Mark)
-    (shows : Marks (whole consumed) closed made) (floors : Floors whole consumed made) (b : Batched whole near consumed told closed made) where
+module _ (whole : List Item → List Out) (near : List Item → ℕ) (nothing : GivesNothing whole) (prefix : KeepsFront whole) (received : List Feed) (consumed rest : List Item) (told closed : Bool) (made : List Mark)
+    (shows : Marks (whole consumed) closed made) (floors : Floors whole received consumed made) (b : Batched whole near consumed told closed made)
+    (later : List ℕ → List Item) (goes : (more : List ℕ) → (extra : List Item) × (later more ≡ consumed ++ extra) × Heeds received (later more)) where
   abbrev input : List Item
   input = consumed ++ rest
 
@@ -73,16 +77,17 @@ module _ (whole : List Item → List Out) (near : List Item → ℕ) (nothing : 
   adds_all : outs ≡ whole [] ++ outs
   adds_all = ap (λ (l : List Out). l ++ outs) (sym nothing)
 
-  -- floors among first marks hold of all that may come
-  floors_of : (marks behind : List Mark) → made ≡ marks ++ behind → (more : List Item) (later : List Out) → whole (input ++ more) ≡ whole [] ++ (outs ++ later) → FloorsHold marks (marks_of (outs ++ later))
-  floors_of marks behind is more later now =
-      let gives : whole (consumed ++ (rest ++ more)) ≡ outs ++ later = ap whole (sym (append_assoc consumed rest more)) ∙ now ∙ ap (λ (l : List Out). l ++ (outs ++ later)) nothing in
-      floors_front marks behind (marks_of (outs ++ later))
-      (subst (λ (l : List Mark). FloorsHold l (marks_of (outs ++ later))) is (subst (λ (l : List Out). FloorsHold made (marks_of l)) gives (floors (rest ++ more))))
+  -- floors among first marks hold whatever samples come
+  floors_of : (marks behind : List Mark) → made ≡ marks ++ behind → (more : List ℕ) (further : List Out) → whole (later more) ≡ whole [] ++ (outs ++ further) → FloorsHold marks (marks_of (outs ++ further))
+  floors_of marks behind is more further now =
+      let g = goes more in
+      let gives : whole (consumed ++ g.0) ≡ outs ++ further = ap whole (sym g.1) ∙ now ∙ ap (λ (l : List Out). l ++ (outs ++ further)) nothing in
+      floors_front marks behind (marks_of (outs ++ further))
+      (subst (λ (l : List Mark). FloorsHold l (marks_of (outs ++ further))) is (subst (λ (l : List Out). FloorsHold made (marks_of l)) gives (floors g.0 (subst (Heeds received) g.1 g.2))))
 
   module _ (result : RunEnd) (at_end : Bool) (marks : List Mark) (front : IsFront marks made) where
     -- all marks, with End
-    tells_all : some ends_marks marks ≡ true → (closed ≡ true → rest ≡ []) → at_end ≡ true → TellsRun result at_end whole near [] input marks
+    tells_all : some ends_marks marks ≡ true → (closed ≡ true → rest ≡ []) → at_end ≡ true → TellsRun result at_end whole near [] input later marks
     tells_all has through ended =
         let none : front.0 ≡ [] = none_behind ends_marks marks front.0 (subst (EndsLast ends_marks) front.1 shows.last) has in
         let all : made ≡ marks = front.1 ∙ ap (λ (l : List Mark). marks ++ l) none ∙ append-nil marks in
@@ -95,13 +100,19 @@ module _ (whole : List Item → List Out) (near : List Item → ℕ) (nothing : 
           record {
             body = b.front;
             closed = true;
-            new = outs;
             made = sym all ∙ made_is;
-            no_end = no_end_before b.front (subst (EndsLast ends_marks) made_is shows.last);
-            adds = adds_all;
-            shows = sym (append-nil (shown b.front)) ∙ sym (shown-append b.front (EndMark ∷ [])) ∙ ap shown (sym made_is) ∙ shows.shows ∙ ap (λ (l : List Item). marks_of (whole l)) (sym no_rest);
-            floors = floors_of b.front (EndMark ∷ []) made_is;
-            floored = (b.front, refl, b.floored);
+            tells =
+                let no_end = no_end_before b.front (subst (EndsLast ends_marks) made_is shows.last) in
+                record {
+                  new = outs;
+                  no_end = no_end;
+                  adds = adds_all;
+                  shows = sym (append-nil (shown b.front)) ∙ sym (shown-append b.front (EndMark ∷ [])) ∙ ap shown (sym made_is) ∙ shows.shows ∙ ap (λ (l : List Item). marks_of (whole l)) (sym no_rest);
+                  floors = floors_of b.front (EndMark ∷ []) made_is;
+                  plain = b.front;
+                  more_floors = with_none b.front no_end;
+                  floored = (b.front, refl, b.floored);
+                };
             whole_at_end = λ _. ended;
             closes = λ _. refl;
           },
@@ -137,7 +148,7 @@ module _ (whole : List Item → List Out) (near : List Item → ℕ) (nothing : 
         )
 
     -- any first marks, without End
-    tells_front : some ends_marks marks ≡ false → (result ≡ Ended → false ≡ true) → TellsRun result at_end whole near [] input marks
+    tells_front : some ends_marks marks ≡ false → (result ≡ Ended → false ≡ true) → TellsRun result at_end whole near [] input later marks
     tells_front none whole_run =
         let grows = prefix consumed rest in (
           feeds,
@@ -145,26 +156,30 @@ module _ (whole : List Item → List Out) (near : List Item → ℕ) (nothing : 
           record {
             body = marks;
             closed = false;
-            new = outs;
             made = sym (append-nil marks);
-            no_end = no_end_among marks none;
-            adds = adds_all;
-            shows = (
-              shown front.0 ++ marks_of grows.0,
-              sym (append_assoc (shown marks) (shown front.0) (marks_of grows.0))
-                  ∙ ap (λ (l : List Mark). l ++ marks_of grows.0) (sym (shown-append marks front.0) ∙ ap shown (sym front.1) ∙ shows.shows)
-                  ∙ sym (marks-append (whole consumed) grows.0) ∙ ap marks_of (sym grows.1),
-            );
-            floors = floors_of marks front.0 front.1;
-            floored = front_floored none;
+            tells = record {
+              new = outs;
+              no_end = no_end_among marks none;
+              adds = adds_all;
+              shows = (
+                shown front.0 ++ marks_of grows.0,
+                sym (append_assoc (shown marks) (shown front.0) (marks_of grows.0))
+                    ∙ ap (λ (l : List Mark). l ++ marks_of grows.0) (sym (shown-append marks front.0) ∙ ap shown (sym front.1) ∙ shows.shows)
+                    ∙ sym (marks-append (whole consumed) grows.0) ∙ ap marks_of (sym grows.1),
+              );
+              floors = floors_of marks front.0 front.1;
+              plain = marks;
+              more_floors = with_none marks (no_end_among marks none);
+              floored = front_floored none;
+            };
             whole_at_end = λ is. absurd cc;
             closes = whole_run;
           },
         )
 
-    pub tells_run : (closed ≡ true → rest ≡ []) → (some ends_marks marks ≡ true → at_end ≡ true) → (result ≡ Ended → some ends_marks marks ≡ true) → TellsRun result at_end whole near [] input marks
+    pub tells_run : (closed ≡ true → rest ≡ []) → (some ends_marks marks ≡ true → at_end ≡ true) → (result ≡ Ended → some ends_marks marks ≡ true) → TellsRun result at_end whole near [] input later marks
     tells_run through ended whole_run = way (some ends_marks marks) refl
       where
-        way : (has : Bool) → some ends_marks marks ≡ has → TellsRun result at_end whole near [] input marks
+        way : (has : Bool) → some ends_marks marks ≡ has → TellsRun result at_end whole near [] input later marks
         way true has = tells_all has through (ended has)
         way false none = tells_front none (λ is. sym none ∙ whole_run is)

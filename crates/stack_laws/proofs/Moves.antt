@@ -10,18 +10,12 @@ use Rattle.decoder_core.specs.Marks.{marks_of}
 use Rattle.tree_runs.specs.Machines.{Definitions}
 use Rattle.stack_laws.specs.Links.{IsNext}
 use Rattle.stack_laws.specs.Running.{Stage, State, stands_on}
-use Rattle.stack_laws.specs.Feeds.{feeds_of, floor_mark, is_floor}
+use Rattle.stack_laws.specs.Feeds.{feeds_of, floor_feed, floor_mark, is_floor}
 use Rattle.stack_laws.specs.Events.{Asks, IsOwn, after, more_at, to}
 use Rattle.stack_laws.specs.Moves.{Sending, Move, TakeIn, CloseUp, StepOn, GiveTo, TellOut, makes, sends_at, moved, NextFor, MayMove, MayMoveAll, moved_all}
 use Rattle.stack_laws.specs.Views.{children_of, event_of, sending_to, view_of}
 use Rattle.stack_laws.specs.Owning.{MovesAreEvents}
-use Rattle.stack_laws.proofs.Places.{at_self, or_all, grows_here, stays_at, to_child}
-
--- it stands on i
-stands_is : (place : Option (Option ℕ)) (i : ℕ) → stands_on place (Some i) ≡ true → place ≡ Some (Some i)
-stands_is None i is = absurd cc
-stands_is (Some None) i is = absurd cc
-stands_is (Some (Some p)) i is = let same : p ≡ i = grind (arith, nat_tests) in λ k. Some (Some (same k))
+use Rattle.stack_laws.proofs.Places.{at_self, or_all, grows_here, stands_is, stays_at, to_child}
 
 -- a list of numbers from a on, each behind the one before it
 abbrev Rising : ℕ → List ℕ → Type 0
@@ -133,7 +127,7 @@ module _ (parents : List (Option ℕ)) (by : Definitions) (i : ℕ) (state : Sta
     λ k. record (view_of parents i state) {
       consumed = grows_here i items now.consumed k;
       told = at_self (λ b. (if b then is_floor floor else now.told) ≡ is_floor floor) i refl k;
-      children = made_all parents i state (feeds_of new) children (all_children parents i state) k;
+      children = made_all parents i state (feeds_of new ++ floor_feed floor) children (all_children parents i state) k;
       marks = record { made = grows_here i (marks_of new ++ floor_mark floor) now.marks.made k; sent = now.marks.sent };
     },
   )

@@ -8,20 +8,23 @@ use Rattle.la_base.specs.declared.wires.Out.{Out}
 use Rattle.decoder_core.specs.Inputs.{Item}
 use Rattle.decoder_core.specs.Marks.{marks_of}
 use Rattle.decoder_core.specs.Promises.{KeepsFront}
+use Rattle.decoder_core.specs.Trees.{packets_of}
 use Rattle.tree_runs.specs.Machines.{Definitions}
 use Rattle.tree_runs.specs.Passing.{only}
-use Rattle.stack_laws.specs.Links.{IsFront}
+use Rattle.stack_laws.specs.Links.{EndsLast, IsFront}
 use Rattle.stack_laws.specs.Running.{State, Stage}
-use Rattle.stack_laws.specs.Feeds.{feed_end, feeds_of, floor_mark, is_floor}
+use Rattle.stack_laws.specs.Feeds.{ends_feed, feed_end, feeds_of, floor_feed, floor_mark, is_floor}
+use Rattle.stack_laws.specs.Heeding.{Heeds, TellsPlaces, without_places}
 use Rattle.stack_laws.specs.Events.{Read, Hear, Root, Take, Close, Step, Give, Tell, Gather, Print, Asks, after, to}
-use Rattle.stack_laws.specs.Legal.{Own, due}
+use Rattle.stack_laws.specs.Legal.{Own}
 use Rattle.stack_laws.specs.Keeping.{Takes, Marks, Floors, Batched}
 use Rattle.stack_laws.specs.Owning.{StageKeepsItsOwn}
 use Rattle.stack_laws.proofs.Lists.{front_more, front_next}
 use Rattle.stack_laws.proofs.Places.{at_place, at_self, or_all, to_child}
 use Rattle.stack_laws.proofs.Floors.{floors_end}
 use Rattle.stack_laws.proofs.Batching.{batched_close, batched_step}
-use Rattle.stack_laws.proofs.Staging.{take_takes, close_marks, close_feeds, step_takes, step_marks, step_floors, step_feeds}
+use Rattle.stack_laws.proofs.Heeding.{heeds_front, made_items, places_close, places_step}
+use Rattle.stack_laws.proofs.Staging.{take_takes, close_last, close_made, close_marks, step_last, step_made, step_takes, step_marks, step_floors}
 
 module _ (parents : List (Option ℕ)) (by : Definitions) (state : State) (i : ℕ) (own : Own parents by i state) where
   abbrev now : Stage
@@ -32,9 +35,14 @@ module _ (parents : List (Option ℕ)) (by : Definitions) (state : State) (i : �
     takes = at_self (λ b. Takes (now.input.received ++ (if b then feed ∷ [] else [])) now.consumed now.closed) i (take_takes now.input.received now.consumed now.closed feed asks.0 own.takes);
     marks = own.marks;
     tells = own.tells;
-    floors = own.floors;
+    floors = at_self (λ b. Floors (by.whole i) (now.input.received ++ (if b then feed ∷ [] else [])) now.consumed now.marks.made) i
+        (λ more heeds. own.floors more (heeds_front now.input.received (feed ∷ []) (now.consumed ++ more) heeds));
     batched = own.batched;
     made = own.made;
+    places = λ child at.
+        at_self (λ b. TellsPlaces (by.whole i) (now.input.received ++ (if b then feed ∷ [] else [])) now.consumed (state.stages child).input.made) i
+        (λ more heeds. own.places child at more (heeds_front now.input.received (feed ∷ []) (now.consumed ++ more) heeds));
+    last = own.last;
     gives = own.gives;
   }
 
@@ -46,34 +54,46 @@ module _ (parents : List (Option ℕ)) (by : Definitions) (state : State) (i : �
         takes = record { front = own.takes.front; all = λ _. (asks.0, asks.1) };
         marks = at_self (λ b. Marks outs (now.closed || b) (now.marks.made ++ (if b then EndMark ∷ [] else []))) i (close_marks outs now.marks.made now.closed (now.closed || true) asks.3 ends own.marks);
         tells = front_more now.marks.sent now.marks.made (only i (EndMark ∷ []) i) own.tells;
-        floors = at_self (λ b. Floors (by.whole i) now.consumed (now.marks.made ++ (if b then EndMark ∷ [] else []))) i
-            (λ more. floors_end now.marks.made (marks_of (by.whole i (now.consumed ++ more))) (own.floors more));
+        floors = at_self (λ b. Floors (by.whole i) now.input.received now.consumed (now.marks.made ++ (if b then EndMark ∷ [] else []))) i
+            (λ more heeds. floors_end now.marks.made (marks_of (by.whole i (now.consumed ++ more))) (own.floors more heeds));
         batched = at_self (λ b. Batched (by.whole i) (by.near i) now.consumed now.told (now.closed || b) (now.marks.made ++ (if b then EndMark ∷ [] else []))) i
             (batched_close (by.whole i) (by.near i) now.consumed now.told now.closed now.marks.made own.batched (now.closed || true) asks.2 asks.3 ends);
         made = λ child at.
-            (λ k. own.made child at k ++ to_child parents i child (End ∷ []) at k)
-            ∙ at_self (λ b. due by.whole state (Some (Some i)) ++ End ∷ [] ≡ feeds_of outs ++ feed_end (now.closed || b)) i (close_feeds outs now.closed (now.closed || true) asks.3 ends);
+            (λ k. without_places ((state.stages child).input.made ++ to_child parents i child (End ∷ []) at k))
+            ∙ at_self (λ b. without_places ((state.stages child).input.made ++ End ∷ []) ≡ feeds_of outs ++ feed_end (now.closed || b)) i (close_made outs now.closed (now.closed || true) asks.3 ends (state.stages child).input.made (own.made child at));
+        places = λ child at more heeds.
+            subst (λ (l : List Feed). Heeds ((state.stages child).input.made ++ l) (packets_of (by.whole i (now.consumed ++ more)))) (sym (to_child parents i child (End ∷ []) at))
+            (places_close (state.stages child).input.made (packets_of (by.whole i (now.consumed ++ more))) (own.places child at more heeds));
+        last = λ child at.
+            subst (λ (l : List Feed). EndsLast ends_feed ((state.stages child).input.made ++ l)) (sym (to_child parents i child (End ∷ []) at)) (close_last outs now.closed asks.3 (state.stages child).input.made (own.made child at));
         gives = λ child at. front_more (state.stages child).input.sent (state.stages child).input.made (to parents (Some i) (End ∷ []) child) (own.gives child at);
       }
 
   step_own : KeepsFront (by.whole i) → (items : List Item) (new : List Out) (floor : Option ℕ) → Asks parents by (Step i items new floor) state → Own parents by i (after parents (Step i items new floor) state)
   step_own prefix items new floor asks =
       let added = marks_of new ++ floor_mark floor in
+      let told = feeds_of new ++ floor_feed floor in
       record {
         takes = at_self (λ b. Takes now.input.received (now.consumed ++ (if b then items else [])) now.closed) i
             (step_takes (by.whole i) now.consumed items new floor now.closed asks.0 asks.2 now.input.received asks.1);
         marks = at_self (λ b. Marks (by.whole i (now.consumed ++ (if b then items else []))) now.closed (now.marks.made ++ (if b then added else []))) i
             (step_marks (by.whole i) now.consumed items new floor now.closed asks.0 asks.2 now.marks.made own.marks);
         tells = front_more now.marks.sent now.marks.made (only i added i) own.tells;
-        floors = at_self (λ b. Floors (by.whole i) (now.consumed ++ (if b then items else [])) (now.marks.made ++ (if b then added else []))) i
-            (step_floors (by.whole i) now.consumed items new floor now.closed asks.0 asks.2 prefix (λ start is. (asks.3 start is).0) now.marks.made own.marks own.floors);
+        floors = at_self (λ b. Floors (by.whole i) now.input.received (now.consumed ++ (if b then items else [])) (now.marks.made ++ (if b then added else []))) i
+            (step_floors (by.whole i) now.consumed items new floor now.closed asks.0 asks.2 prefix now.input.received (λ start is. (asks.3 start is).0) now.marks.made own.marks own.floors);
         batched = at_self (λ b. Batched (by.whole i) (by.near i) (now.consumed ++ (if b then items else [])) (if b then is_floor floor else now.told) now.closed (now.marks.made ++ (if b then added else []))) i
-            (batched_step (by.whole i) (by.near i) now.consumed now.told now.closed now.marks.made own.batched asks.0 items new asks.2 floor asks.3);
+            (batched_step (by.whole i) (by.near i) now.consumed now.told now.closed now.marks.made own.batched asks.0 items new asks.2 floor (λ start is. (asks.3 start is).1));
         made = λ child at.
-            (λ k. own.made child at k ++ to_child parents i child (feeds_of new) at k)
-            ∙ at_self (λ b. due by.whole state (Some (Some i)) ++ feeds_of new ≡ feeds_of (by.whole i (now.consumed ++ (if b then items else []))) ++ feed_end now.closed) i
-            (step_feeds (by.whole i) now.consumed items new floor now.closed asks.0 asks.2);
-        gives = λ child at. front_more (state.stages child).input.sent (state.stages child).input.made (to parents (Some i) (feeds_of new) child) (own.gives child at);
+            (λ k. without_places ((state.stages child).input.made ++ to_child parents i child told at k))
+            ∙ at_self (λ b. without_places ((state.stages child).input.made ++ told) ≡ feeds_of (by.whole i (now.consumed ++ (if b then items else []))) ++ feed_end now.closed) i
+            (step_made (by.whole i) now.consumed items new floor now.closed asks.0 asks.2 (state.stages child).input.made (own.made child at));
+        places = λ child at.
+            at_self (λ b. TellsPlaces (by.whole i) now.input.received (now.consumed ++ (if b then items else [])) ((state.stages child).input.made ++ to parents (Some i) told child)) i
+            (subst (λ (l : List Feed). TellsPlaces (by.whole i) now.input.received (now.consumed ++ items) ((state.stages child).input.made ++ l)) (sym (to_child parents i child told at))
+            (places_step (by.whole i) now.input.received now.consumed items new floor (state.stages child).input.made asks.2 prefix (made_items (by.whole i now.consumed) now.closed (state.stages child).input.made (own.made child at)) (λ start is. (asks.3 start is).0) (own.places child at)));
+        last = λ child at.
+            subst (λ (l : List Feed). EndsLast ends_feed ((state.stages child).input.made ++ l)) (sym (to_child parents i child told at)) (step_last (by.whole i) now.consumed items new floor now.closed asks.0 asks.2 (state.stages child).input.made (own.made child at));
+        gives = λ child at. front_more (state.stages child).input.sent (state.stages child).input.made (to parents (Some i) told child) (own.gives child at);
       }
 
   give_own : (child : ℕ) (feed : Feed) → Asks parents by (Give i child feed) state → Own parents by i (after parents (Give i child feed) state)
@@ -84,6 +104,8 @@ module _ (parents : List (Option ℕ)) (by : Definitions) (state : State) (i : �
     floors = own.floors;
     batched = own.batched;
     made = own.made;
+    places = own.places;
+    last = own.last;
     gives = at_place (λ c b. slice_get parents c ≡ Some (Some i) → IsFront ((state.stages c).input.sent ++ (if b then feed ∷ [] else [])) (state.stages c).input.made) child
         (λ at. front_next (state.stages child).input.sent (state.stages child).input.made feed asks.1)
         (λ c at. subst (λ (l : List Feed). IsFront l (state.stages c).input.made) (sym (append-nil (state.stages c).input.sent)) (own.gives c at));
@@ -97,6 +119,8 @@ module _ (parents : List (Option ℕ)) (by : Definitions) (state : State) (i : �
     floors = own.floors;
     batched = own.batched;
     made = own.made;
+    places = own.places;
+    last = own.last;
     gives = own.gives;
   }
 

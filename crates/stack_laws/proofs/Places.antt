@@ -1,5 +1,5 @@
 -- What is so at one place of a tree, and what stays at all others.
-use Rattle.std.proofs.Common.{◌≡◌, ◌≢◌, ◌⊎◌, inl, inr, ℕ, Bool, true, false, ◌||◌, List, [], ◌++◌, slice_get, Option, Some, sym, ◌∙◌, ap, subst, arith, append-nil, if◌then◌else◌, refl}
+use Rattle.std.proofs.Common.{◌≡◌, ◌≢◌, ◌⊎◌, inl, inr, ℕ, Bool, true, false, ◌||◌, List, [], ◌++◌, slice_get, Option, Some, None, sym, ◌∙◌, ap, subst, arith, append-nil, if◌then◌else◌, refl}
 use Rattle.std.specs.Prelude.{nat_eq}
 use Rattle.std.proofs.lemmas.Bool.{cases_eq}
 use Rattle.std.proofs.lemmas.Bool.Decides.{nat_tests}
@@ -17,6 +17,12 @@ at_place F i here others j = way (cases_eq j i)
 -- a fact at the place itself
 pub at_self : (F : Bool → Type 0) (i : ℕ) → F true → F (nat_eq i i)
 at_self F i is = let same : nat_eq i i ≡ true = grind (arith, nat_tests) in subst F (sym same) is
+
+-- it stands on i
+pub stands_is : (place : Option (Option ℕ)) (i : ℕ) → stands_on place (Some i) ≡ true → place ≡ Some (Some i)
+stands_is None i is = absurd cc
+stands_is (Some None) i is = absurd cc
+stands_is (Some (Some p)) i is = let same : p ≡ i = grind (arith, nat_tests) in λ k. Some (Some (same k))
 
 -- a test that holds at one place alone
 pub or_none : (b : Bool) → (b || false) ≡ b

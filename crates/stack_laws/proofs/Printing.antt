@@ -20,6 +20,7 @@ use Rattle.stack_laws.specs.Links.{IsLink, EndsLast, some}
 use Rattle.stack_laws.specs.Running.{State, Stage}
 use Rattle.stack_laws.specs.Feeds.{ends_marks}
 use Rattle.stack_laws.specs.Events.{Gather, Print, after, stop_if, took_mark, gathered_of, May}
+use Rattle.stack_laws.specs.Heeding.{Heeds}
 use Rattle.stack_laws.specs.Legal.{Fits, Legal, NoNoteBefore, MayFollow}
 use Rattle.stack_laws.proofs.Wires.{notes-append, notes_shown, notes_of_marks}
 use Rattle.stack_laws.proofs.Places.{at_place}
@@ -27,6 +28,7 @@ use Rattle.stack_laws.proofs.Links.{link_took, link_took_none}
 use Rattle.stack_laws.proofs.Feeding.{due_same, stop_fits}
 use Rattle.stack_laws.proofs.Floors.{bound_none, bound_from, from_zero, notes_start, allowed_first}
 use Rattle.stack_laws.proofs.Coming.{came_over, ended_closed, made_of, notes_ended, notes_made}
+use Rattle.stack_laws.proofs.Heeded.{all_heed}
 use Rattle.stack_laws.proofs.Order.{listing_grows, sorted_by}
 
 -- of notes that stand before no entry, a front and what is behind it
@@ -67,7 +69,7 @@ module _ (parents : List (Option ℕ)) (by : Definitions) (slots : ℕ) (state :
   abbrev had : ℕ → List Note
   had j = notes_in (at j).marks.received
 
-  module _ (i : ℕ) (mark : Mark) (stops : Bool) (may : May parents by slots (Gather i mark stops) state) where
+  module _ (forest : IsForest parents) (i : ℕ) (mark : Mark) (stops : Bool) (may : May parents by slots (Gather i mark stops) state) where
     abbrev Gathered : State
     Gathered = record state { stages = took_mark i mark state.stages }
 
@@ -95,7 +97,8 @@ module _ (parents : List (Option ℕ)) (by : Definitions) (slots : ℕ) (state :
         let notes : notes_of (by.whole i ((at i).consumed ++ [])) ≡ had i ++ (notes_in (mark ∷ []) ++ notes_in behind) =
         ap (λ (l : List Item). notes_of (by.whole i l)) (append-nil (at i).consumed) ∙ notes_made parents by slots state fits i ∙ ap notes_in made
         ∙ notes-append (at i).marks.received ((mark ∷ []) ++ behind) ∙ ap (λ (l : List Note). had i ++ l) (notes-append (mark ∷ []) behind) in
-        left_none i state.printed (notes_in (mark ∷ [])) (notes_in behind) (legal.later i low [] (notes_in (mark ∷ []) ++ notes_in behind) (λ closed ended. refl) notes))
+        left_none i state.printed (notes_in (mark ∷ [])) (notes_in behind) (legal.later i low [] (notes_in (mark ∷ []) ++ notes_in behind)
+        (subst (Heeds (at i).input.received) (sym (append-nil (at i).consumed)) (all_heed parents by slots state fits forest i low), λ closed ended. refl) notes))
         (λ j low. none_none j state.printed)
 
     gather_kept : Legal parents by slots Gathered
@@ -105,6 +108,7 @@ module _ (parents : List (Option ℕ)) (by : Definitions) (slots : ℕ) (state :
         outputs = gather_outputs;
         takes = fits.takes;
         hands = λ j. fits.hands j ∙ due_same by state Gathered (slice_get parents j) refl refl (λ p. refl) (λ p. refl);
+        places = fits.places;
         marks = fits.marks;
         floors = fits.floors;
         batched = fits.batched;
@@ -134,7 +138,7 @@ module _ (parents : List (Option ℕ)) (by : Definitions) (slots : ℕ) (state :
           let closed = ended_closed parents by slots state fits j has in
           let over = came_over parents by slots state fits forest j ((fits.takes j).all closed).0 in
           let unheard = not_heard state.heard refl in
-          let none : more ≡ [] = on closed (way state.ended state.heard over unheard) in
+          let none : more ≡ [] = on.1 closed (way state.ended state.heard over unheard) in
           append_cancel_left (had j) new []
           (sym is ∙ ap (λ (l : List Item). notes_of (by.whole j ((at j).consumed ++ l))) none ∙ ap (λ (l : List Item). notes_of (by.whole j l)) (append-nil (at j).consumed)
           ∙ notes_ended parents by slots state fits j has ∙ sym (append-nil (had j)))
@@ -148,8 +152,8 @@ module _ (parents : List (Option ℕ)) (by : Definitions) (slots : ℕ) (state :
           way false s over none = sym none ∙ over
 
       -- all that a stage gives behind the marks that were gathered of it starts at their bound or later
-      print_floor : (bound : ℕ) → bound_of (at j).marks.received ≡ Some bound → All (λ note. bound ≤ note.start) new
-      print_floor bound at_bound =
+      print_floor : MayFollow state j more → (bound : ℕ) → bound_of (at j).marks.received ≡ Some bound → All (λ note. bound ≤ note.start) new
+      print_floor on bound at_bound =
           let made = made_of parents by slots state fits j in
           let received = (at j).marks.received in
           let grows = prefix j (at j).consumed more in
@@ -158,7 +162,7 @@ module _ (parents : List (Option ℕ)) (by : Definitions) (slots : ℕ) (state :
           ap marks_of grows.1 ∙ marks-append (by.whole j (at j).consumed) grows.0 ∙ ap (λ (l : List Mark). l ++ marks_of grows.0) (sym (fits.marks j).shows ∙ ap shown made.1 ∙ shown-append received made.0)
           ∙ append_assoc (shown received) (shown made.0) (marks_of grows.0) in
           let holds : FloorsHold (received ++ made.0) (shown received ++ rest) =
-          subst (FloorsHold (received ++ made.0)) all (subst (λ (l : List Mark). FloorsHold l (marks_of (by.whole j ((at j).consumed ++ more)))) made.1 (fits.floors j more)) in
+          subst (FloorsHold (received ++ made.0)) all (subst (λ (l : List Mark). FloorsHold l (marks_of (by.whole j ((at j).consumed ++ more)))) made.1 (fits.floors j more on.0)) in
           let from : MarksFrom bound rest = bound_from 0 received made.0 rest bound at_bound (subst (EndsLast ends_marks) made.1 (fits.marks j).last) holds (from_zero (shown received ++ rest)) in
           let same : notes_in rest ≡ new =
           append_cancel_left (notes_in received) (notes_in rest) new
@@ -171,7 +175,7 @@ module _ (parents : List (Option ℕ)) (by : Definitions) (slots : ℕ) (state :
           way : (bound : Option ℕ) → bound_of (at j).marks.received ≡ bound → Allows bound j entry → NoneBefore j new entry
           way None ended allows = subst (λ (l : List Note). NoneBefore j l entry) (sym (print_ended on (bound_none 0 (at j).marks.received ended))) (All-nil (λ note. is_before (entry_of j note) entry ≡ false))
           way (Some bound) at_bound allows =
-              All-weaker (λ note. bound ≤ note.start) (λ note. is_before (entry_of j note) entry ≡ false) (λ note from. allowed_first j bound entry allows note from) new (print_floor bound at_bound)
+              All-weaker (λ note. bound ≤ note.start) (λ note. is_before (entry_of j note) entry ≡ false) (λ note from. allowed_first j bound entry allows note from) new (print_floor on bound at_bound)
 
     print_kept : Legal parents by slots Printed
     print_kept = record {
@@ -180,6 +184,7 @@ module _ (parents : List (Option ℕ)) (by : Definitions) (slots : ℕ) (state :
         outputs = fits.outputs;
         takes = fits.takes;
         hands = λ j. fits.hands j ∙ due_same by state Printed (slice_get parents j) refl refl (λ p. refl) (λ p. refl);
+        places = fits.places;
         marks = fits.marks;
         floors = fits.floors;
         batched = fits.batched;

@@ -41,9 +41,9 @@ module _ (parents : List (Option ℕ)) (by : Definitions) (slots : ℕ) (ends : 
   state = state_of parents ends fed ended stopped
 
   -- what a parent has for a child
-  child_serves : (i child : ℕ) → slice_get parents child ≡ Some (Some i) → Serves (by.whole i (ends.views i).consumed) (ends.views i).closed (sender parents ends child (slice_get parents child))
+  child_serves : (i child : ℕ) → slice_get parents child ≡ Some (Some i) → Serves (by.whole i) (ends.views i).received (ends.views i).consumed (ends.views i).closed (sender parents ends child (slice_get parents child))
   child_serves i child at =
-      subst (λ (o : Option (Option ℕ)). Serves (by.whole i (ends.views i).consumed) (ends.views i).closed (sender parents ends child o)) (sym at)
+      subst (λ (o : Option (Option ℕ)). Serves (by.whole i) (ends.views i).received (ends.views i).consumed (ends.views i).closed (sender parents ends child o)) (sym at)
       ((settled.keeps i).children (place_among parents i child) no_sending (let low = child_low parents i child at in let same = settled.each i in omega (arith, low, same)))
 
   own : (i : ℕ) → Own parents by i state
@@ -54,6 +54,8 @@ module _ (parents : List (Option ℕ)) (by : Definitions) (slots : ℕ) (ends : 
     floors = (settled.keeps i).floors;
     batched = (settled.keeps i).batched;
     made = λ child at. (child_serves i child at).made;
+    places = λ child at. (child_serves i child at).places;
+    last = λ child at. (child_serves i child at).last;
     gives = λ child at. (child_serves i child at).sends;
   }
 

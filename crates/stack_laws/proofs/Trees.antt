@@ -29,7 +29,7 @@ everywhere setup outputs P none law [] j = none
 everywhere setup outputs P none law (m ∷ ms) zero = law m
 everywhere setup outputs P none law (m ∷ ms) (suc j) = everywhere setup outputs P none law ms j
 
-pub is_lawful : {M S : Type 0} (setup : M → S) (outputs : S → List Item → List Out) (near : S → List Item → ℕ) → ((m : M) → GivesNothing (outputs (setup m))) → ((m : M) → KeepsFront (outputs (setup m)))
+pub is_lawful : {M S : Type 0} (setup : M → S) (outputs : S → List Item → List Out) (near : S → List Item → ℕ → ℕ) → ((m : M) → GivesNothing (outputs (setup m))) → ((m : M) → KeepsFront (outputs (setup m)))
     → (ms : List M) (parents : List (Option ℕ)) → IsForest parents → IsLawful parents (defined outputs near (map setup ms))
 is_lawful setup outputs near nothing prefix ms parents forest = record {
   forest = forest;
@@ -48,7 +48,7 @@ by_places {X} {Y} f (x ∷ xs) g a same =
     let rest = by_places f xs g (a + 1) (λ j y at. same (suc j) y at ∙ ap g (let n : a + suc j ≡ (a + 1) + j = omega arith in n)) in
     λ i. here i ∷ rest i
 
-module _ {S : Type 0} (outputs : S → List Item → List Out) (near : S → List Item → ℕ) (setups : List S) (parents : List (Option ℕ)) (forest : IsForest parents) (count : length setups ≡ length parents) where
+module _ {S : Type 0} (outputs : S → List Item → List Out) (near : S → List Item → ℕ → ℕ) (setups : List S) (parents : List (Option ℕ)) (forest : IsForest parents) (count : length setups ≡ length parents) where
   abbrev whole : ℕ → List Item → List Out
   whole = whole_of outputs setups
 

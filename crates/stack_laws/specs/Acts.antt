@@ -11,6 +11,7 @@ use Rattle.decoder_core.specs.Inputs.{Item}
 use Rattle.tree_runs.specs.Machines.{Definitions}
 use Rattle.stack_laws.specs.Links.{IsNext, some}
 use Rattle.stack_laws.specs.Feeds.{ends_feed, items_in}
+use Rattle.stack_laws.specs.Heeding.{above_in}
 use Rattle.stack_laws.specs.Moves.{MayTell}
 use Rattle.stack_laws.specs.Running.{State}
 use Rattle.stack_laws.specs.Events.{Event, Read, Hear, Root, Take, Close, Step, Give, Tell, Gather}
@@ -65,7 +66,10 @@ module _ (parents : List (Option ℕ)) (by : Definitions) (slots : ℕ) where
       × (0 < length items)
       × (by.whole i ((state.stages i).consumed ++ items)
       ≡ by.whole i (state.stages i).consumed ++ new)
-      × (left ≡ [] → MayTell (by.whole i) (by.near i) ((state.stages i).consumed ++ items) floor)
+      × (left ≡ []
+      → MayTell
+      (above_in (state.stages i).input.received (length ((state.stages i).consumed ++ items)))
+      (by.whole i) (by.near i) ((state.stages i).consumed ++ items) floor)
   MayAct (DoGive i child feed) state = May parents by slots (Give i child feed) state
   MayAct (DoTell i mark) state = May parents by slots (Tell i mark) state
   MayAct (DoGather i mark stops) state = May parents by slots (Gather i mark stops) state

@@ -17,7 +17,9 @@ use Rattle.tree_runs.specs.Passing.{only}
 use Rattle.stack_laws.specs.Links.{IsFront, IsNext, IsFree, some}
 use Rattle.stack_laws.specs.Moves.{MayTell}
 use Rattle.stack_laws.specs.Running.{Stage, State, is_over, stands_on}
-use Rattle.stack_laws.specs.Feeds.{ends_feed, feed_end, items_in, feeds_of, floor_mark, is_floor}
+use Rattle.stack_laws.specs.Feeds.{ends_feed, feed_end, items_in, feeds_of, floor_feed, floor_mark}
+use Rattle.stack_laws.specs.Feeds.{is_floor}
+use Rattle.stack_laws.specs.Heeding.{above_in}
 
 pub data Event : Type 0 where
   -- the reader reads a run, or that there is none
@@ -32,7 +34,7 @@ pub data Event : Type 0 where
   -- its links
   Close : ℕ → Event
   -- a stage's machine consumes more of what was taken, and gives these outputs; a floor may stand
-  -- behind them
+  -- after them, and is told its children too
   Step : ℕ → List Item → List Out → Option ℕ → Event
   -- a stage sends a child what is next for it
   Give : ℕ → ℕ → Feed → Event
@@ -138,7 +140,7 @@ module _ (parents : List (Option ℕ)) where
     stages = hand (Some i) (End ∷ []) (made_marks i (EndMark ∷ []) (closes i state.stages));
   }
   after (Step i items new floor) state = record state {
-    stages = hand (Some i) (feeds_of new)
+    stages = hand (Some i) (feeds_of new ++ floor_feed floor)
         (made_marks i (marks_of new ++ floor_mark floor)
         (ate i items (is_floor floor) state.stages));
   }
@@ -173,7 +175,9 @@ module _ (parents : List (Option ℕ)) where
         × (by.whole i ((state.stages i).consumed ++ items)
         ≡ by.whole i (state.stages i).consumed ++ new)
         × ((start : ℕ) → floor ≡ Some start
-        → MayTell (by.whole i) (by.near i) ((state.stages i).consumed ++ items) start)
+        → MayTell
+        (above_in (state.stages i).input.received (length ((state.stages i).consumed ++ items)))
+        (by.whole i) (by.near i) ((state.stages i).consumed ++ items) start)
     Asks (Give i child feed) state =
         (slice_get parents child ≡ Some (Some i))
         × IsNext (state.stages child).input.sent feed (state.stages child).input.made

@@ -2,7 +2,8 @@
 use Rattle.std.specs.Prelude.{ℕ, Bool, true, false, if◌then◌else◌, List, [], ◌∷◌, ◌++◌, Option}
 use Rattle.std.specs.Prelude.{Some, None}
 use Rattle.la_base.specs.declared.wires.Feed.{Feed}
-use Rattle.la_base.specs.declared.wires.Feed.TheVariants.{Run as RunFeed, Packet as PacketFeed, End}
+use Rattle.la_base.specs.declared.wires.Feed.TheVariants.{Run as RunFeed, Packet as PacketFeed}
+use Rattle.la_base.specs.declared.wires.Feed.TheVariants.{From, End}
 use Rattle.la_base.specs.declared.wires.Mark.{Mark}
 use Rattle.la_base.specs.declared.wires.Mark.TheVariants.{Note as NoteMark, Piece as PieceMark}
 use Rattle.la_base.specs.declared.wires.Mark.TheVariants.{Floor as FloorMark, End as EndMark}
@@ -15,6 +16,7 @@ use Rattle.decoder_core.specs.Inputs.{Item, items_of}
 abbrev pub ends_feed : Feed → Bool
 ends_feed (RunFeed run) = false
 ends_feed (PacketFeed packet) = false
+ends_feed (From start) = false
 ends_feed End = true
 
 abbrev pub ends_marks : Mark → Bool
@@ -46,6 +48,11 @@ feeds_of (PacketOut packet ∷ outs) = PacketFeed packet ∷ feeds_of outs
 abbrev pub floor_mark : Option ℕ → List Mark
 floor_mark None = []
 floor_mark (Some floor) = FloorMark floor ∷ []
+
+-- the same for those that are fed: the place from which on all packets that follow start
+abbrev pub floor_feed : Option ℕ → List Feed
+floor_feed None = []
+floor_feed (Some floor) = From floor ∷ []
 
 -- whether there is a floor
 abbrev pub is_floor : Option ℕ → Bool

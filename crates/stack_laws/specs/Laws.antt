@@ -91,7 +91,7 @@ PrintsAll =
     → state.printed ≡ listing parents by.whole input
 
 -- what was printed of the instances that are shown, by the listing of a tree of machines
-module _ {S : Type 0} (outputs : S → List Item → List Out) (near : S → List Item → ℕ)
+module _ {S : Type 0} (outputs : S → List Item → List Out) (near : S → List Item → ℕ → ℕ)
     (setups : List S) (parents : List (Option ℕ)) where
   -- the notes of the instances that are shown, on samples, in the order of a listing
   abbrev pub listing_of : (ℕ → Bool) → List ℕ → List Entry

@@ -1,5 +1,6 @@
 pub mod Links
 pub mod Feeds
+pub mod Heeding
 pub mod Moves
 pub mod Keeping
 pub mod Running

@@ -1,16 +1,17 @@
 -- What one stage has, and what it may do by itself.
 use Rattle.std.specs.Prelude.{ℕ, zero, suc, ◌≡◌, ◌≤◌, false, Bool, true, List, [], ◌∷◌, ◌++◌, map}
-use Rattle.std.specs.Prelude.{Option, Some}
+use Rattle.std.specs.Prelude.{length, Option, Some}
 use Rattle.la_base.specs.declared.wires.Feed.{Feed}
 use Rattle.la_base.specs.declared.wires.Feed.TheVariants.{End}
 use Rattle.la_base.specs.declared.wires.Mark.{Mark}
 use Rattle.la_base.specs.declared.wires.Mark.TheVariants.{End as EndMark}
 use Rattle.la_base.specs.declared.wires.Out.{Out}
 use Rattle.decoder_core.specs.Inputs.{Item}
-use Rattle.decoder_core.specs.Promises.{IsFloor}
+use Rattle.decoder_core.specs.Packets.{IsFloorOver}
 use Rattle.decoder_core.specs.Marks.{marks_of}
 use Rattle.stack_laws.specs.Links.{IsFront, IsNext, some}
-use Rattle.stack_laws.specs.Feeds.{ends_feed, items_in, feeds_of, floor_mark, is_floor}
+use Rattle.stack_laws.specs.Feeds.{ends_feed, items_in, feeds_of, floor_feed, floor_mark, is_floor}
+use Rattle.stack_laws.specs.Heeding.{above_in}
 
 -- what a stage has for a link that it sends on: what it made, and what of that it sent
 pub record Sending (T : Type 0) : Type 0 where
@@ -60,7 +61,7 @@ moved CloseUp view = record view {
 moved (StepOn items new floor) view = record view {
   consumed = view.consumed ++ items;
   told = is_floor floor;
-  children = map (makes (feeds_of new)) view.children;
+  children = map (makes (feeds_of new ++ floor_feed floor)) view.children;
   marks = makes (marks_of new ++ floor_mark floor) view.marks;
 }
 moved (GiveTo k feed) view = record view { children = sends_at k feed view.children }
@@ -72,17 +73,20 @@ NextFor k feed [] = ⊥
 NextFor zero feed (sending ∷ others) = IsNext sending.sent feed sending.made
 NextFor (suc k) feed (sending ∷ others) = NextFor k feed others
 
--- a floor that may be told behind an input: no note that is still to come starts before it, and
--- what has begun and isn't given yet doesn't start behind it
-abbrev pub MayTell : (List Item → List Out) → (List Item → ℕ) → List Item → ℕ → Type 0
-MayTell whole near input start = IsFloor whole input start × (near input ≤ start)
+-- a floor that may be told after an input, where all packets that come start at `above` or later:
+-- no note and no packet that is still to come starts before it, and what has begun and isn't given
+-- yet doesn't start after it
+abbrev pub MayTell : ℕ → (List Item → List Out) → (List Item → ℕ) → List Item → ℕ → Type 0
+MayTell above whole near input start =
+    IsFloorOver above whole input start × (near input ≤ start)
 
 module _ (whole : List Item → List Out) (near : List Item → ℕ) where
   -- when a stage may do it, where `whole` is the definition of its decoder and `near` its near
   -- floor: it takes in until it has closed, and no more before it has told a floor after what it
   -- has consumed; it closes once it has received End, has consumed all that came, and has told a
-  -- floor after that; it consumes on in what it has received, and makes what that gives; it sends
-  -- on each link what it made for it, in order
+  -- floor after that; it consumes on in what it has received, and makes what that gives, with a
+  -- floor over what it was told of the packets that come; it sends on each link what it made for
+  -- it, in order
   abbrev pub MayMove : Move → View → Type 0
   MayMove (TakeIn feed) view = (view.closed ≡ false) × (view.told ≡ true)
   MayMove CloseUp view =
@@ -91,7 +95,9 @@ module _ (whole : List Item → List Out) (near : List Item → ℕ) where
   MayMove (StepOn items new floor) view =
       (view.closed ≡ false) × IsFront (view.consumed ++ items) (items_in view.received)
       × (whole (view.consumed ++ items) ≡ whole view.consumed ++ new)
-      × ((start : ℕ) → floor ≡ Some start → MayTell whole near (view.consumed ++ items) start)
+      × ((start : ℕ) → floor ≡ Some start
+      → MayTell (above_in view.received (length (view.consumed ++ items))) whole near
+      (view.consumed ++ items) start)
   MayMove (GiveTo k feed) view = NextFor k feed view.children
   MayMove (TellOut mark) view = IsNext view.marks.sent mark view.marks.made
 

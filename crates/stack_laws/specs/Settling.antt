@@ -11,7 +11,7 @@ use Rattle.decoder_core.specs.Inputs.{Item}
 use Rattle.decoder_core.specs.declared.end.RunEnd.{RunEnd}
 use Rattle.decoder_core.specs.declared.end.RunEnd.TheVariants.{Ended}
 use Rattle.tree_runs.specs.Machines.{Definitions, defined}
-use Rattle.tree_runs.specs.Runs.{Told, input_on}
+use Rattle.tree_runs.specs.Runs.{ToldOn, input_on}
 use Rattle.stack_laws.specs.Links.{IsFront, Link, some}
 use Rattle.stack_laws.specs.Running.{State, is_over}
 use Rattle.stack_laws.specs.Feeds.{ends_feed, ends_marks, feed_end, items_in}
@@ -101,19 +101,19 @@ pub record IsEmptied {T : Type 0} (link : Link T) : Type 0 where
   pub sent : link.sent ≡ link.made
 
 -- these are marks of a run in which an instance read on from one input to another, by feeds into
--- which what came can be cut
+-- which what came can be cut; with more samples its input is `later`
 abbrev pub TellsRun : RunEnd → Bool → (List Item → List Out) → (List Item → ℕ) → List Item
-    → List Item → List Mark → Type 0
-TellsRun result at_end whole near was now marks =
+    → List Item → (List ℕ → List Item) → List Mark → Type 0
+TellsRun result at_end whole near was now later marks =
     (feeds : List (List Item)) × (now ≡ was ++ together feeds)
-    × Told result at_end whole near was now feeds marks
+    × ToldOn result at_end whole near was now later feeds marks
 
 -- a stage that has closed has received all that was made for it, and has consumed its input on
 -- what was fed; of a stage of which End was gathered all was gathered; and any marks of a stage,
 -- from the first one on, are those of a run: with End among them, of one that has ended, else of
 -- one that was stopped
-pub record Tells (by : Definitions) (was now : ℕ → List Item) (state : State) (j : ℕ)
-    : Type 0 where
+pub record Tells (by : Definitions) (was now : ℕ → List Item) (later : List ℕ → ℕ → List Item)
+    (state : State) (j : ℕ) : Type 0 where
   pub comes : (state.stages j).closed ≡ true
       → IsEmptied (state.stages j).input × (now j ≡ was j ++ (state.stages j).consumed)
   pub gathered : some ends_marks (state.stages j).marks.received ≡ true
@@ -122,7 +122,7 @@ pub record Tells (by : Definitions) (was now : ℕ → List Item) (state : State
       → IsFront marks (state.stages j).marks.made
       → (some ends_marks marks ≡ true → at_end ≡ true)
       → (result ≡ Ended → some ends_marks marks ≡ true)
-      → TellsRun result at_end (by.whole j) (by.near j) (was j) (now j) marks
+      → TellsRun result at_end (by.whole j) (by.near j) (was j) (now j) (λ more. later more j) marks
 
 -- so it is where the lists fit together
 abbrev pub FittingTells : Type 0
@@ -130,7 +130,9 @@ FittingTells =
     (parents : List (Option ℕ)) (by : Definitions) (slots : ℕ) → IsLawful parents by
     → (state : State) → Fits parents by slots state
     → (input : ℕ → List Item) → AreInputs parents by.whole (samples_of state.fed) input
-    → (j : ℕ) → j < length parents → Tells by (λ _. []) input state j
+    → (later : List ℕ → ℕ → List Item)
+    → ((more : List ℕ) → AreInputs parents by.whole (samples_of state.fed ++ more) (later more))
+    → (j : ℕ) → j < length parents → Tells by (λ _. []) input later state j
 
 -- and where the tree had read earlier samples, and gives what is behind its outputs on these
 abbrev pub FittingTellsTheRest : Type 0
@@ -139,10 +141,13 @@ FittingTellsTheRest =
     → (earlier : List ℕ) (was now : ℕ → List Item) → AreInputs parents by.whole earlier was
     → (state : State) → Fits parents (behind by was) slots state
     → AreInputs parents by.whole (earlier ++ samples_of state.fed) now
-    → (j : ℕ) → j < length parents → Tells by was now state j
+    → (later : List ℕ → ℕ → List Item)
+    → ((more : List ℕ)
+    → AreInputs parents by.whole ((earlier ++ samples_of state.fed) ++ more) (later more))
+    → (j : ℕ) → j < length parents → Tells by was now later state j
 
 -- so it is of a tree of machines that stood for their inputs on earlier samples
-abbrev pub MachinesTell : {S : Type 0} → (S → List Item → List Out) → (S → List Item → ℕ)
+abbrev pub MachinesTell : {S : Type 0} → (S → List Item → List Out) → (S → List Item → ℕ → ℕ)
     → List S → List (Option ℕ) → Type 0
 MachinesTell outputs near setups parents =
     (slots : ℕ) (samples : List ℕ) (state : State)
@@ -150,7 +155,8 @@ MachinesTell outputs near setups parents =
     slots state
     → (j : ℕ) → j < length parents
     → Tells (defined outputs near setups) (input_on outputs setups parents samples)
-    (input_on outputs setups parents (samples ++ samples_of state.fed)) state j
+    (input_on outputs setups parents (samples ++ samples_of state.fed))
+    (λ more. input_on outputs setups parents ((samples ++ samples_of state.fed) ++ more)) state j
 
 -- what each instance of a tree gives behind its outputs on an earlier input makes a tree
 abbrev pub RestsAreATree : Type 0

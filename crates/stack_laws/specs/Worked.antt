@@ -2,7 +2,8 @@
 use Rattle.std.specs.Prelude.{ℕ, ◌≡◌, false, List, [], ◌∷◌, Option, Some, None}
 use Rattle.std.proofs.Math.Nat.{le_refl}
 use Rattle.la_base.specs.declared.samples.Run.{Run}
-use Rattle.la_base.specs.declared.wires.Feed.TheVariants.{Run as RunFeed, Packet as PacketFeed, End}
+use Rattle.la_base.specs.declared.wires.Feed.TheVariants.{Run as RunFeed, Packet as PacketFeed}
+use Rattle.la_base.specs.declared.wires.Feed.TheVariants.{From, End}
 use Rattle.la_base.specs.declared.wires.Mark.TheVariants.{Note as NoteMark, Floor as FloorMark}
 use Rattle.la_base.specs.declared.wires.Mark.TheVariants.{End as EndMark}
 use Rattle.la_base.specs.declared.wires.Note.{Note}
@@ -51,6 +52,7 @@ history =
     ∷ Tell 0 (NoteMark (note 0)) ∷ Gather 0 (NoteMark (note 0)) false
     ∷ Print (entry_of 0 (note 0)) false
     ∷ Take 1 (PacketFeed packet) ∷ Step 1 (Pack packet ∷ []) (NoteOut (note 1) ∷ []) (Some 0)
+    ∷ Give 0 1 (From 0) ∷ Take 1 (From 0)
     ∷ Read None ∷ Root 0 End ∷ Take 0 End ∷ Close 0 ∷ Give 0 1 End
     ∷ Tell 0 (FloorMark 0) ∷ Gather 0 (FloorMark 0) false
     ∷ Tell 0 EndMark ∷ Gather 0 EndMark false

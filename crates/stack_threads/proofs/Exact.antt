@@ -28,7 +28,7 @@ together_lists [] = refl
 together_lists (list ∷ lists) =
     ap (λ (l : List Item). run_items list ++ l) (together_lists lists) ∙ sym (items-append (samples_of list) (samples_in lists)) ∙ ap (map Sample) (sym (samples_of-append list (together lists)))
 
-module _ {S : Type 0} (outputs : S → List Item → List Out) (near : S → List Item → ℕ) (setups : List S) (parents : List (Option ℕ)) (forest : IsForest parents) (count : length setups ≡ length parents) (lawful : IsLawful parents (defined outputs near setups)) where
+module _ {S : Type 0} (outputs : S → List Item → List Out) (near : S → List Item → ℕ → ℕ) (setups : List S) (parents : List (Option ℕ)) (forest : IsForest parents) (count : length setups ≡ length parents) (lawful : IsLawful parents (defined outputs near setups)) where
   abbrev input : List ℕ → ℕ → List Item
   input samples = input_on outputs setups parents samples
 
@@ -50,7 +50,7 @@ module _ {S : Type 0} (outputs : S → List Item → List Out) (near : S → Lis
           ∙ ap (λ (l : List (List Item)). input samples j ++ together l) (sym (feeds_at (Some (Some p)) at))
 
 -- where inputs grow by feeds, a run of which each feed is told is a run
-pub exact_runs : {S : Type 0} {outputs : S → List Item → List Out} {near : S → List Item → ℕ} {setups : List S} {parents : List (Option ℕ)} {before after : ℕ → List Item → Type 0} {gave_old gave_new : List (List Run) → Type 0} {took_old took_new : (ℕ → List Mark) → Type 0} {at_end : Bool}
+pub exact_runs : {S : Type 0} {outputs : S → List Item → List Out} {near : S → List Item → ℕ → ℕ} {setups : List S} {parents : List (Option ℕ)} {before after : ℕ → List Item → Type 0} {gave_old gave_new : List (List Run) → Type 0} {took_old took_new : (ℕ → List Mark) → Type 0} {at_end : Bool}
     {result : RunEnd} → InputsGrow outputs setups parents → RunsOn outputs near setups parents before after gave_old gave_new took_old took_new at_end result → RunsBy outputs near setups parents before gave_old gave_new took_old took_new at_end result
 exact_runs {outputs = outputs} {setups = setups} {parents = parents} grow run = record {
   lists = run.lists;

@@ -132,11 +132,11 @@ module _ {M S : Type 0} (m : MachineGhosts M S) where
       setup = ap m.setup alike.machine ∙ takes.setup ∙ goes.goes.setup ∙ opens.setup;
       means = λ start stands.
           let count = length (links s).children in
-          let first = blank_keeps (whole_behind (m.outputs (m.setup s.machine)) start) (near_behind (m.near (m.setup s.machine)) start) (nothing_behind (m.outputs (m.setup s.machine)) (prefix s.machine) start) count in
+          let first = blank_keeps (whole_behind (m.outputs (m.setup s.machine)) start) (near_behind (λ input. m.near (m.setup s.machine) input 0) start) (nothing_behind (m.outputs (m.setup s.machine)) (prefix s.machine) start) count in
           let now = goes.goes.keeps start (blank count) (opens.means start stands) first in (
             now.0,
             part_alike start old new now.0 alike (takes.means start now.0 now.1),
-            subst (λ (setup : S). Keeps (whole_behind (m.outputs setup) start) (near_behind (m.near setup) start) now.0) (goes.goes.setup ∙ opens.setup) now.2,
+            subst (λ (setup : S). Keeps (whole_behind (m.outputs setup) start) (near_behind (λ input. m.near setup input 0) start) now.0) (goes.goes.setup ∙ opens.setup) now.2,
           );
     }
 

@@ -56,9 +56,9 @@ blank_keeps whole near nothing n = record {
   takes = record { front = ([], refl); all = λ is. let no : false ≡ true = is in absurd cc };
   marks = record { shows = ap marks_of (sym nothing); last = tt; ends = refl };
   tells = ([], refl);
-  floors = λ more. tt;
+  floors = λ more heeds. tt;
   batched = batched_none whole near nothing;
-  children = All-replicate (Serves (whole []) false) n no_sending (record { made = ap (λ (l : List Out). feeds_of l ++ []) (sym nothing); sends = ([], refl) });
+  children = All-replicate (Serves whole [] [] false) n no_sending (record { made = ap (λ (l : List Out). feeds_of l ++ []) (sym nothing); places = λ more heeds. tt; last = tt; sends = ([], refl) });
 }
 
 -- a bound of the first of some numbers
@@ -102,7 +102,7 @@ map_at f (y ∷ xs) (suc k) x at = map_at f xs k x at
 pub record MadeOf {M S : Type 0} (m : MachineGhosts M S) (machine : M) (p : Parts M) : Type 0 where
   pub setup : m.setup p.machine ≡ m.setup machine
   pub means : (start : List Item) → m.consumed machine start
-      → (view : View) × PartsMean m start p view × Keeps (whole_behind (m.outputs (m.setup machine)) start) (near_behind (m.near (m.setup machine)) start) view
+      → (view : View) × PartsMean m start p view × Keeps (whole_behind (m.outputs (m.setup machine)) start) (near_behind (λ input. m.near (m.setup machine) input 0) start) view
 
 module _ {M S : Type 0} (m : MachineGhosts M S)
     (machines : List M) (parents : List (Option ℕ)) (forest : IsForest parents) (each : length machines ≡ length parents)
@@ -152,7 +152,7 @@ module _ {M S : Type 0} (m : MachineGhosts M S)
         at = p.1;
         view = had.0;
         means = had.1;
-        keeps = subst (λ (o : Option S). Keeps (whole_behind (outputs_at m.outputs o) (start j)) (near_behind (near_at m.near o) (start j)) had.0) setup_at had.2;
+        keeps = subst (λ (o : Option S). Keeps (whole_behind (outputs_at m.outputs o) (start j)) (near_behind (λ input. near_at m.near o input 0) (start j)) had.0) setup_at had.2;
         rx = rx.0;
         at_rx = rx.1;
       }
@@ -317,13 +317,13 @@ module _ {M S : Type 0} (m : MachineGhosts M S)
   gathered_of j low (inl less) = let s = settled_at j less in (s.rx, map_at received marks j s.rx s.at_rx, refl)
   gathered_of j low (inr past) = absurd (omega (arith, low, past))
 
-  pub tells_run : (j : ℕ) → j < n → TellsRun result at_end (whole_of m.outputs setups j) (near_of m.near setups j) (start j) (input_on m.outputs setups parents (samples ++ samples_in d.lists) j) (taken j)
+  pub tells_run : (j : ℕ) → j < n → TellsRun result at_end (whole_of m.outputs setups j) (near_of m.near setups j) (start j) (input_on m.outputs setups parents (samples ++ samples_in d.lists) j) (λ more. input_on m.outputs setups parents ((samples ++ samples_in d.lists) ++ more) j) (taken j)
   tells_run j low =
       let g = gathered_of j low (cases_lt j n) in
       let got = ends.gathered j in
       let came = d.came j (received g.0) g.1 in
       let ends_got : EndsWith EndMark got = (came.0, g.2 ∙ came.1) in
-      let tells : Tells (defined m.outputs m.near setups) start (input_on m.outputs setups parents (samples ++ samples_in d.lists)) state j = tell many samples state fits j low in
+      let tells : Tells (defined m.outputs m.near setups) start (input_on m.outputs setups parents (samples ++ samples_in d.lists)) (λ more. input_on m.outputs setups parents ((samples ++ samples_in d.lists) ++ more)) state j = tell many samples state fits j low in
       let all = (tells.gathered (has_end got ends_got)).1 in
       let last : EndsLast ends_marks got = subst (EndsLast ends_marks) (sym all.received) (fits.marks j).last in
       let front = marks_front got (d.taken j) d.done last ends_got (subst (λ (l : List Mark). Reaches d.done (d.taken j) (real l)) (sym g.2) (d.fronts j (received g.0) g.1)) (nat_lt j d.ends) (λ e. (d.by_end j e).0) in

@@ -8,10 +8,9 @@ use Rattle.decoder_core.specs.Inputs.{Item}
 use Rattle.decoder_core.specs.declared.end.RunEnd.{RunEnd}
 use Rattle.tree_runs.specs.Machines.{near_of, whole_of}
 use Rattle.tree_runs.specs.Passing.{Took}
-use Rattle.tree_runs.specs.Runs.{StandOn, feeds_on, input_on, samples_in}
-use Rattle.stack_laws.specs.Settling.{TellsRun}
+use Rattle.tree_runs.specs.Runs.{StandOn, ToldOn, feeds_on, input_on, samples_in}
 
-module _ {S : Type 0} (outputs : S → List Item → List Out) (near : S → List Item → ℕ)
+module _ {S : Type 0} (outputs : S → List Item → List Out) (near : S → List Item → ℕ → ℕ)
     (setups : List S) (parents : List (Option ℕ)) where
   abbrev input : List ℕ → ℕ → List Item
   input samples j = input_on outputs setups parents samples j
@@ -27,8 +26,11 @@ module _ {S : Type 0} (outputs : S → List Item → List Out) (near : S → Lis
     pub took : Took took_old took_new marks
     pub told : (samples : List ℕ) → StandOn outputs setups parents before samples → (j : ℕ)
         → j < length parents
-        → TellsRun result at_end (whole_of outputs setups j) (near_of near setups j)
-        (input samples j) (input (samples ++ samples_in lists) j) (marks j)
+        → (feeds : List (List Item))
+        × (input (samples ++ samples_in lists) j ≡ input samples j ++ together feeds)
+        × ToldOn result at_end (whole_of outputs setups j) (near_of near setups j)
+        (input samples j) (input (samples ++ samples_in lists) j)
+        (λ more. input ((samples ++ samples_in lists) ++ more) j) feeds (marks j)
 
 -- behind samples, what comes to an instance with more lists of runs are its feeds
 abbrev pub InputsGrow : {S : Type 0} → (S → List Item → List Out) → List S → List (Option ℕ)

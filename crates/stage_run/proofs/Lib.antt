@@ -11,3 +11,4 @@ mod Moving
 mod Turning
 mod Ending
 mod Lessening
+mod Lying

@@ -34,8 +34,8 @@ module _ {M : Type 0} where
 module _ {M S : Type 0} (m : MachineGhosts M S) where
   moves_then : (start : List Item) (a b c : Stage M) (view : View) (xs ys : List Move) → m.setup b.machine ≡ m.setup a.machine → Moves m start a b view xs → Moves m start b c (moved_all xs view) ys → Moves m start a c view (xs ++ ys)
   moves_then start a b c view xs ys setup one other = record {
-    may = may-append (whole_behind (m.outputs (m.setup a.machine)) start) (near_behind (m.near (m.setup a.machine)) start) xs ys view one.may
-        (subst (λ s. MayMoveAll (whole_behind (m.outputs s) start) (near_behind (m.near s) start) ys (moved_all xs view)) setup other.may);
+    may = may-append (whole_behind (m.outputs (m.setup a.machine)) start) (near_behind (λ input. m.near (m.setup a.machine) input 0) start) xs ys view one.may
+        (subst (λ s. MayMoveAll (whole_behind (m.outputs s) start) (near_behind (λ input. m.near s input 0) start) ys (moved_all xs view)) setup other.may);
     means = subst (Means m start c) (sym (moved-append xs ys view)) other.means;
   }
 
@@ -91,5 +91,5 @@ module _ {M S : Type 0} (m : MachineGhosts M S) where
       let x = on.acts start view v in
       let whole = whole_behind (m.outputs (m.setup a.machine)) start in
       let now = moved_all (together x.0) view in
-      let kept = law whole (near_behind (m.near (m.setup a.machine)) start) (behind_prefix (m.outputs (m.setup a.machine)) (prefix a.machine) start) (together x.0) view keeps x.3.may in
-      (now, x.3.means, subst (λ s. Keeps (whole_behind (m.outputs s) start) (near_behind (m.near s) start) now) (sym on.setup) kept)
+      let kept = law whole (near_behind (λ input. m.near (m.setup a.machine) input 0) start) (behind_prefix (m.outputs (m.setup a.machine)) (prefix a.machine) start) (together x.0) view keeps x.3.may in
+      (now, x.3.means, subst (λ s. Keeps (whole_behind (m.outputs s) start) (near_behind (λ input. m.near s input 0) start) now) (sym on.setup) kept)

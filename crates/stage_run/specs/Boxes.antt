@@ -5,8 +5,9 @@ use Rattle.std.specs.Prelude.{length}
 use Rattle.la_base.specs.Runs.{samples_of}
 use Rattle.la_base.specs.declared.wires.Feed.{Feed}
 use Rattle.la_base.specs.declared.wires.Mark.{Mark}
-use Rattle.decoder_core.specs.Inputs.{Item, Sample}
+use Rattle.decoder_core.specs.Inputs.{Item, Sample, items_of}
 use Rattle.stack_laws.specs.Feeds.{items_in}
+use Rattle.stack_laws.specs.Heeding.{above_in, place_of}
 use Rattle.stack_laws.specs.Moves.{Sending}
 use Rattle.stage_ring.specs.Link.{sent, tx_link, tx_misses}
 use Rattle.stage_run.specs.Inputs.{came}
@@ -30,6 +31,14 @@ left_in inbox = length (waiting_of inbox) + length (waiting inbox.feeds)
 abbrev pub is_idle : Inbox → Bool
 is_idle inbox =
     nat_eq (length (waiting inbox.runs)) 0 && nat_eq (length (waiting inbox.feeds)) 0
+
+-- the places that feeds tell were told before, with no more items before them: of a stage that was
+-- told these feeds, and has consumed so many items
+abbrev pub LieIn : List Feed → ℕ → List Feed → Type 0
+LieIn received count [] = Unit {0}
+LieIn received count (feed ∷ feeds) =
+    (place_of feed ≤ above_in received count)
+    × LieIn received (count + length (items_of feed)) feeds
 
 -- a link was sent these, and these are kept for it
 abbrev pub keeps : {T : Type 0} → List T → List T → Sending T

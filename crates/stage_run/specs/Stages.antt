@@ -2,6 +2,7 @@
 use Rattle.std.specs.Prelude.{ℕ, ◌≡◌, ◌≤◌, ◌<◌, ◌+◌, ◌*◌, ◌-◌, ◌^◌, ◌⊎◌, min, Bool, true, false, ◌&&◌}
 use Rattle.std.specs.Prelude.{List, [], ◌++◌, length, map, replicate}
 use Rattle.std.specs.List.{All}
+use Rattle.la_base.specs.Runs.{samples_of}
 use Rattle.la_base.specs.declared.wires.Out.{Out}
 use Rattle.la_io.specs.Causes.{Rose}
 use Rattle.la_io.specs.Feeds.{together}
@@ -9,13 +10,15 @@ use Rattle.decoder_core.specs.declared.machine.Machine.{Ghosts as MachineGhosts}
 use Rattle.decoder_core.specs.Inputs.{Item}
 use Rattle.stack_laws.specs.Links.{some}
 use Rattle.stack_laws.specs.Feeds.{ends_feed, items_in}
+use Rattle.stack_laws.specs.Heeding.{above_in}
 use Rattle.stack_laws.specs.Keeping.{Keeps}
 use Rattle.stack_laws.specs.Moves.{Move, TakeIn, CloseUp, StepOn, GiveTo, TellOut, Sending, View}
 use Rattle.stack_laws.specs.Moves.{MayMoveAll, moved_all}
 use Rattle.stack_laws.specs.Rests.{near_behind, whole_behind}
 use Rattle.stage_ring.specs.Link.{Link, sent, tx_link}
 use Rattle.stage_run.specs.Boxes.{SameSent, children_of, given_by, missed_by, received_of, told_of}
-use Rattle.stage_run.specs.Boxes.{is_empty, left_in, waiting_of}
+use Rattle.stage_run.specs.Boxes.{LieIn, is_empty, left_in, waiting_of}
+use Rattle.stage_run.specs.Rows.{waiting}
 use Rattle.stage_run.specs.Inputs.{came, input_link, input_misses, reads_samples, taken}
 use Rattle.stage_run.specs.declared.input.Input.{Input}
 use Rattle.stage_run.specs.declared.outbox.Outbox.{Outbox}
@@ -150,6 +153,9 @@ module _ {M S : Type 0} (m : MachineGhosts M S) where
     pub stands : m.consumed s.machine (start ++ view.consumed)
     pub left : items_in view.received ≡ view.consumed ++ waiting_of s.inbox
     pub over : s.inbox.over ≡ true → some ends_feed view.received ≡ true
+    pub above : s.above ≤ above_in view.received (length view.consumed)
+    pub lies : LieIn view.received
+        (length view.consumed + length (samples_of (waiting s.inbox.runs))) (waiting s.inbox.feeds)
     pub told : view.told ≡ s.told
     pub children : view.children ≡ children_of s.outbox
     pub marks : view.marks ≡ told_of s.outbox
@@ -160,7 +166,7 @@ module _ {M S : Type 0} (m : MachineGhosts M S) where
   whole_at start s = whole_behind (m.outputs (m.setup s.machine)) start
 
   abbrev pub near_at : List Item → Stage M → List Item → ℕ
-  near_at start s = near_behind (m.near (m.setup s.machine)) start
+  near_at start s = near_behind (λ input. m.near (m.setup s.machine) input 0) start
 
   -- it may make these moves, and has made them
   pub record Moves (start : List Item) (old new : Stage M) (view : View) (moves : List Move)

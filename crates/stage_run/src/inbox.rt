@@ -1,11 +1,12 @@
 // What a stage receives, and what of that it hasn't done yet.
 ghost use Rattle.std.specs.Prelude.{◌≡◌, ◌≤◌, ◌+◌, ◌++◌, [], List, length, true, false, nat_eq};
-ghost use Rattle.std.specs.Prelude.{◌&&◌, map};
+ghost use Rattle.std.specs.Prelude.{◌&&◌, ◌⊎◌, map};
 ghost use Rattle.la_base.specs.Runs.{samples_of};
 ghost use Rattle.decoder_core.specs.Inputs.{Sample};
 ghost use Rattle.la_base.specs.declared.wires.Feed.{Feed as FeedIs};
 ghost use Rattle.stack_laws.specs.Links.{some};
 ghost use Rattle.stack_laws.specs.Feeds.{ends_feed, items_in};
+ghost use Rattle.stack_laws.specs.Heeding.{place_of};
 ghost use Rattle.stage_ring.specs.Link.{more_if};
 ghost use Rattle.stage_run.specs.Inputs.{came, feeds_in, input_link, input_misses, reads_samples};
 ghost use Rattle.stage_run.specs.Inputs.{taken, told_behind, told_on};
@@ -89,6 +90,19 @@ fn is_end(feed: Feed) -> bool
         Feed::End => true,
         Feed::Run(_) => false,
         Feed::Packet(_) => false,
+        Feed::From(_) => false,
+    }
+}
+
+/// The place that a feed tells, from which on all packets that follow start.
+pub(crate) fn place_of(feed: Feed) -> u64
+    ensures { result ≡ place_of feed }
+{
+    match feed {
+        Feed::From(start) => start,
+        Feed::Run(_) => 0,
+        Feed::Packet(_) => 0,
+        Feed::End => 0,
     }
 }
 
@@ -100,6 +114,7 @@ impl Inbox {
         requires { taken input ≡ 0 }
         ensures input { result.input ≡ input }
         ensures none { waiting_of result ≡ [] }
+        ensures waits { waiting result.feeds ≡ [] }
         ensures open { result.over ≡ false }
     {
         Inbox {
@@ -129,7 +144,9 @@ impl Inbox {
         ensures came { (more : List FeedIs) × (length more ≤ 64)
             × (came self.new.input ≡ came self.old.input ++ more)
             × (waiting_of self.new ≡ items_in more)
-            × (self.new.over ≡ true → some ends_feed more ≡ true) }
+            × (self.new.over ≡ true → some ends_feed more ≡ true)
+            × ((waiting self.new.feeds ≡ []) ⊎ ((waiting self.new.runs ≡ [])
+            × (waiting self.new.feeds ≡ more))) }
         ensures none { result ≡ 0 → left_in self.new ≡ 0 }
         ensures misses { input_misses self.new.input
             ≡ more_if (nat_eq result 0) (input_misses self.old.input) }

@@ -4,6 +4,7 @@ ghost use Rattle.std.specs.Prelude.{vec_len, min, ◌-◌, ◌*◌, ◌^◌, ◌
 ghost use Rattle.la_base.specs.declared.wires.Feed.{Feed as FeedIs};
 ghost use Rattle.la_base.specs.declared.wires.Mark.{Mark as MarkIs};
 ghost use Rattle.la_base.specs.declared.wires.Feed.TheVariants.{End as EndFeed};
+ghost use Rattle.la_base.specs.declared.wires.Feed.TheVariants.{From as FromFeed};
 ghost use Rattle.la_base.specs.declared.wires.Mark.TheVariants.{End as EndMark, Floor as FloorMark};
 ghost use Rattle.decoder_core.specs.Marks.{marks_of};
 ghost use Rattle.stack_laws.specs.Feeds.{feeds_of};
@@ -90,7 +91,7 @@ impl Outbox {
         }
     }
 
-    /// Keeps a floor behind the marks.
+    /// Keeps a floor after the marks, and for each child the place from which on its packets come.
     #[inline]
     pub(crate) fn tell(&mut self, floor: u64)
         requires fresh { IsFresh self.old }
@@ -98,9 +99,13 @@ impl Outbox {
         ensures same { SameSent self.old self.new }
         ensures fresh { IsFresh self.new }
         ensures told { told_of self.new ≡ makes (FloorMark floor ∷ []) (told_of self.old) }
-        ensures children { children_of self.new ≡ children_of self.old }
+        ensures children { children_of self.new
+            ≡ map (makes (FromFeed floor ∷ [])) (children_of self.old) }
     {
         self.told.push(Mark::Floor(floor));
+        if !self.children.is_empty() {
+            self.fed.push(Feed::From(floor));
+        }
     }
 
     /// Keeps an end for each link.

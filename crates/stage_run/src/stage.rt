@@ -9,7 +9,7 @@ ghost use Rattle.stage_run.specs.Boxes.{HasRoom, IsFresh, SameSent, is_empty, is
 ghost use Rattle.stage_run.specs.Inputs.{input_link, reads_samples, taken};
 ghost use Rattle.stage_run.specs.Rows.{waiting};
 
-use crate::inbox::Inbox;
+use crate::inbox::{Inbox, place_of};
 use crate::input::Input;
 use crate::outbox::Outbox;
 use crate::turn::{Act, Peer, Peers, Progress, Turn, progressed};
@@ -37,6 +37,8 @@ pub struct Stage<M> {
     outbox: Outbox,
     // the outputs of one step
     outs: Outs,
+    // each packet that is still to come starts there or later
+    above: u64,
     // a floor was told behind all that was consumed
     told: bool,
     // the end was made for each link
@@ -88,6 +90,7 @@ impl<M: Machine> Stage<M> {
         ensures untold { self.new.told ≡ false }
     {
         let feed = self.inbox.feeds.waiting()[0];
+        self.above = self.above.max(place_of(feed));
         self.outs.clear();
         let left = self.machine.step(feed, &mut self.outs);
         self.inbox.feeds.skip_but(1, left);
@@ -95,7 +98,9 @@ impl<M: Machine> Stage<M> {
         self.told = false;
     }
 
-    // Tells a floor behind all that was consumed.
+    // Tells a floor after all that was consumed: as a mark, and to each child as the place from which
+    // on its packets come. The larger of two is told, each of which is true: what is promised of it
+    // hangs on no place.
     fn tell_floor(&mut self)
         requires going { self.old.closed ≡ false }
         requires fresh { IsFresh self.old.outbox }
@@ -106,7 +111,9 @@ impl<M: Machine> Stage<M> {
         ensures input { self.new.inbox ≡ self.old.inbox }
         ensures told { self.new.told ≡ true }
     {
-        self.outbox.tell(self.machine.floor());
+        let own = self.machine.floor(0);
+        let over = self.machine.floor(self.above);
+        self.outbox.tell(own.max(over));
         self.told = true;
     }
 
@@ -355,6 +362,7 @@ impl<M: Machine> Stage<M> {
             inbox: Inbox::new(input),
             outbox: Outbox::new(children, marks),
             outs: Outs::new(),
+            above: 0,
             told: true,
             closed: false,
             touched: Cell::new(Peers::none()),

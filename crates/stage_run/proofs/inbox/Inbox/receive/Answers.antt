@@ -1,4 +1,4 @@
-use Rattle.std.proofs.Common.{◌≡◌, ◌∙◌, ◌++◌, List, true, length, map, ap, sym, subst, arith}
+use Rattle.std.proofs.Common.{◌≡◌, ◌∙◌, ◌++◌, inl, inr, List, true, length, map, ap, sym, subst, arith}
 use Rattle.std.proofs.lemmas.List.{append-nil}
 use Rattle.la_base.specs.Runs.{samples_of}
 use Rattle.la_base.specs.declared.samples.Run.{Run}
@@ -37,6 +37,7 @@ returns-in-Samples-clause-came c =
           ∙ (λ i. (p.items ∙ ap (λ (l : List Stretch). items_in (feeds_in s.upper l)) is) i ++ items_in ((none_waits (waiting s.runs) (waiting s.feeds) c.requires).1 i))
           ∙ append-nil (items_in new),
       λ ends. subst (λ (l : List Stretch). some ends_feed (feeds_in s.upper l) ≡ true) is (p.ends ends),
+      inl (none_waits (waiting s.runs) (waiting s.feeds) c.requires).1,
     )
 
 pub returns-in-Packets-clause-came : goal.returns-in-Packets-clause-came
@@ -50,6 +51,7 @@ returns-in-Packets-clause-came c =
       e.received ∙ ap (λ x. came x ++ row.list) (sym c.in-Packets.is),
       (λ i. map Sample (samples_of ((none_waits (waiting s.runs) (waiting s.feeds) c.requires).0 i)) ++ items_in (all_wait row e.start i)),
       λ ends. subst (λ (l : List Feed). some ends_feed l ≡ true) is (c.ends-self.ensures ends),
+      inr ((none_waits (waiting s.runs) (waiting s.feeds) c.requires).0, all_wait row e.start),
     )
 
 pub invariant_of-self : goal.invariant_of-self

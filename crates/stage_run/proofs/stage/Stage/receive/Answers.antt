@@ -1,4 +1,4 @@
-use Rattle.std.proofs.Common.{◌≡◌, ◌∙◌, ◌++◌, List, map, refl, sym, ap, subst, arith}
+use Rattle.std.proofs.Common.{length, ◌≡◌, ◌∙◌, ◌++◌, List, map, refl, sym, ap, subst, arith}
 use Rattle.std.proofs.lemmas.List.{append-nil, length-map}
 use Rattle.la_base.specs.declared.wires.Feed.{Feed}
 use Rattle.decoder_core.specs.Inputs.{Item}
@@ -9,6 +9,7 @@ use Rattle.stage_run.proofs.Coming.{came_end, idle_waits}
 use Rattle.stage_run.proofs.Lists.{items-append}
 use Rattle.stage_run.proofs.Moving.{kinds_all, took_all}
 use Rattle.stage_run.proofs.Making.{links_to}
+use Rattle.stage_run.proofs.Lying.{received_above, received_lies}
 use Rattle.stage_run.proofs.stage.Stage.receive.Goals as goal
 
 pub returns-else-count-eq0-clause-goes : goal.returns-else-count-eq0-clause-goes
@@ -33,6 +34,8 @@ returns-else-count-eq0-clause-goes g c =
                 stands = v.stands;
                 left = items-append view.received more ∙ ap (λ (l : List Item). l ++ items_in more) all ∙ ap (λ (l : List Item). view.consumed ++ l) (sym e.came.3);
                 over = λ over. came_end view.received more (e.came.4 over);
+                above = received_above view.received more s.above (length view.consumed) v.above;
+                lies = received_lies view.received more view.consumed _ _ all e.came.5;
                 told = v.told;
                 children = v.children;
                 marks = v.marks;
@@ -64,6 +67,8 @@ returns-then-count-eq0-clause-goes g c =
                 stands = v.stands;
                 left = items-append view.received more ∙ ap (λ (l : List Item). l ++ items_in more) all ∙ ap (λ (l : List Item). view.consumed ++ l) (sym e.came.3);
                 over = λ over. came_end view.received more (e.came.4 over);
+                above = received_above view.received more s.above (length view.consumed) v.above;
+                lies = received_lies view.received more view.consumed _ _ all e.came.5;
                 told = v.told;
                 children = v.children;
                 marks = v.marks;

@@ -1,6 +1,7 @@
-use Rattle.std.proofs.Common.{◌≡◌, ◌<◌, ◌∙◌, ◌∷◌, ◌++◌, [], List, None, Some, length, map, take, refl, sym, ap, subst, arith, append_assoc}
+use Rattle.std.proofs.Common.{◌≡◌, ◌<◌, ◌∙◌, ◌∷◌, ◌++◌, [], List, None, Some, length, length-append, append-nil, map, take, refl, sym, ap, subst, arith, append_assoc}
 use Rattle.la_base.specs.Runs.{samples_of}
 use Rattle.la_base.specs.declared.samples.Run.{Run}
+use Rattle.la_base.specs.declared.wires.Feed.{Feed}
 use Rattle.la_base.specs.declared.wires.Out.{Out}
 use Rattle.decoder_core.specs.Driving.{LeavesFewer}
 use Rattle.decoder_core.specs.Inputs.{Sample}
@@ -13,6 +14,8 @@ use Rattle.stage_run.proofs.Behind.{behind_gives}
 use Rattle.stage_run.proofs.Lessening.{front_some, runs_less, some_taken}
 use Rattle.stage_run.proofs.Stepping.{left_on, runs_step}
 use Rattle.stage_run.proofs.Making.{links_kept, makes_outs, one_of}
+use Rattle.stage_run.proofs.Lying.{lies_runs}
+use Rattle.stack_laws.proofs.Heeding.{above_grows}
 use Rattle.stage_run.proofs.stage.Stage.step_runs.Goals as goal
 
 pub returns-clause-goes : goal.returns-clause-goes
@@ -29,10 +32,14 @@ returns-clause-goes g c =
       moves = λ start view v.
           let before = start ++ view.consumed in
           let gives = e.steps.gives before v.stands in
-          let left = left_on (items_in view.received) view.consumed front _ _ v.left
-          (runs_step (waiting s.inbox.runs) _ taken.count taken.rest front (items_in (waiting s.inbox.feeds))
+          let stepped =
+          runs_step (waiting s.inbox.runs) _ taken.count taken.rest front (items_in (waiting s.inbox.feeds))
           (ap (λ (l : List Run). map Sample (samples_of (take taken.count l))) (sym c.waiting.ensures.list) ∙ e.steps.split)
-          (c.skip_but.ensures ∙ ap (λ (l : List Run). l) refl)) in (
+          (c.skip_but.ensures ∙ ap (λ (l : List Run). l) refl) in
+          let left = left_on (items_in view.received) view.consumed front _ _ v.left stepped in
+          let longer = length-append view.consumed front in
+          let grown = above_grows view.received (length view.consumed) (length (view.consumed ++ front)) (omega (arith, longer)) in
+          let above = v.above in (
             StepOn front into None ∷ [],
             omega arith,
             one_of (StepOn front into None),
@@ -43,8 +50,10 @@ returns-clause-goes g c =
                 stands = subst (m.consumed c.step_runs-taken.new.self) (append_assoc start view.consumed front) (e.steps.consumes before v.stands);
                 left = left;
                 over = v.over;
+                above = omega (arith, above, grown);
+                lies = lies_runs view.received (waiting s.inbox.feeds) view.consumed front (waiting s.inbox.runs) _ (items_in (waiting s.inbox.feeds)) stepped v.lies;
                 told = refl;
-                children = ap (map (makes (feeds_of into))) v.children ∙ sym (c.keep.ensures.children ∙ ap (λ (l : List Out). map (makes (feeds_of l)) (children_of s.outbox)) c.list.ensures.list);
+                children = ap (λ (l : List Feed). map (makes l) view.children) (append-nil (feeds_of into)) ∙ ap (map (makes (feeds_of into))) v.children ∙ sym (c.keep.ensures.children ∙ ap (λ (l : List Out). map (makes (feeds_of l)) (children_of s.outbox)) c.list.ensures.list);
                 marks = makes_outs (marks_of into) [] view.marks refl ∙ ap (makes (marks_of into)) v.marks ∙ sym (c.keep.ensures.told ∙ ap (λ (l : List Out). makes (marks_of l) (told_of s.outbox)) c.list.ensures.list);
                 closed = v.closed;
               };
