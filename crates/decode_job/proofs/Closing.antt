@@ -17,7 +17,7 @@ use Rattle.decoder_core.specs.declared.end.RunEnd.TheVariants.{Ended}
 use Rattle.decoder_core.specs.declared.machine.Machine.{Ghosts as MachineGhosts}
 use Rattle.decoder_core.specs.Promises.{GivesNothing, KeepsFront}
 use Rattle.tree_runs.specs.Machines.{Stand, defined, near_of, whole_of}
-use Rattle.tree_runs.specs.Runs.{StandOn, Told as ToldOf, input_at, nodes_of, samples_in}
+use Rattle.tree_runs.specs.Runs.{StandOn, ToldOn as ToldOf, input_at, nodes_of, samples_in}
 use Rattle.tree_runs.specs.Taking.{IsTree}
 use Rattle.tree_runs.proofs.Fresh.{fresh}
 use Rattle.stack_laws.specs.Laws.{IsLawful}
@@ -120,7 +120,7 @@ module _ {M Q S K W : Type 0} (m : MachineGhosts M Q) (s : SourceGhosts S) (k : 
 
       -- what was told of each instance
       tells : StandOn m.outputs setups parents (Stand m.consumed machines) [] → (j : ℕ) → j < length parents
-          → (feeds : List (List Item)) × ToldOf end (not (is_open_of feed.capture.now)) (whole_of m.outputs setups j) (near_of m.near setups j) (input_at m.outputs (nodes_of setups parents) [] j) (input_at m.outputs (nodes_of setups parents) samples j) feeds (came.runs.marks j)
+          → (feeds : List (List Item)) × ToldOf end (not (is_open_of feed.capture.now)) (whole_of m.outputs setups j) (near_of m.near setups j) (input_at m.outputs (nodes_of setups parents) [] j) (input_at m.outputs (nodes_of setups parents) samples j) (λ more. input_at m.outputs (nodes_of setups parents) (samples ++ more) j) feeds (came.runs.marks j)
       tells stand j within = let t = came.runs.told [] stand j within in (t.0, t.2)
 
       -- it wasn't stopped: all of the capture was decoded

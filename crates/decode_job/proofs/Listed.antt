@@ -22,7 +22,7 @@ use Rattle.note_order.specs.Order.{listed}
 use Rattle.tree_runs.specs.Machines.{whole_of}
 use Rattle.tree_runs.specs.Passing.{IsForest, NoEnd}
 use Rattle.tree_runs.specs.Reaching.{Reaches}
-use Rattle.tree_runs.specs.Runs.{Told as ToldOf, input_at, nodes_of}
+use Rattle.tree_runs.specs.Runs.{ToldOn as ToldOf, input_at, nodes_of}
 use Rattle.tree_runs.proofs.Fresh.{reads_nothing}
 use Rattle.tree_runs.proofs.Lists.{marks-append}
 use Rattle.tree_runs.proofs.Telling.{given_at, given_len}
@@ -152,38 +152,38 @@ shown_append (FloorMark start ∷ xs) ys = shown_append xs ys
 shown_append (EndMark ∷ xs) ys = shown_append xs ys
 
 -- from what was told of it behind an input, and more input behind
-full_of : (result : RunEnd) (at_end : Bool) (whole : List Item → List Out) (near : List Item → ℕ) (was now more : List Item) (feeds : List (List Item)) (taken : List Mark) → ToldOf result at_end whole near was now feeds taken → KeepsFront whole → (at_end ≡ true → more ≡ []) → Full taken (drop (length (whole was)) (whole (now ++ more)))
-full_of result at_end whole near was now more feeds taken told keeps none = by told.closed refl
+full_of : (result : RunEnd) (at_end : Bool) (whole : List Item → List Out) (near : List Item → ℕ) (was now more : List Item) (later : List ℕ → List Item) (rest : List ℕ) (feeds : List (List Item)) (taken : List Mark) → later rest ≡ now ++ more → ToldOf result at_end whole near was now later feeds taken → KeepsFront whole → (at_end ≡ true → more ≡ []) → Full taken (drop (length (whole was)) (whole (now ++ more)))
+full_of result at_end whole near was now more later rest feeds taken comes told keeps none = by told.closed refl
   where
     open_made : told.closed ≡ false → taken ≡ told.body
     open_made is = told.made ∙ (ap (λ (b : Bool). told.body ++ (if b then EndMark ∷ [] else [])) is ∙ append-nil told.body)
 
     by : (b : Bool) → told.closed ≡ b → Full taken (drop (length (whole was)) (whole (now ++ more)))
     by true is =
-        let reached : shown told.body ≡ marks_of told.new = subst (λ (b : Bool). Reaches b (shown told.body) (marks_of told.new)) is told.shows in
+        let reached : shown told.body ≡ marks_of told.tells.new = subst (λ (b : Bool). Reaches b (shown told.body) (marks_of told.tells.new)) is told.tells.shows in
         let made : taken ≡ told.body ++ EndMark ∷ [] = told.made ∙ ap (λ (b : Bool). told.body ++ (if b then EndMark ∷ [] else [])) is in
         let ends : more ≡ [] = none (told.whole_at_end is) in
-        let outs : drop (length (whole was)) (whole (now ++ more)) ≡ told.new = ap (drop (length (whole was))) (ap (λ (l : List Item). whole (now ++ l)) ends ∙ (ap whole (append-nil now) ∙ told.adds)) ∙ drop-append_seam (whole was) told.new in
-        let hold : FloorsHold told.body (marks_of (told.new ++ [])) = told.floors [] [] (ap whole (append-nil now) ∙ (told.adds ∙ ap (λ (l : List Out). whole was ++ l) (sym (append-nil told.new)))) in
+        let outs : drop (length (whole was)) (whole (now ++ more)) ≡ told.tells.new = ap (drop (length (whole was))) (ap (λ (l : List Item). whole (now ++ l)) ends ∙ (ap whole (append-nil now) ∙ told.tells.adds)) ∙ drop-append_seam (whole was) told.tells.new in
+        let hold : FloorsHold told.body (marks_of (told.tells.new ++ [])) = told.tells.floors rest [] (ap whole (comes ∙ ap (λ (l : List Item). now ++ l) ends ∙ append-nil now) ∙ (told.tells.adds ∙ ap (λ (l : List Out). whole was ++ l) (sym (append-nil told.tells.new)))) in
         record {
           marks = taken;
           begins = begins_itself taken;
-          are_true = subst AreTrue (sym made) (floors_true told.body (EndMark ∷ []) told.no_end (subst (FloorsHold told.body) (ap marks_of (append-nil told.new) ∙ (sym reached ∙ sym (append-nil (shown told.body)))) hold) refl);
+          are_true = subst AreTrue (sym made) (floors_true told.body (EndMark ∷ []) told.tells.no_end (subst (FloorsHold told.body) (ap marks_of (append-nil told.tells.new) ∙ (sym reached ∙ sym (append-nil (shown told.body)))) hold) refl);
           shows = ap shown made ∙ (shown_append told.body (EndMark ∷ []) ∙ (append-nil (shown told.body) ∙ (reached ∙ ap marks_of (sym outs))));
         }
     by false is =
-        let front : Reaches false (shown told.body) (marks_of told.new) = subst (λ (b : Bool). Reaches b (shown told.body) (marks_of told.new)) is told.shows in
+        let front : Reaches false (shown told.body) (marks_of told.tells.new) = subst (λ (b : Bool). Reaches b (shown told.body) (marks_of told.tells.new)) is told.tells.shows in
         let k = keeps now more in
         let tail : List Mark = front.0 ++ marks_of k.0 in
-        let plain : IsPlain tail = plain_append front.0 (marks_of k.0) (plain_rest (shown told.body) front.0 (subst IsPlain (sym front.1) (plain_outs told.new))) (plain_outs k.0) in
-        let adds : whole (now ++ more) ≡ whole was ++ (told.new ++ k.0) = k.1 ∙ (ap (λ (l : List Out). l ++ k.0) told.adds ∙ append_assoc (whole was) told.new k.0) in
-        let outs : drop (length (whole was)) (whole (now ++ more)) ≡ told.new ++ k.0 = ap (drop (length (whole was))) adds ∙ drop-append_seam (whole was) (told.new ++ k.0) in
-        let all : marks_of (told.new ++ k.0) ≡ shown told.body ++ tail = marks-append told.new k.0 ∙ (ap (λ (l : List Mark). l ++ marks_of k.0) (sym front.1) ∙ append_assoc (shown told.body) front.0 (marks_of k.0)) in
-        let hold : FloorsHold told.body (marks_of (told.new ++ k.0)) = told.floors more k.0 adds in
+        let plain : IsPlain tail = plain_append front.0 (marks_of k.0) (plain_rest (shown told.body) front.0 (subst IsPlain (sym front.1) (plain_outs told.tells.new))) (plain_outs k.0) in
+        let adds : whole (now ++ more) ≡ whole was ++ (told.tells.new ++ k.0) = k.1 ∙ (ap (λ (l : List Out). l ++ k.0) told.tells.adds ∙ append_assoc (whole was) told.tells.new k.0) in
+        let outs : drop (length (whole was)) (whole (now ++ more)) ≡ told.tells.new ++ k.0 = ap (drop (length (whole was))) adds ∙ drop-append_seam (whole was) (told.tells.new ++ k.0) in
+        let all : marks_of (told.tells.new ++ k.0) ≡ shown told.body ++ tail = marks-append told.tells.new k.0 ∙ (ap (λ (l : List Mark). l ++ marks_of k.0) (sym front.1) ∙ append_assoc (shown told.body) front.0 (marks_of k.0)) in
+        let hold : FloorsHold told.body (marks_of (told.tells.new ++ k.0)) = told.tells.floors rest k.0 (ap whole comes ∙ adds) in
         record {
           marks = told.body ++ tail;
           begins = (tail, ap (λ (l : List Mark). l ++ tail) (open_made is));
-          are_true = floors_true told.body tail told.no_end (subst (FloorsHold told.body) (all ∙ ap (λ (l : List Mark). shown told.body ++ l) (sym (plain_shown tail plain))) hold) (plain_true tail plain);
+          are_true = floors_true told.body tail told.tells.no_end (subst (FloorsHold told.body) (all ∙ ap (λ (l : List Mark). shown told.body ++ l) (sym (plain_shown tail plain))) hold) (plain_true tail plain);
           shows = shown_append told.body tail ∙ (ap (λ (l : List Mark). shown told.body ++ l) (plain_shown tail plain) ∙ (sym all ∙ ap marks_of (sym outs)));
         }
 
@@ -252,7 +252,7 @@ module _ {S : Type 0} (outputs : S → List Item → List Out) (near : ℕ → L
     (keeps : (j : ℕ) → j < length parents → KeepsFront (whole_of outputs setups j)) (accepted : Accepted)
     (result : RunEnd) (at_end : Bool) (earlier samples rest : List ℕ) (taken : ℕ → List Mark)
     (told : (j : ℕ) → j < length parents
-    → (feeds : List (List Item)) × ToldOf result at_end (whole_of outputs setups j) (near j) (input_at outputs (nodes_of setups parents) earlier j) (input_at outputs (nodes_of setups parents) (earlier ++ samples) j) feeds (taken j))
+    → (feeds : List (List Item)) × ToldOf result at_end (whole_of outputs setups j) (near j) (input_at outputs (nodes_of setups parents) earlier j) (input_at outputs (nodes_of setups parents) (earlier ++ samples) j) (λ more. input_at outputs (nodes_of setups parents) ((earlier ++ samples) ++ more) j) feeds (taken j))
     (none : at_end ≡ true → rest ≡ []) where
   abbrev n : ℕ
   n = length parents
@@ -277,11 +277,11 @@ module _ {S : Type 0} (outputs : S → List Item → List Out) (near : ℕ → L
           let same : input_at outputs (nodes_of setups parents) reached j ++ [] ≡ input_at outputs (nodes_of setups parents) all_samples j =
           append-nil (input_at outputs (nodes_of setups parents) reached j) ∙ ap (λ (l : List ℕ). input_at outputs (nodes_of setups parents) l j) (sym (append-nil reached) ∙ ap (λ (l : List ℕ). reached ++ l) (sym (none is))) in
           subst (λ (l : List Item). Full (taken j) (drop (length (was_at j)) (whole_of outputs setups j l))) same
-          (full_of result at_end (whole_of outputs setups j) (near j) (input_at outputs (nodes_of setups parents) earlier j) (input_at outputs (nodes_of setups parents) reached j) [] (told j within).0 (taken j) (told j within).1 (keeps j within) (λ _. refl))
+          (full_of result at_end (whole_of outputs setups j) (near j) (input_at outputs (nodes_of setups parents) earlier j) (input_at outputs (nodes_of setups parents) reached j) [] (λ more. input_at outputs (nodes_of setups parents) (reached ++ more) j) rest (told j within).0 (taken j) (sym same) (told j within).1 (keeps j within) (λ _. refl))
       by false is =
           let g = grows outputs setups parents forest count keeps reached rest j within in
           subst (λ (l : List Item). Full (taken j) (drop (length (was_at j)) (whole_of outputs setups j l))) (sym g.1)
-          (full_of result at_end (whole_of outputs setups j) (near j) (input_at outputs (nodes_of setups parents) earlier j) (input_at outputs (nodes_of setups parents) reached j) g.0 (told j within).0 (taken j) (told j within).1 (keeps j within) (λ closed. absurd (opened is closed)))
+          (full_of result at_end (whole_of outputs setups j) (near j) (input_at outputs (nodes_of setups parents) earlier j) (input_at outputs (nodes_of setups parents) reached j) g.0 (λ more. input_at outputs (nodes_of setups parents) (reached ++ more) j) rest (told j within).0 (taken j) g.1 (told j within).1 (keeps j within) (λ closed. absurd (opened is closed)))
         where
           opened : at_end ≡ false → at_end ≡ true → ⊥
           opened a b = cc
@@ -422,10 +422,10 @@ module _ {S : Type 0} (outputs : S → List Item → List Out) (near : ℕ → L
     all_taken j within =
         let t = (told j within).1 in
         let is = t.closes ended in
-        let all_shown : shown t.body ≡ marks_of t.new = subst (λ (b : Bool). Reaches b (shown t.body) (marks_of t.new)) is t.shows in
+        let all_shown : shown t.body ≡ marks_of t.tells.new = subst (λ (b : Bool). Reaches b (shown t.body) (marks_of t.tells.new)) is t.tells.shows in
         let made : taken j ≡ t.body ++ EndMark ∷ [] = t.made ∙ ap (λ (b : Bool). t.body ++ (if b then EndMark ∷ [] else [])) is in
-        let adds : whole_of outputs setups j (input_at outputs (nodes_of setups parents) all_samples j) ≡ was_at j ++ t.new = ap (λ (l : List ℕ). whole_of outputs setups j (input_at outputs (nodes_of setups parents) l j)) (ap (λ (l : List ℕ). reached ++ l) (none (shut j within)) ∙ append-nil reached) ∙ t.adds in
-        let outs : outs_at j ≡ t.new = ap (drop (length (was_at j))) adds ∙ drop-append_seam (was_at j) t.new in
+        let adds : whole_of outputs setups j (input_at outputs (nodes_of setups parents) all_samples j) ≡ was_at j ++ t.tells.new = ap (λ (l : List ℕ). whole_of outputs setups j (input_at outputs (nodes_of setups parents) l j)) (ap (λ (l : List ℕ). reached ++ l) (none (shut j within)) ∙ append-nil reached) ∙ t.tells.adds in
+        let outs : outs_at j ≡ t.tells.new = ap (drop (length (was_at j))) adds ∙ drop-append_seam (was_at j) t.tells.new in
         ap shown made ∙ (shown_append t.body (EndMark ∷ []) ∙ (append-nil (shown t.body) ∙ (all_shown ∙ ap marks_of (sym outs))))
 
     taken_notes : notes_from taken 0 n ≡ map notes_of tree

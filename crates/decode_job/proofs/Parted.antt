@@ -26,7 +26,7 @@ use Rattle.decoder_core.specs.declared.end.RunEnd.{RunEnd}
 use Rattle.decoder_core.specs.declared.end.RunEnd.TheVariants.{Ended as RunEnded}
 use Rattle.decoder_core.specs.declared.machine.Machine.{Ghosts as MachineGhosts}
 use Rattle.tree_runs.specs.Machines.{Stand, defined, near_of, whole_of}
-use Rattle.tree_runs.specs.Runs.{RunsOn, Told as ToldOf, feeds_on, input_at, is_ended, nodes_of, samples_in}
+use Rattle.tree_runs.specs.Runs.{RunsOn, ToldOn as ToldOf, feeds_on, input_at, is_ended, nodes_of, samples_in}
 use Rattle.tree_runs.specs.Taking.{IsTree}
 use Rattle.stack_laws.specs.Laws.{IsLawful}
 use Rattle.annot_merge.specs.Held.{count_of as merged_of}
@@ -158,7 +158,7 @@ module _ {M Q S K W : Type 0} (m : MachineGhosts M Q) (s : SourceGhosts S) (k : 
 
   -- what was told of each instance
   tells : (earlier : List ℕ) → Behind m machines parents count earlier → (j : ℕ) → j < length parents
-      → (feeds : List (List Item)) × ToldOf end (has_ended feed) (whole_of m.outputs setups j) (near_of m.near setups j) (input_at m.outputs (nodes_of setups parents) earlier j) (input_at m.outputs (nodes_of setups parents) (earlier ++ samples) j) feeds (runs.marks j)
+      → (feeds : List (List Item)) × ToldOf end (has_ended feed) (whole_of m.outputs setups j) (near_of m.near setups j) (input_at m.outputs (nodes_of setups parents) earlier j) (input_at m.outputs (nodes_of setups parents) (earlier ++ samples) j) (λ more. input_at m.outputs (nodes_of setups parents) ((earlier ++ samples) ++ more) j) feeds (runs.marks j)
   tells earlier behind j within = (feeds_on m.outputs setups parents earlier runs.lists j, runs.told earlier behind.stand j within)
 
   -- it wasn't stopped

@@ -19,7 +19,7 @@ use Rattle.decoder_set.specs.declared.setup.Setup.{Setup}
 use Rattle.tree_runs.specs.Machines.{Stand, whole_of}
 use Rattle.tree_runs.specs.Passing.{IsForest}
 use Rattle.tree_runs.specs.Reaching.{Reaches}
-use Rattle.tree_runs.specs.Runs.{Told, input_at, nodes_of}
+use Rattle.tree_runs.specs.Runs.{ToldOn, input_at, nodes_of}
 use Rattle.tree_runs.specs.Taking.{IsTree}
 use Rattle.tree_runs.proofs.Fresh.{reads_nothing}
 use Rattle.tree_runs.proofs.Telling.{given_at}
@@ -64,17 +64,17 @@ pub machines_stand : (machines : List AnyDecoder) → All (λ (machine : AnyDeco
 machines_stand machines all j within = (within, λ d. all j d within)
 
 -- a run that ended, of an instance that had read nothing, gave all notes of its definition
-told_notes : (at_end : Bool) (whole : List Item → List Out) (near : List Item → ℕ) (was now : List Item) (feeds : List (List Item)) (taken : List Mark) → Told Ended at_end whole near was now feeds taken → whole was ≡ [] → notes_in taken ≡ notes_of (whole now)
-told_notes at_end whole near was now feeds taken told nothing =
+told_notes : (at_end : Bool) (whole : List Item → List Out) (near : List Item → ℕ) (was now : List Item) (later : List ℕ → List Item) (feeds : List (List Item)) (taken : List Mark) → ToldOn Ended at_end whole near was now later feeds taken → whole was ≡ [] → notes_in taken ≡ notes_of (whole now)
+told_notes at_end whole near was now later feeds taken told nothing =
     let closed = told.closes refl in
-    let reached : shown told.body ≡ marks_of told.new = subst (λ (b : Bool). Reaches b (shown told.body) (marks_of told.new)) closed told.shows in
+    let reached : shown told.body ≡ marks_of told.tells.new = subst (λ (b : Bool). Reaches b (shown told.body) (marks_of told.tells.new)) closed told.tells.shows in
     ap notes_in (told.made ∙ ap (λ (b : Bool). told.body ++ (if b then EndMark ∷ [] else [])) closed)
     ∙ notes_append told.body (EndMark ∷ [])
     ∙ append-nil (notes_in told.body)
     ∙ sym (notes_shown told.body)
     ∙ ap notes_in reached
-    ∙ notes_outs told.new
-    ∙ sym (ap notes_of (told.adds ∙ ap (λ (l : List Out). l ++ told.new) nothing))
+    ∙ notes_outs told.tells.new
+    ∙ sym (ap notes_of (told.tells.adds ∙ ap (λ (l : List Out). l ++ told.tells.new) nothing))
 
 same_some : {X : Type 0} (x y : X) → Some x ≡ Some y → x ≡ y
 same_some x y is = cc
@@ -100,12 +100,12 @@ module _ (setups : List Setup) (parents : List (Option ℕ)) (setups_are : setup
   nodes_are = ap₂ nodes_of setups_are parents_are
 
   module _ (near : ℕ → List Item → ℕ) (feeds : ℕ → List (List Item)) (at_end : Bool) (samples : List ℕ) (taken : ℕ → List Mark)
-      (told : (j : ℕ) → j < length parents → Told Ended at_end (whole_of outs_of setups j) (near j) (input_at outs_of (nodes_of setups parents) [] j) (input_at outs_of (nodes_of setups parents) samples j) (feeds j) (taken j)) where
+      (told : (j : ℕ) → j < length parents → ToldOn Ended at_end (whole_of outs_of setups j) (near j) (input_at outs_of (nodes_of setups parents) [] j) (input_at outs_of (nodes_of setups parents) samples j) (λ more. input_at outs_of (nodes_of setups parents) (samples ++ more) j) (feeds j) (taken j)) where
     notes_at : (j : ℕ) → j < length parents → (outs : List Out) → slice_get (given outs_of samples made_nodes) j ≡ Some outs → notes_in (taken j) ≡ notes_of outs
     notes_at j within outs at =
         let whole = whole_of outs_of setups j in
         let now = input_at outs_of (nodes_of setups parents) samples j in
-        told_notes at_end whole (near j) (input_at outs_of (nodes_of setups parents) [] j) now (feeds j) (taken j) (told j within)
+        told_notes at_end whole (near j) (input_at outs_of (nodes_of setups parents) [] j) now (λ more. input_at outs_of (nodes_of setups parents) (samples ++ more) j) (feeds j) (taken j) (told j within)
         (ap whole (reads_nothing outs_of setups parents forest as_many nothing j within) ∙ nothing j within)
         ∙ ap notes_of (same_some (whole now) outs (sym (given_at outs_of setups parents forest as_many samples j within) ∙ ap (λ (nodes : List (Node Setup)). slice_get (given outs_of samples nodes) j) nodes_are ∙ at))
 

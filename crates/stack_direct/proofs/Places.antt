@@ -9,6 +9,10 @@ use Rattle.decoder_core.specs.Driving.{Steps, StepsRuns}
 use Rattle.decoder_core.specs.Inputs.{Item}
 use Rattle.tree_runs.specs.Machines.{Stand, StepsAt, StepsRunsAt, whole_of, outputs_at}
 
+-- the setup of the machine at a place
+pub setup_at : {M S : Type 0} (setup : M → S) (ms : List M) (i : ℕ) (d : M) → i < length ms → slice_get (map setup ms) i ≡ Some (setup (get_or ms i d))
+setup_at setup ms i d within = slice_get-map setup ms i ∙ ap (option_map setup) (slice_get-get_or ms i d within)
+
 module _ {M S : Type 0} (setup : M → S) (consumed : M → List Item → Type 0) (outputs : S → List Item → List Out) where
   -- a machine of the same setup leaves the setups
   pub same_setups : (ms : List M) (i : ℕ) (d after : M) → setup after ≡ setup (get_or ms i d) → map setup (set ms i after) ≡ map setup ms

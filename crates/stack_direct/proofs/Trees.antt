@@ -9,6 +9,7 @@ use Rattle.decoder_core.specs.declared.machine.Machine.{Ghosts as MachineGhosts}
 use Rattle.decoder_core.specs.Inputs.{Item}
 use Rattle.tree_runs.specs.Machines.{Definitions, defined}
 use Rattle.tree_runs.specs.Passing.{Hands, Feeds, Gives, Consumes, IsForest, first_on, same_place, up_to}
+use Rattle.tree_runs.specs.Lows.{KnowsLow, TellsLow}
 use Rattle.tree_runs.specs.Taking.{GoesOn}
 use Rattle.stack_direct.specs.Trees.{SameTree, TakesAll, TakesOn, GoesStill, defined_in, machines_of, parents_of, stand_in}
 use Rattle.stack_direct.specs.declared.tree.Tree.{Tree}
@@ -24,6 +25,19 @@ module _ {M S : Type 0} (m : MachineGhosts M S) where
 
   pub same_count : {old new : Tree M} → SameTree m old new → length (parents_of new) ≡ length (parents_of old)
   same_count same = ap (λ (l : List (Option ℕ)). length l) same.parents
+
+  -- floors that were told of a tree, by the one that it was before
+  pub tells_of : {old mid : Tree M} (same : SameTree m old mid) {done : Bool} {t0 t1 : (ℕ → List Mark) → Type 0} {stand : ℕ → List Item → Type 0} {floors : List ℕ} {place : ℕ} → TellsLow m.outputs (map m.setup (machines_of mid)) (parents_of mid) m.near stand done t0 t1 floors place
+      → TellsLow m.outputs (map m.setup (machines_of old)) (parents_of old) m.near stand done t0 t1 floors place
+  tells_of {old} {mid} same {done} {t0} {t1} {stand} {floors} {place} p =
+      subst (λ (l : List (Option ℕ)). TellsLow m.outputs (map m.setup (machines_of old)) l m.near stand done t0 t1 floors place) same.parents
+      (subst (λ (l : List S). TellsLow m.outputs l (parents_of mid) m.near stand done t0 t1 floors place) same.setups p)
+
+  pub knows_of : {old mid : Tree M} (same : SameTree m old mid) (stand : ℕ → List Item → Type 0) (floors : List ℕ) (place : ℕ) → KnowsLow m.outputs (map m.setup (machines_of mid)) (parents_of mid) m.near stand floors place
+      → KnowsLow m.outputs (map m.setup (machines_of old)) (parents_of old) m.near stand floors place
+  knows_of {old} {mid} same stand floors place p =
+      subst (λ (l : List (Option ℕ)). KnowsLow m.outputs (map m.setup (machines_of old)) l m.near stand floors place) same.parents
+      (subst (λ (l : List S). KnowsLow m.outputs l (parents_of mid) m.near stand floors place) same.setups p)
 
   -- what was done with a tree, by the one that it was before
   module _ {old mid : Tree M} (same : SameTree m old mid) {done : Bool} {before after : ℕ → List Item → Type 0} {t0 t1 : (ℕ → List Mark) → Type 0} where
@@ -62,6 +76,10 @@ module _ {A O : Type 0} (k : TakeGhosts A O) where
   -- where it stopped, whatever else would have been answered
   pub stopped_too : {R T E : Type 0} {old new : A} {e : E} → GoesOn {R = R} {E = E} k.instances k.origin k.stops k.going old new (Err e) → GoesOn {R = T} {E = E} k.instances k.origin k.stops k.going old new (Err e)
   stopped_too p = record { instances = p.instances; origin = p.origin; cause = record { later = p.cause.later; kept = tt; failed = p.cause.failed }; going = p.going }
+
+  -- the same, whatever is answered of it
+  pub stopped_as : {R T E F : Type 0} {old new : A} {e : E} {f : F} → GoesOn {R = R} {E = E} k.instances k.origin k.stops k.going old new (Err e) → GoesOn {R = T} {E = F} k.instances k.origin k.stops k.going old new (Err f)
+  stopped_as p = record { instances = p.instances; origin = p.origin; cause = record { later = p.cause.later; kept = tt; failed = p.cause.failed }; going = p.going }
 
 -- an instance on its place, whether it stands on another
 module _ (parents : List (Option ℕ)) (place : ℕ) (above d : Option ℕ) (within : place < length parents) where

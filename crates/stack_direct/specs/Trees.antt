@@ -1,15 +1,17 @@
 -- What is done with a tree of machines, and with what takes its marks.
-use Rattle.std.specs.Prelude.{ℕ, ◌≡◌, ◌∷◌, [], Bool, true, false, List, Option, Result, Ok, Err}
-use Rattle.std.specs.Prelude.{length, map}
+use Rattle.std.specs.Prelude.{ℕ, ◌≡◌, ◌≤◌, ◌∷◌, [], Bool, true, false, List, Option, Result, Ok}
+use Rattle.std.specs.Prelude.{Err, length, map, slice_get}
 use Rattle.std.specs.Result.{is_ok}
 use Rattle.la_base.specs.declared.samples.Run.{Run}
+use Rattle.la_base.specs.declared.wires.Mark.{Mark}
 use Rattle.la_base.specs.declared.wires.Out.{Out}
 use Rattle.la_io.specs.declared.feeds.MarkTake.{Ghosts as TakeGhosts}
 use Rattle.decoder_core.specs.declared.machine.Machine.{Ghosts as MachineGhosts}
 use Rattle.decoder_core.specs.Inputs.{Item}
-use Rattle.tree_runs.specs.Machines.{Definitions, Stand, defined}
+use Rattle.tree_runs.specs.Machines.{Definitions, Stand, defined, near_at}
 use Rattle.tree_runs.specs.Passing.{Hands, Feeds, Consumes, Gives}
-use Rattle.tree_runs.specs.Runs.{FedRuns}
+use Rattle.tree_runs.specs.Lows.{IsLow, KnowsLow, TellsLow, floor_in}
+use Rattle.tree_runs.specs.Runs.{FedRuns, StandOn, above_by, input_on}
 use Rattle.tree_runs.specs.Taking.{GoesOn, KeepsOn}
 use Rattle.stack_direct.specs.declared.run.Halt.{Halt}
 use Rattle.stack_direct.specs.declared.run.Halt.TheVariants.{AtMark, InPause}
@@ -29,6 +31,40 @@ module _ {M S : Type 0} (m : MachineGhosts M S) where
   -- what they give on whole inputs, and their near floors
   abbrev pub defined_in : Tree M → Definitions
   defined_in tree = defined m.outputs m.near (map m.setup (machines_of tree))
+
+  -- the machines stand for their inputs on samples
+  abbrev pub TreeStands : Tree M → List ℕ → Type 0
+  TreeStands tree =
+      StandOn m.outputs (map m.setup (machines_of tree)) (parents_of tree) (stand_in tree)
+
+  -- after samples, this is a floor of one of them
+  abbrev pub TreeLow : Tree M → List ℕ → ℕ → ℕ → Type 0
+  TreeLow tree = IsLow m.outputs (map m.setup (machines_of tree)) (parents_of tree)
+
+  -- this is at least what one of them may not promise more than, by the floors of all
+  abbrev pub TreeLeast : Tree M → List ℕ → List ℕ → ℕ → ℕ → Type 0
+  TreeLeast tree floors samples j floor =
+      near_at m.near (slice_get (map m.setup (machines_of tree)) j)
+      (input_on m.outputs (map m.setup (machines_of tree)) (parents_of tree) samples j)
+      (above_by (floor_in floors) (slice_get (parents_of tree) j)) ≤ floor
+
+  -- these are floors of those before a place, which hold nothing back
+  abbrev pub TreeKnows : Tree M → List ℕ → ℕ → Type 0
+  TreeKnows tree =
+      KnowsLow m.outputs (map m.setup (machines_of tree)) (parents_of tree) m.near (stand_in tree)
+
+  -- floors were told of those before a place
+  abbrev pub TreeTellsTo : Tree M → Bool → ((ℕ → List Mark) → Type 0) → ((ℕ → List Mark) → Type 0)
+      → List ℕ → ℕ → Type 0
+  TreeTellsTo tree =
+      TellsLow m.outputs (map m.setup (machines_of tree)) (parents_of tree) m.near (stand_in tree)
+
+  -- floors were told of all, or of some of them
+  abbrev pub TreeTells : Tree M → Bool → ((ℕ → List Mark) → Type 0) → ((ℕ → List Mark) → Type 0)
+      → List ℕ → Type 0
+  TreeTells tree done old new floors =
+      (place : ℕ) × (done ≡ true → place ≡ length (parents_of tree))
+      × TreeTellsTo tree done old new floors place
 
   -- the same machines by the same setups, on the same places
   pub record SameTree (old new : Tree M) : Type 0 where
@@ -84,8 +120,9 @@ handed_whole (Err InPause) = true
 
 module _ {M S A O : Type 0} (m : MachineGhosts M S) (g : TakeGhosts A O) (old new : Tree M)
     (take_old take_new : A) (result : Result (Unit {0}) Halt) where
-  -- lists of runs were given, and handed to those that stand on nothing
+  -- lists of runs were given, and handed down the tree, with floors after each of them
   abbrev pub TreeFed : (List (List Run) → Type 0) → (List (List Run) → Type 0) → Type 0
   TreeFed gave_old gave_new =
-      FedRuns (handed_whole result) (defined_in m old) (stand_in m old) (stand_in m new)
-      (parents_of old) gave_old gave_new (g.took take_old) (g.took take_new)
+      FedRuns m.outputs m.near (map m.setup (machines_of old)) (parents_of old)
+      (handed_whole result) (stand_in m old) (stand_in m new) gave_old gave_new (g.took take_old)
+      (g.took take_new)

@@ -2,6 +2,7 @@
 #![tactic(auto)]
 
 mod down;
+mod floors;
 mod parts;
 mod roots;
 mod run;

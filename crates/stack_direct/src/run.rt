@@ -60,7 +60,10 @@ fn next_list<F: RunFeed, G: MarkTake>(feed: &mut F, take: &mut G) -> Result<bool
     }
 }
 
-// Hands all runs of the feed down the tree.
+// How many instances a tree has at most.
+const MOST: usize = 24;
+
+// Hands all runs of the feed down the tree, and tells floors after those that it gave at once.
 fn feed_all<M: Machine, F: RunFeed, G: MarkTake>(
     tree: &mut Tree<'_, '_, M>,
     feed: &mut F,
@@ -78,10 +81,14 @@ fn feed_all<M: Machine, F: RunFeed, G: MarkTake>(
     // One for all steps of a depth, since to make it fills it with default values.
     let mut outs = Outs::new();
     let mut rooms = [Outs::new(), Outs::new(), Outs::new()];
+    let mut floors = [0; MOST];
     loop {
         match next_list(feed, take) {
             Ok(true) => match tree.hand_runs(feed.runs(), &mut outs, &mut rooms, take) {
-                Ok(()) => {}
+                Ok(()) => match tree.tell_floors(&mut floors, take) {
+                    Ok(()) => {}
+                    Err(Stopped) => return Err(Halt::AtMark),
+                },
                 Err(Stopped) => return Err(Halt::AtMark),
             },
             Ok(false) => return Ok(()),
@@ -109,8 +116,10 @@ fn end_all<G: MarkTake>(count: u32, take: &mut G) -> Result<(), Stopped>
 /// Runs a tree of decoders on one thread. Each run of the feed is handed to the machines that stand
 /// on nothing, and each packet, at once, to those that stand on the machine that put it out; notes
 /// and pieces are taken as marks, a floor behind each packet and behind the runs that the feed gave
-/// at once, and at the end of the feed the end of each instance. Before a call of the feed that may
-/// have to wait, what takes the marks is told of the pause. It takes no memory.
+/// at once, and at the end of the feed the end of each instance. After these runs floors go down
+/// the tree: that of each machine by that of the one on which it stands. So a machine in which
+/// nothing has begun holds nothing back, also where no packet comes. Before a call of the feed that
+/// may have to wait, what takes the marks is told of the pause. It takes no memory.
 ///
 /// The machines may already stand for samples: what is taken is what follows. A packet that doesn't
 /// count for a machine is passed over by it. `Stopped` is answered where `take` stopped, at the

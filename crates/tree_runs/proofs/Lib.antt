@@ -5,3 +5,7 @@ pub mod Running
 pub mod Telling
 pub mod Ending
 pub mod Fresh
+pub mod Lowing
+pub mod Batches
+pub mod Fed
+pub mod Closing

@@ -1,6 +1,5 @@
 -- Runs behind runs.
-use Rattle.std.proofs.Common.{◌≡◌, ◌<◌, ◌+◌, length, take, drop, take-append-drop, false, get_or, ℕ, Bool, true, List, [], ◌∷◌, ◌++◌, map, None, refl, sym, ◌∙◌, ap, subst, append_assoc}
-use Rattle.std.specs.Prelude.{Option}
+use Rattle.std.proofs.Common.{◌≡◌, ◌<◌, ◌+◌, length, take, drop, take-append-drop, false, get_or, ℕ, List, [], ◌∷◌, ◌++◌, map, refl, sym, ◌∙◌, ap, append_assoc}
 use Rattle.std.proofs.lemmas.List.{append-nil}
 use Rattle.la_base.specs.Samples.{samples}
 use Rattle.la_base.specs.Runs.{samples_of}
@@ -11,12 +10,10 @@ use Rattle.la_io.specs.Feeds.{together}
 use Rattle.la_io.proofs.Together.{together-append}
 use Rattle.decoder_core.specs.Inputs.{Item, Sample}
 use Rattle.la_base.specs.declared.wires.Mark.TheVariants.{End as EndMark}
-use Rattle.tree_runs.specs.Passing.{Hands, Took, only, up_to}
+use Rattle.tree_runs.specs.Passing.{Took, only, up_to}
 use Rattle.tree_runs.specs.Reaching.{Reaches}
-use Rattle.tree_runs.specs.Machines.{Definitions}
-use Rattle.tree_runs.specs.Runs.{FedRuns, TookEnds, run_items, samples_in}
-use Rattle.tree_runs.proofs.Lists.{reaches_weaker}
-use Rattle.tree_runs.proofs.Joining.{hands_nothing, hands_then, hands_reach, took_then, took_nothing, up_to_next, up_to_none}
+use Rattle.tree_runs.specs.Runs.{TookEnds, run_items, samples_in}
+use Rattle.tree_runs.proofs.Joining.{took_then, took_nothing, up_to_next, up_to_none}
 
 pub samples_of-append : (xs ys : List Run) → samples_of (xs ++ ys) ≡ samples_of xs ++ samples_of ys
 samples_of-append [] ys = refl
@@ -47,72 +44,9 @@ samples_in-append lists more = ap samples_of (together-append lists more) ∙ sa
 pub lists_items : (lists more : List (List Run)) → map Sample (samples_in lists) ++ map Sample (samples_in more) ≡ map Sample (samples_in (lists ++ more))
 lists_items lists more = sym (ap (map Sample) (samples_in-append lists more) ∙ items-append (samples_in lists) (samples_in more))
 
-lists_feeds : (lists more : List (List Run)) → map run_items lists ++ map run_items more ≡ map run_items (lists ++ more)
+pub lists_feeds : (lists more : List (List Run)) → map run_items lists ++ map run_items more ≡ map run_items (lists ++ more)
 lists_feeds [] more = refl
 lists_feeds (l ∷ lists) more = ap (λ (x : List (List Item)). run_items l ∷ x) (lists_feeds lists more)
-
--- no list yet
-pub fed_nothing : (by : Definitions) (now : ℕ → List Item → Type 0) (parents : List (Option ℕ)) (gave : List (List Run) → Type 0) (took : (ℕ → List Mark) → Type 0) → FedRuns true by now now parents gave gave took took
-fed_nothing by now parents gave took = record {
-  lists = [];
-  gave = λ earlier had. subst gave (sym (append-nil earlier)) had;
-  hands = hands_nothing by now parents took None;
-  broken = λ stopped. absurd cc;
-}
-
--- one list more
-module _ {done : Bool} {by : Definitions} {before mid after : ℕ → List Item → Type 0} {parents : List (Option ℕ)} {g0 g1 : List (List Run) → Type 0} {t0 t1 t2 : (ℕ → List Mark) → Type 0} (g2 : List (List Run) → Type 0) (runs : List Run)
-    (f : FedRuns true by before mid parents g0 g1 t0 t1) (gave : (earlier : List (List Run)) → g1 earlier → g2 (earlier ++ runs ∷ []))
-    (hands : Hands done by mid after parents t1 t2 None (λ _. run_items runs) (λ _. run_items runs ∷ [])) where
-  more_is : map Sample (samples_in f.lists) ++ run_items runs ≡ map Sample (samples_in (f.lists ++ runs ∷ []))
-  more_is = ap (λ (l : List Run). map Sample (samples_in f.lists) ++ map Sample (samples_of l)) (sym (append-nil runs)) ∙ lists_items f.lists (runs ∷ [])
-
-  abbrev all : Hands done by before after parents t0 t2 None (λ _. map Sample (samples_in (f.lists ++ runs ∷ []))) (λ _. map run_items (f.lists ++ runs ∷ []))
-  all =
-      hands_reach (λ _. map Sample (samples_in (f.lists ++ runs ∷ []))) (λ _. map run_items (f.lists ++ runs ∷ []))
-      (λ j parent at on. reaches_weaker done (map Sample (samples_in f.lists) ++ run_items runs) (map Sample (samples_in (f.lists ++ runs ∷ []))) more_is)
-      (λ j parent at on. reaches_weaker done (map run_items f.lists ++ run_items runs ∷ []) (map run_items (f.lists ++ runs ∷ [])) (lists_feeds f.lists (runs ∷ []))) (hands_then f.hands hands)
-
-  pub fed_runs : FedRuns done by before after parents g0 g2 t0 t2
-  fed_runs = record {
-    lists = f.lists ++ runs ∷ [];
-    gave = λ earlier had. subst g2 (append_assoc earlier f.lists (runs ∷ [])) (gave (earlier ++ f.lists) (f.gave earlier had));
-    hands = all;
-    broken = λ stopped. record {
-      done = f.lists;
-      last = runs;
-      split = refl;
-      front = f.hands.change;
-      gives = λ j input b. (f.hands.each j).gives input b;
-      handed = λ j. f.hands.handed j;
-      down = f.hands.down;
-      back = hands.change.marks;
-      made = λ j. refl;
-      some = hands.some stopped;
-    };
-  }
-
--- what takes the marks was told of a pause, which leaves what it has taken
-pub fed_paused : {by : Definitions} {before after : ℕ → List Item → Type 0} {parents : List (Option ℕ)} {g0 g1 : List (List Run) → Type 0} {t0 t1 : (ℕ → List Mark) → Type 0} (t2 : (ℕ → List Mark) → Type 0)
-    → ((marks : ℕ → List Mark) → t1 marks → t2 marks) → FedRuns true by before after parents g0 g1 t0 t1 → FedRuns true by before after parents g0 g1 t0 t2
-fed_paused t2 paused f =
-    let h = f.hands in
-    record {
-      lists = f.lists;
-      gave = f.gave;
-      hands = record { change = h.change; each = h.each; handed = h.handed; down = h.down; unmarked = h.unmarked; some = h.some; took = λ earlier later had is. paused later (h.took earlier later had is) };
-      broken = λ stopped. absurd cc;
-    }
-
--- the feed has given its last list
-pub fed_none : {by : Definitions} {before after : ℕ → List Item → Type 0} {parents : List (Option ℕ)} {g0 g1 : List (List Run) → Type 0} {t0 t1 : (ℕ → List Mark) → Type 0} (g2 : List (List Run) → Type 0)
-    → FedRuns true by before after parents g0 g1 t0 t1 → ((earlier : List (List Run)) → g1 earlier → g2 (earlier ++ [])) → FedRuns true by before after parents g0 g2 t0 t1
-fed_none g2 f gave = record {
-  lists = f.lists;
-  gave = λ earlier had. subst g2 (append-nil (earlier ++ f.lists)) (gave (earlier ++ f.lists) (f.gave earlier had));
-  hands = f.hands;
-  broken = f.broken;
-}
 
 -- the same marks
 pub took_same : (old new : (ℕ → List Mark) → Type 0) (marks others : ℕ → List Mark) → ((j : ℕ) → marks j ≡ others j) → Took old new marks → Took old new others

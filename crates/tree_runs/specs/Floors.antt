@@ -1,7 +1,8 @@
 -- The floors that are taken of an instance: one behind each feed that it was handed.
-use Rattle.std.specs.Prelude.{ℕ, ◌≡◌, ◌≤◌, Bool, true, List, [], ◌∷◌, ◌++◌}
+use Rattle.std.specs.Prelude.{ℕ, ◌≡◌, ◌≤◌, ◌⊎◌, Bool, true, List, [], ◌∷◌, ◌++◌}
 use Rattle.la_base.specs.declared.wires.Mark.{Mark}
-use Rattle.la_base.specs.declared.wires.Mark.TheVariants.{Floor as FloorMark}
+use Rattle.la_base.specs.declared.wires.Mark.TheVariants.{Note as NoteMark, Piece as PieceMark}
+use Rattle.la_base.specs.declared.wires.Mark.TheVariants.{Floor as FloorMark, End as EndMark}
 use Rattle.la_base.specs.declared.wires.Out.{Out}
 use Rattle.la_io.specs.Feeds.{together}
 use Rattle.decoder_core.specs.Inputs.{Item}
@@ -24,6 +25,18 @@ abbrev pub FrontOfFloored : Bool → (List Item → List Out) → (List Item →
     → List (List Item) → List Mark → Type 0
 FrontOfFloored done whole near input feeds marks =
     (all : List Mark) × Reaches done marks all × Floored whole near input feeds all
+
+-- the second marks are the first ones, with floors among them
+abbrev pub WithFloors : List Mark → List Mark → Type 0
+WithFloors marks [] = marks ≡ []
+WithFloors marks (FloorMark floor ∷ all) =
+    WithFloors marks all
+    ⊎ ((rest : List Mark) × (marks ≡ FloorMark floor ∷ rest) × WithFloors rest all)
+WithFloors marks (NoteMark note ∷ all) =
+    (rest : List Mark) × (marks ≡ NoteMark note ∷ rest) × WithFloors rest all
+WithFloors marks (PieceMark piece ∷ all) =
+    (rest : List Mark) × (marks ≡ PieceMark piece ∷ rest) × WithFloors rest all
+WithFloors marks (EndMark ∷ all) = ⊥
 
 -- each item as a feed of its own
 abbrev pub alone : List Item → List (List Item)

@@ -4,4 +4,5 @@ pub mod Passing
 pub mod Machines
 pub mod Taking
 pub mod Runs
+pub mod Lows
 pub mod Listings

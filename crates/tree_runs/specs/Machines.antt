@@ -20,20 +20,21 @@ outputs_at outputs (Some setup) input = outputs setup input
 abbrev pub whole_of : {S : Type 0} → (S → List Item → List Out) → List S → ℕ → List Item → List Out
 whole_of outputs setups j input = outputs_at outputs (slice_get setups j) input
 
--- the near floor of the instance at a place, by its definition
-abbrev pub near_at : {S : Type 0} → (S → List Item → ℕ) → Option S → List Item → ℕ
-near_at near None input = 0
-near_at near (Some setup) input = near setup input
+-- the near floor of the instance at a place, by its definition, where each packet that comes starts
+-- at `above` or later
+abbrev pub near_at : {S : Type 0} → (S → List Item → ℕ → ℕ) → Option S → List Item → ℕ → ℕ
+near_at near None input above = 0
+near_at near (Some setup) input above = near setup input above
 
-abbrev pub near_of : {S : Type 0} → (S → List Item → ℕ) → List S → ℕ → List Item → ℕ
-near_of near setups j input = near_at near (slice_get setups j) input
+abbrev pub near_of : {S : Type 0} → (S → List Item → ℕ → ℕ) → List S → ℕ → List Item → ℕ
+near_of near setups j input = near_at near (slice_get setups j) input 0
 
 -- what instances give on whole inputs, and their near floors, by their definitions and places
 pub record Definitions : Type 0 where
   pub whole : ℕ → List Item → List Out
   pub near : ℕ → List Item → ℕ
 
-abbrev pub defined : {S : Type 0} → (S → List Item → List Out) → (S → List Item → ℕ) → List S
+abbrev pub defined : {S : Type 0} → (S → List Item → List Out) → (S → List Item → ℕ → ℕ) → List S
     → Definitions
 defined outputs near setups = record { whole = whole_of outputs setups; near = near_of near setups }
 

@@ -27,6 +27,7 @@ returns-in-Ok g c = record {
         gave = runs.gave;
         took = runs.took;
         told = λ j below. runs.told earlier stands j below;
+        rested = λ k some way. runs.rested earlier stands k some way;
         stopped = λ stopped. runs.stopped stopped earlier stands;
         stand = λ ended. runs.stand ended earlier stands;
       };

@@ -1,15 +1,15 @@
 use Rattle.std.proofs.Common.{◌≡◌, ◌∙◌, ℕ, List, Option, Bool, Err, true, false, ap, length, map, refl, subst, arith, rules}
 use Rattle.std.specs.Prelude.{nat_lt, ◌||◌}
 use Rattle.std.proofs.lemmas.Bool.Decides.{nat_tests}
-use Rattle.std.proofs.lemmas.List.{length-map}
 use Rattle.decoder_core.specs.declared.end.RunEnd.TheVariants.{Ended, Stopped}
 use Rattle.la_base.specs.declared.samples.Run.{Run}
 use Rattle.la_base.specs.declared.wires.Mark.{Mark}
+use Rattle.la_base.specs.declared.wires.Out.{Out}
 use Rattle.decoder_core.specs.Inputs.{Item}
-use Rattle.tree_runs.specs.Machines.{Definitions, Stand}
+use Rattle.tree_runs.specs.Machines.{Stand}
 use Rattle.tree_runs.specs.Runs.{FedRuns, RunsOn}
 use Rattle.stack_direct.specs.Trees.{handed_whole}
-use Rattle.tree_runs.proofs.Ending.{keeps_at, runs_on}
+use Rattle.tree_runs.proofs.Closing.{runs_on}
 use Rattle.tree_runs.proofs.Running.{ends_none}
 use Rattle.stack_direct.proofs.run.run_direct.Goals as goal
 
@@ -27,9 +27,9 @@ or_paused true = refl
 or_paused false = refl
 
 -- the same, where the answer is known
-fed_done : {done now : Bool} {by : Definitions} {before after : ℕ → List Item → Type 0} {parents : List (Option ℕ)} {g0 g1 : List (List Run) → Type 0} {t0 t1 : (ℕ → List Mark) → Type 0}
-    → done ≡ now → FedRuns done by before after parents g0 g1 t0 t1 → FedRuns now by before after parents g0 g1 t0 t1
-fed_done {by = by} {before = before} {after = after} {parents = parents} {g0 = g0} {g1 = g1} {t0 = t0} {t1 = t1} is fed = subst (λ (b : Bool). FedRuns b by before after parents g0 g1 t0 t1) is fed
+fed_done : {S : Type 0} {outputs : S → List Item → List Out} {near : S → List Item → ℕ → ℕ} {setups : List S} {parents : List (Option ℕ)} {done now : Bool} {before after : ℕ → List Item → Type 0} {g0 g1 : List (List Run) → Type 0} {t0 t1 : (ℕ → List Mark) → Type 0}
+    → done ≡ now → FedRuns outputs near setups parents done before after g0 g1 t0 t1 → FedRuns outputs near setups parents now before after g0 g1 t0 t1
+fed_done {outputs = outputs} {near = near} {setups = setups} {parents = parents} {before = before} {after = after} {g0 = g0} {g1 = g1} {t0 = t0} {t1 = t1} is fed = subst (λ (b : Bool). FedRuns outputs near setups parents b before after g0 g1 t0 t1) is fed
 
 pub returns-in-Ok-end_all-clause-runs : goal.returns-in-Ok-end_all-clause-runs
 returns-in-Ok-end_all-clause-runs g c =
@@ -38,7 +38,7 @@ returns-in-Ok-end_all-clause-runs g c =
     let ends = c.in-Ok-end_all.ensures.took in
     let all : ends.0 ≡ length c.args.parents.now = ends.2 in
     subst (λ (l : List g.row.M.Denot). RunsOn m.outputs m.near (map m.setup ms) c.args.parents.now (Stand m.consumed ms) (Stand m.consumed l) (g.F.RunFeed.gave c.args.feed.now) (g.F.RunFeed.gave c.feed_all.new.feed) (g.G.MarkTake.took c.args.take.now) (g.G.MarkTake.took c.end_all.new.take) (g.F.RunFeed.at_end c.feed_all.new.feed) Ended) (search (rules, c.in-Ok.ensures.same.machines))
-    (runs_on m.outputs m.near (map m.setup ms) c.args.parents.now c.requires.tree.forest (length-map ms m.setup ∙ c.requires.tree.each) (λ j within. keeps_at m.setup m.outputs g.met.M.Machine.prefix ms j (omega (arith, within, c.requires.tree.each)))
+    (runs_on m.outputs m.near (map m.setup ms) c.args.parents.now
     (g.G.MarkTake.took c.end_all.new.take) c.in-Ok.ensures.feeds (g.F.RunFeed.at_end c.feed_all.new.feed) false Ended ends.0 (whole_end _ c.in-Ok.ensures.at_end) ends.4
     (λ j e. (refl, c.in-Ok.ensures.at_end))
     (λ e. (refl, λ j within. let test : nat_lt j ends.0 ≡ true = grind (arith, nat_tests, all, within) in test))
@@ -52,7 +52,7 @@ returns-in-Err-clause-runs g c =
     let ms = c.args.machines.now in
     let ends = c.in-Err.ensures.took in
     subst (λ (l : List g.row.M.Denot). RunsOn m.outputs m.near (map m.setup ms) c.args.parents.now (Stand m.consumed ms) (Stand m.consumed l) (g.F.RunFeed.gave c.args.feed.now) (g.F.RunFeed.gave c.feed_all.new.feed) (g.G.MarkTake.took c.args.take.now) (g.G.MarkTake.took c.end_all.new.take) (g.F.RunFeed.at_end c.feed_all.new.feed) Stopped) (search (rules, c.in-Ok.ensures.same.machines))
-    (runs_on m.outputs m.near (map m.setup ms) c.args.parents.now c.requires.tree.forest (length-map ms m.setup ∙ c.requires.tree.each) (λ j within. keeps_at m.setup m.outputs g.met.M.Machine.prefix ms j (omega (arith, within, c.requires.tree.each)))
+    (runs_on m.outputs m.near (map m.setup ms) c.args.parents.now
     (g.G.MarkTake.took c.end_all.new.take) c.in-Ok.ensures.feeds (g.F.RunFeed.at_end c.feed_all.new.feed) false Stopped ends.0 (whole_end _ c.in-Ok.ensures.at_end) ends.4
     (λ j e. (refl, c.in-Ok.ensures.at_end))
     (λ e. absurd cc)
@@ -65,7 +65,7 @@ returns-in-Err-AtMark-clause-runs g c =
     let m = g.M.Machine in
     let ms = c.args.machines.now in
     subst (λ (l : List g.row.M.Denot). RunsOn m.outputs m.near (map m.setup ms) c.args.parents.now (Stand m.consumed ms) (Stand m.consumed l) (g.F.RunFeed.gave c.args.feed.now) (g.F.RunFeed.gave c.feed_all.new.feed) (g.G.MarkTake.took c.args.take.now) (g.G.MarkTake.took c.feed_all.new.take) (g.F.RunFeed.at_end c.feed_all.new.feed) Stopped) (search (rules, c.in-Err-AtMark.ensures.same.machines))
-    (runs_on m.outputs m.near (map m.setup ms) c.args.parents.now c.requires.tree.forest (length-map ms m.setup ∙ c.requires.tree.each) (λ j within. keeps_at m.setup m.outputs g.met.M.Machine.prefix ms j (omega (arith, within, c.requires.tree.each)))
+    (runs_on m.outputs m.near (map m.setup ms) c.args.parents.now
     (g.G.MarkTake.took c.feed_all.new.take) (fed_done (ap (λ h. handed_whole (Err h)) c.in-Err-AtMark.field-0-is) c.in-Err-AtMark.ensures.feeds) (g.F.RunFeed.at_end c.feed_all.new.feed) false Stopped 0 (broken_end _ (c.in-Err-AtMark.ensures.not_at_end (ap (λ h. Err h) c.in-Err-AtMark.field-0-is))) (ends_none (g.G.MarkTake.took c.feed_all.new.take))
     (λ j e. let no : nat_lt j 0 ≡ false = grind (arith, nat_tests) in absurd cc)
     (λ e. absurd cc)
@@ -78,7 +78,7 @@ returns-in-Err-InPause-clause-runs g c =
     let m = g.M.Machine in
     let ms = c.args.machines.now in
     subst (λ (l : List g.row.M.Denot). RunsOn m.outputs m.near (map m.setup ms) c.args.parents.now (Stand m.consumed ms) (Stand m.consumed l) (g.F.RunFeed.gave c.args.feed.now) (g.F.RunFeed.gave c.feed_all.new.feed) (g.G.MarkTake.took c.args.take.now) (g.G.MarkTake.took c.feed_all.new.take) (g.F.RunFeed.at_end c.feed_all.new.feed) Stopped) (search (rules, c.in-Err-InPause.ensures.same.machines))
-    (runs_on m.outputs m.near (map m.setup ms) c.args.parents.now c.requires.tree.forest (length-map ms m.setup ∙ c.requires.tree.each) (λ j within. keeps_at m.setup m.outputs g.met.M.Machine.prefix ms j (omega (arith, within, c.requires.tree.each)))
+    (runs_on m.outputs m.near (map m.setup ms) c.args.parents.now
     (g.G.MarkTake.took c.feed_all.new.take) (fed_done (ap (λ h. handed_whole (Err h)) c.in-Err-InPause.field-0-is) c.in-Err-InPause.ensures.feeds) (g.F.RunFeed.at_end c.feed_all.new.feed) true Stopped 0 (or_paused (g.F.RunFeed.at_end c.feed_all.new.feed)) (ends_none (g.G.MarkTake.took c.feed_all.new.take))
     (λ j e. let no : nat_lt j 0 ≡ false = grind (arith, nat_tests) in absurd cc)
     (λ e. absurd cc)
