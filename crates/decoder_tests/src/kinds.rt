@@ -252,7 +252,7 @@ fn a_decoder_answers_what_is_left(rt: HostRuntime) -> Result<(), Fail> {
         count: 2,
         rest: None,
     };
-    assert!(rt; decoder.step_runs(&low, &mut outs) == taken && decoder.floor() == 6);
+    assert!(rt; decoder.step_runs(&low, &mut outs) == taken && decoder.floor(0) == 6);
     Ok(())
 }
 

@@ -66,7 +66,7 @@ fn a_driver_gives_each_edge_once(rt: HostRuntime) {
         assert!(rt; answer == left);
         assert!(rt; outs.list().first().copied() == note);
         assert!(rt; outs.list().len() < 2);
-        assert!(rt; driver.floor() == floor);
+        assert!(rt; driver.floor(0) == floor);
     }
     // runs without an edge are passed, up to one that has it
     let mut driver = Driver::new(Edges::new());
@@ -85,7 +85,7 @@ fn a_driver_gives_each_edge_once(rt: HostRuntime) {
     };
     assert!(rt; driver.step_runs(&runs, &mut outs) == taken);
     assert!(rt; outs.list() == [note_at(0, 6, 0)].as_slice());
-    assert!(rt; driver.floor() == 8);
+    assert!(rt; driver.floor(0) == 8);
     walk_laws::<u8>();
     event_laws::<u8, u8>();
 }

@@ -64,6 +64,6 @@ pub fn decoded<L: LogicMachine + Drop>(
     }
     Ok(Told {
         outs: all,
-        near: driver.floor(),
+        near: driver.floor(0),
     })
 }

@@ -48,6 +48,9 @@ fn kind_by(letter: &str) -> PacketKind {
         "D" => PacketKind::SpiDeselect,
         "F" => PacketKind::UartFrame,
         "B" => PacketKind::UartBreak,
+        "r" => PacketKind::OwReset,
+        "q" => PacketKind::OwPresence,
+        "b" => PacketKind::OwBit,
         "R" => PacketKind::NetReset,
         "C" => PacketKind::NetCommand,
         "M" => PacketKind::NetRom,
@@ -190,17 +193,21 @@ pub fn holds(alloc: Global, row: &str) -> Result<bool, Fail> {
     Ok(said(alloc, kind, &outs)?.as_str() == want)
 }
 
-/// Whether a decoder has the floors that its row says, the first before all feeds, and one behind each.
+/// Whether a decoder has the floors that its row says, the first before all feeds, and one after
+/// each. Before its kind and a colon may stand the place from which on all packets come, which is
+/// else 0.
 pub fn floors_hold(alloc: Global, row: &str) -> Result<bool, Fail> {
-    let (setup, rest) = row.split_once('|').unwrap_or(("", ""));
+    let (head, rest) = row.split_once('|').unwrap_or(("", ""));
     let (feeds, want) = rest.split_once('|').unwrap_or(("", "?"));
+    let (place, setup) = head.split_once(':').unwrap_or(("0", head));
+    let above = place.parse::<u64>().unwrap_or(0);
     let mut machine = opened(setup)?;
-    let mut floors = format!(in alloc; "{}", machine.floor())?;
+    let mut floors = format!(in alloc; "{}", machine.floor(above))?;
     let mut outs = Outs::new();
     for feed in &feeds_of(alloc, feeds)? {
         outs.clear();
         machine.step(*feed, &mut outs);
-        write!(floors, " {}", machine.floor())?;
+        write!(floors, " {}", machine.floor(above))?;
     }
     Ok(floors.as_str() == want)
 }

@@ -1,6 +1,4 @@
 // A bus with two EEPROMs, as a tree: what each instance gives is what it gives alone.
-ghost use Rattle.std.specs.Prelude.{◌≢◌};
-
 use crate::stages::bus::{Marks, Samples, opened};
 use decoder_core::{Machine, Outs, RunEnd};
 use decoder_set::{AnyDecoder, Kind};
@@ -8,37 +6,8 @@ use dev_eeprom24::Chip;
 use la_base::{Feed, Mark, Out, Packet, Run};
 use plain_devices::eeprom_outputs_of;
 use stack_direct::run_direct;
-use std::alloc::Global;
+use std::alloc::{AllocError, Global};
 use std::test::Fail;
-
-// The marks of a decoder that is fed alone, so many feeds at once: notes and pieces, behind each time the
-// floor, and at the end the end.
-fn marks_alone(
-    alloc: Global,
-    mut decoder: AnyDecoder,
-    feeds: &[Feed],
-    at_once: usize,
-) -> Result<Vec<Mark>, Fail>
-    requires { at_once ≢ 0 }
-{
-    let mut marks = Vec::new(alloc);
-    for some in feeds.chunks(at_once) {
-        for feed in some {
-            let mut outs = Outs::new();
-            decoder.step(*feed, &mut outs);
-            for out in outs.list() {
-                match out {
-                    Out::Note(note) => marks.push(Mark::Note(*note))?,
-                    Out::Piece(piece) => marks.push(Mark::Piece(*piece))?,
-                    Out::Packet(_) => {}
-                }
-            }
-        }
-        marks.push(Mark::Floor(decoder.floor()))?;
-    }
-    marks.push(Mark::End)?;
-    Ok(marks)
-}
 
 // The samples of the script as feeds, one by one.
 fn samples_alone(alloc: Global) -> Result<Vec<Feed>, Fail> {
@@ -69,18 +38,64 @@ fn packets_of_bus(alloc: Global) -> Result<Vec<Packet>, Fail> {
     Ok(packets)
 }
 
-// The marks of each instance of the tree, were it alone.
+// The notes and pieces among outputs, as marks.
+fn push_shown(marks: &mut Vec<Mark>, outs: &[Out]) -> Result<(), AllocError> {
+    for out in outs {
+        match out {
+            Out::Note(note) => marks.push(Mark::Note(*note))?,
+            Out::Piece(piece) => marks.push(Mark::Piece(*piece))?,
+            Out::Packet(_) => {}
+        }
+    }
+    Ok(())
+}
+
+// What a device gives of each packet among outputs, and its floor after it.
+fn push_fed(
+    marks: &mut Vec<Mark>,
+    device: &mut AnyDecoder,
+    outs: &[Out],
+) -> Result<(), AllocError> {
+    for out in outs {
+        if let Out::Packet(packet) = out {
+            let mut given = Outs::new();
+            device.step(Feed::Packet(*packet), &mut given);
+            push_shown(marks, given.list())?;
+            marks.push(Mark::Floor(device.floor(0)))?;
+        }
+    }
+    Ok(())
+}
+
+// The marks of an instance of the tree, were the bus alone with one device. Samples come three at a
+// time. After them a bus has its floor, and once more with those of all instances; a device that
+// over the bus's.
 fn wanted_marks(alloc: Global, instance: u32) -> Result<Vec<Mark>, Fail> {
-    if instance == 0 {
-        let bus = opened(Kind::I2c, Some(0), Some(1))?;
-        return marks_alone(alloc, bus, &samples_alone(alloc)?, 3);
-    }
-    let mut feeds = Vec::new(alloc);
-    for packet in &packets_of_bus(alloc)? {
-        feeds.push(Feed::Packet(*packet))?;
-    }
+    let mut bus = opened(Kind::I2c, Some(0), Some(1))?;
     let address = if instance == 1 { None } else { Some(1) };
-    marks_alone(alloc, opened(Kind::Eeprom24, address, None)?, &feeds, 1)
+    let mut device = opened(Kind::Eeprom24, address, None)?;
+    let feeds = samples_alone(alloc)?;
+    let mut marks = Vec::new(alloc);
+    for some in feeds.chunks(3) {
+        for feed in some {
+            let mut outs = Outs::new();
+            bus.step(*feed, &mut outs);
+            if instance == 0 {
+                push_shown(&mut marks, outs.list())?;
+            } else {
+                push_fed(&mut marks, &mut device, outs.list())?;
+            }
+        }
+        let floor = bus.floor(0);
+        if instance == 0 {
+            marks.push(Mark::Floor(floor))?;
+            marks.push(Mark::Floor(floor))?;
+        } else {
+            marks.push(Mark::Floor(device.floor(floor)))?;
+        }
+    }
+    marks.push(Mark::End)?;
+    Ok(marks)
 }
 
 // Runs a bus with two EEPROMs until so many marks were taken.
@@ -147,8 +162,9 @@ fn devices_give_what_their_definition_gives(rt: HostRuntime) -> Result<(), Fail>
     Ok(())
 }
 
-// Where it is stopped, a front of the marks was taken, and the feed wasn't read on behind the runs in which
-// it was: those of the bus that were handed whole have a floor behind them.
+// Where it is stopped, a front of the marks was taken, and the feed wasn't read on after the runs
+// in which it was. After those that were handed on whole the bus has two floors: its own, and the
+// one that the devices' floors go by.
 #[test]
 fn nothing_comes_behind_a_stop(rt: HostRuntime) -> Result<(), Fail> {
     let alloc = rt.alloc();
@@ -156,14 +172,39 @@ fn nothing_comes_behind_a_stop(rt: HostRuntime) -> Result<(), Fail> {
     for most in [0usize, 1, 7, 40, 41, 42] {
         let (end, feed, take) = run_until(alloc, most)?;
         assert!(rt; end == RunEnd::Stopped && take.stops == 1 && take.taken.len() == most);
-        let mut lists = 1u64;
+        let mut floors = 0u64;
         for (place, mark) in take.taken.iter().enumerate() {
             assert!(rt; whole.taken.get(place) == Some(mark));
             if mark.0 == 0 && matches!(mark.1, Mark::Floor(_)) {
-                lists = lists.saturating_add(1);
+                floors = floors.saturating_add(1);
             }
         }
-        assert!(rt; !feed.ended && feed.given == lists);
+        let lists = floors / 2;
+        assert!(rt; !feed.ended && lists <= feed.given && feed.given <= lists.saturating_add(1));
+    }
+    Ok(())
+}
+
+// On a bus that rests nothing is held back: once no phase is open, the floor of each device is that
+// of the bus, which is the number of samples.
+#[test]
+fn devices_hold_nothing_back_on_a_bus_that_rests(rt: HostRuntime) -> Result<(), Fail> {
+    let alloc = rt.alloc();
+    let samples = Samples::new(alloc)?;
+    let count = samples.all.len() as u64;
+    let (end, _, take) = run_until(alloc, 1000)?;
+    assert!(rt; end == RunEnd::Ended);
+    for instance in 0..3u32 {
+        let mut last = 0;
+        for (own, mark) in &take.taken {
+            if *own != instance {
+                continue;
+            }
+            if let Mark::Floor(floor) = mark {
+                last = *floor;
+            }
+        }
+        assert!(rt; last == count, "{instance}: {last}");
     }
     Ok(())
 }

@@ -5,6 +5,7 @@ ghost use Rattle.std.specs.Prelude.{◌≡◌, ◌≢◌, ◌≤◌};
 use super::bus::{Marks, Samples, opened};
 use decoder_core::RunEnd;
 use decoder_set::Kind;
+use la_base::Mark;
 use stack_direct::run_direct;
 use stack_threads::run_stages;
 use stage_crew::{Pacer, PlainPacer};
@@ -94,6 +95,31 @@ fn threads_give_what_one_thread_gives(rt: HostRuntime) -> Result<(), Fail> {
             gives_the_same(&rt, alloc, slots, &Small)?,
             "{slots} slots, few acts"
         );
+    }
+    Ok(())
+}
+
+// On a bus that rests nothing is held back: once no phase is open, the floor of each device is that
+// of the bus, which is the number of samples.
+#[test]
+fn devices_with_threads_hold_nothing_back_on_a_bus_that_rests(rt: HostRuntime) -> Result<(), Fail> {
+    let alloc = rt.alloc();
+    for slots in [1u32, 64] {
+        let (end, feed, take) = run_until(&rt, alloc, slots, ALL, &PlainPacer)?;
+        assert!(rt; end == RunEnd::Ended);
+        let count = feed.all.len() as u64;
+        for instance in 0..3u32 {
+            let mut last = 0;
+            for (own, mark) in &take.taken {
+                if *own != instance {
+                    continue;
+                }
+                if let Mark::Floor(floor) = mark {
+                    last = *floor;
+                }
+            }
+            assert!(rt; last == count, "{slots} slots, {instance}: {last}");
+        }
     }
     Ok(())
 }

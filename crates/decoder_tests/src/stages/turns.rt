@@ -5,7 +5,7 @@ use stage_ring::link;
 use stage_run::{Input, Stage, Stretch, Turn};
 use std::test::Fail;
 
-// Nothing to take: idle, with a miss. A stretch: it moves. The end: it ends, behind a floor and the
+// Nothing to take: idle, with a miss. A stretch: it moves. The end: it ends, after a floor and the
 // end on each link.
 #[test]
 fn a_stage_waits_moves_and_ends(rt: HostRuntime) -> Result<(), Fail> {
@@ -35,6 +35,10 @@ fn a_stage_waits_moves_and_ends(rt: HostRuntime) -> Result<(), Fail> {
     assert!(rt; marks.take().is_none());
     assert!(rt; !stage.is_over() && stage.turn(1) == Turn::Moved);
     assert!(rt; matches!(marks.take(), Some(Mark::Floor(_))));
+    // and tells its child the same
+    assert!(rt; packets.take().is_none());
+    assert!(rt; !stage.is_over() && stage.turn(1) == Turn::Moved);
+    assert!(rt; matches!(packets.take(), Some(Feed::From(_))) && packets.take().is_none());
     assert!(rt; !stage.is_over() && stage.turn(9) == Turn::Idle && stage.misses() == 2);
     assert!(rt; feeds.offer(Stretch::telling(0)).is_ok());
     assert!(rt; !stage.is_over() && stage.turn(9) == Turn::Ended && stage.is_over());
