@@ -1,3 +1,4 @@
 mod Hexadecimal
 mod Decimals
 pub mod Widths
+mod TwoDigits

@@ -5,8 +5,9 @@ ghost use Rattle.std.specs.Fmt.{digits, digit_glyph};
 /// The most digits that a number of 64 bits has in base 16.
 pub const PLACES: usize = 16;
 
-// The digit of this value.
-fn digit(value: u8) -> u8
+/// The digit of this value.
+#[inline(always)]
+pub(crate) fn digit(value: u8) -> u8
     requires { value < 16 }
     ensures { result ≡ digit_glyph true value }
 {

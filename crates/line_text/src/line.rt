@@ -3,7 +3,7 @@ ghost use Rattle.std.specs.Prelude.{◌≡◌, ◌+◌, ◌^◌, ◌<◌, ◌≤
 ghost use Rattle.std.specs.Fmt.{decimal};
 ghost use Rattle.line_text.specs.Texts.{padded, hex, fixed};
 
-use crate::hex::{PLACES, write_hex};
+use crate::hex::{PLACES, digit, write_hex};
 use crate::short::{MOST_SHORT, ShortText};
 use itoa::Buffer;
 use std::marker::Model;
@@ -109,8 +109,35 @@ impl LineBuf {
         self.len += text.len();
     }
 
+    // Appends a byte in two digits.
+    #[inline(always)]
+    fn push_byte_hex(&mut self, n: u8)
+        requires { length self.old ≤ 254 }
+        ensures text { self.new ≡ self.old ++ hex 2 n }
+        ensures grows { length self.new ≡ length self.old + 2 }
+    {
+        self.push_bytes(&[digit(n / 16), digit(n % 16)]);
+    }
+
     /// Appends a number in upper case hexadecimal, with leading zeros up to `digits` digits.
+    // Inlined, since most numbers are bytes.
+    #[inline(always)]
     pub fn push_hex(&mut self, n: u64, digits: u32)
+        requires digits { (1 ≤ digits) × (digits ≤ 16) }
+        requires room { length self.old + length (hex digits n) ≤ 256 }
+        ensures text { self.new ≡ self.old ++ hex digits n }
+        ensures grows { length self.new ≡ length self.old + length (hex digits n) }
+    {
+        if digits == 2 && n < 256 {
+            self.push_byte_hex(n as u8);
+        } else {
+            self.push_any_hex(n, digits);
+        }
+    }
+
+    // The same of any number.
+    #[inline(never)]
+    fn push_any_hex(&mut self, n: u64, digits: u32)
         requires digits { (1 ≤ digits) × (digits ≤ 16) }
         requires room { length self.old + length (hex digits n) ≤ 256 }
         ensures text { self.new ≡ self.old ++ hex digits n }
@@ -124,7 +151,7 @@ impl LineBuf {
     /// Appends a label, and a number in upper case hexadecimal with leading zeros up to `digits`
     /// digits, where there is room for any.
     #[tactic(auto, using(crate::proofs::Widths::hex_room))]
-    #[inline(never)]
+    #[inline(always)]
     pub fn push_labelled(&mut self, label: &[u8], n: u64, digits: u32)
         requires digits { (1 ≤ digits) × (digits ≤ 16) }
         requires room { length self.old + length label.now + 16 ≤ 256 }
