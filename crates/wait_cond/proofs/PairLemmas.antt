@@ -101,6 +101,35 @@ module _ (masks : Masks) (alt : Alt) (o : OfAlt masks alt) (before now line : �
     pub steady : (bit_at alt.steady line) ≡ 1 → ((bit_at before line) + (bit_at now line)) % 2 ≡ 0
     steady is = omega (arith, is, change, still, bit_at-lt now line, bit_at-lt before line, bit_at-lt (edge_lines alt) line)
 
+-- two of which nothing is missing don't exclude each other
+pub not_both : (one two : Masks) (changed now : ℕ) → missing one changed now ≡ 0 → missing two changed now ≡ 0 → bit_and (bit_and one.asked two.asked) (bit_xor one.edge two.edge) ≡ 0
+not_both one two changed now none also = same_from_bits (bit_and (bit_and one.asked two.asked) (bit_xor one.edge two.edge)) 0 at
+  where
+    of_line : (masks : Masks) → missing masks changed now ≡ 0 → (line : ℕ) → min ((bit_at changed line + bit_at masks.edge line) % 2) (bit_at masks.asked line) ≡ 0
+    of_line masks is line = omega (
+      arith,
+      none_set (missing masks changed now) line is,
+      bit_at_or (bit_and (bit_xor now masks.want) masks.care) (bit_and (bit_xor changed masks.edge) masks.asked) line,
+      bit_at_and (bit_xor changed masks.edge) masks.asked line,
+      bit_at_xor changed masks.edge line,
+    )
+
+    at : (line : ℕ) → bit_at (bit_and (bit_and one.asked two.asked) (bit_xor one.edge two.edge)) line ≡ bit_at 0 line
+    at line = omega (
+      arith,
+      bit_at_and (bit_and one.asked two.asked) (bit_xor one.edge two.edge) line,
+      bit_at_and one.asked two.asked line,
+      bit_at_xor one.edge two.edge line,
+      of_line one none line,
+      of_line two also line,
+      bit_at-zero line,
+      bit_at-lt changed line,
+      bit_at-lt one.edge line,
+      bit_at-lt two.edge line,
+      bit_at-lt one.asked line,
+      bit_at-lt two.asked line,
+    )
+
 -- masks that say all, where nothing is missing: each term holds
 module _ (masks : Masks) (alt : Alt) (o : OfAlt masks alt) (all : SaysAll alt) (before now : ℕ) where
   -- the line of a term is below

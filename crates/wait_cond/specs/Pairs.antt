@@ -1,5 +1,5 @@
 -- What alternatives ask, in masks of the lines that the lower half of a sample has.
-use Rattle.std.specs.Prelude.{ℕ, ◌≡◌, ◌≢◌, ◌^◌, ◌/◌, ◌%◌, ◌<◌, List, [], ◌∷◌, ◌⊎◌, bit_and, bit_or}
+use Rattle.std.specs.Prelude.{ℕ, ◌≡◌, ◌≢◌, ◌^◌, ◌/◌, ◌%◌, ◌<◌, List, [], ◌∷◌, ◌⊎◌, true, bit_and, bit_or}
 use Rattle.std.specs.Prelude.{bit_xor}
 use Rattle.wait_cond.specs.Watching.{edge_lines, high_lines, AskHigh}
 use Rattle.wait_cond.specs.declared.alt.Alt.{Alt}
@@ -45,6 +45,11 @@ abbrev pub missing_in : Masks → ℕ → ℕ → ℕ
 missing_in masks before now =
     missing masks (bit_xor (before % 2 ^ 64) (now % 2 ^ 64)) (now % 2 ^ 64)
 
+-- no sample meets both of two alternatives: one asks that a line changes, and the other that it
+-- doesn't
+abbrev pub Excludes : Masks → Masks → Type 0
+Excludes one two = bit_and (bit_and one.asked two.asked) (bit_xor one.edge two.edge) ≢ 0
+
 -- a pair is one alternative, whose masks stand twice, or two
 pub record SaysOne (pair : Pair) (alts : List Alt) : Type 0 where
   pub alt : Alt
@@ -52,7 +57,7 @@ pub record SaysOne (pair : Pair) (alts : List Alt) : Type 0 where
   pub masks : OfAlt pair.one alt
   pub again : pair.two ≡ pair.one
   pub all : SaysAll alt
-  pub members : pair.members ≡ 1
+  pub alone : pair.alone ≡ true
 
 pub record SaysTwo (pair : Pair) (alts : List Alt) : Type 0 where
   pub first : Alt
@@ -62,7 +67,7 @@ pub record SaysTwo (pair : Pair) (alts : List Alt) : Type 0 where
   pub others : OfAlt pair.two second
   pub all : SaysAll first
   pub also : SaysAll second
-  pub members : pair.members ≡ 3
+  pub alone : pair.alone ≡ true → Excludes pair.one pair.two
 
 pub record Says (pair : Pair) (alts : List Alt) : Type 0 where
   pub high : AskHigh pair.high alts

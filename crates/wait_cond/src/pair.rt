@@ -1,6 +1,6 @@
 // What alternatives ask, in masks.
 ghost use Rattle.std.specs.Prelude.{◌≡◌, ◌∷◌, [], List, ℕ, Some, true};
-ghost use Rattle.wait_cond.specs.Pairs.{OfAlt, Says, SaysAll, missing};
+ghost use Rattle.wait_cond.specs.Pairs.{Excludes, OfAlt, Says, SaysAll, missing};
 ghost use Rattle.wait_cond.specs.Stops.{MetSet};
 ghost use Rattle.wait_cond.specs.declared.alt.Alt.{Alt};
 
@@ -40,6 +40,13 @@ impl Masks {
     {
         ((now ^ self.want) & self.care) | ((changed ^ self.edge) & self.asked)
     }
+
+    // Whether no sample meets both: one asks that a line changes, and the other that it doesn't.
+    fn excludes(&self, other: &Masks) -> bool
+        ensures { result ≡ true → Excludes self.now other.now }
+    {
+        (self.asked & other.asked) & (self.edge ^ other.edge) != 0
+    }
 }
 
 /// Whether the masks of an alternative say all: it has no skip, asks an edge, of no line two things
@@ -66,8 +73,8 @@ pub struct Pair {
     one: Masks,
     // the first one again, where there is one
     two: Masks,
-    // the set of those that there are
-    members: u8,
+    // no other is met where the first is: there is none, or they exclude each other
+    alone: bool,
 }
 
 impl Pair {
@@ -80,7 +87,7 @@ impl Pair {
             high: low_half(alt.high | alt.rise),
             one,
             two: one,
-            members: 1,
+            alone: true,
         }
     }
 
@@ -89,11 +96,12 @@ impl Pair {
         ensures { (first : Alt) → Says self.now (first ∷ []) → SaysAll alt.now
             → Says result (first ∷ alt.now ∷ []) }
     {
+        let two = Masks::of(alt);
         Pair {
             high: self.high & low_half(alt.high | alt.rise),
             one: self.one,
-            two: Masks::of(alt),
-            members: 3,
+            two,
+            alone: self.one.excludes(&two),
         }
     }
 
@@ -110,11 +118,11 @@ impl Pair {
         }
         let changed = low_half(before) ^ level;
         if self.one.misses(changed, level) == 0 {
-            if self.members == 1 {
+            if self.alone {
                 return 1;
             }
             if self.two.misses(changed, level) == 0 {
-                return self.members;
+                return 3;
             }
             return 1;
         }

@@ -19,10 +19,10 @@ returns c = λ first says all.
               second = c.args.alt.now;
               is = refl;
               masks = subst (λ (a : Alt). OfAlt s.one a) same o.masks;
-              others = c.of.ensures;
+              others = c.of-two.ensures;
               all = subst (λ (a : Alt). SaysAll a) same o.all;
               also = all;
-              members = refl;
+              alone = c.excludes.ensures;
             })
         | inr o ↦ absurd (omega (arith, ap (λ (l : List Alt). length l) o.is))
       ];
