@@ -52,6 +52,37 @@ fn alike_bytes(bytes: &[u8], mask: u8) -> usize
         if (bytes[2] ^ first) & mask != 0 {
             return 2;
         }
+        return alike_short(bytes, first, mask);
+    }
+    alike_near(bytes, mask)
+}
+
+// How many bytes are known to agree before words are looked at.
+const KNOWN: usize = 3;
+
+// The same, where the first bytes are known to agree. Two words are looked at before a call, since
+// most runs that are longer end in them.
+#[inline(always)]
+fn alike_short(bytes: &[u8], first: u8, mask: u8) -> usize
+    requires first { first ≡ slice_index bytes.now 0 }
+    requires within { KNOWN ≤ length bytes.now }
+    requires agree { AllAgree mask first bytes.now KNOWN }
+    ensures some { 1 ≤ result }
+    ensures within { result ≤ length bytes.now }
+    ensures alike { AllAgree mask first bytes.now result }
+{
+    if bytes.len() < KNOWN + 2 * WORD {
+        return alike_near(bytes, mask);
+    }
+    let firsts = eight_of(first);
+    let masks = eight_of(mask);
+    let different = differing_at(bytes, KNOWN, firsts, masks);
+    if different != 0 {
+        return KNOWN + (different.trailing_zeros() / 8) as usize;
+    }
+    let behind = differing_at(bytes, KNOWN + WORD, firsts, masks);
+    if behind != 0 {
+        return KNOWN + WORD + (behind.trailing_zeros() / 8) as usize;
     }
     alike_near(bytes, mask)
 }

@@ -9,3 +9,12 @@ returns-then-bytes-first-ne0-2-clause-alike c =
     let first = get_or bytes 0 0 in
     let same : bit_and (bit_xor (get_or bytes 1 0) first) c.args.mask ≡ 0 = grind (c.if-bytes-first-ne0.false, arith, nat_tests) in
     all_more c.args.mask first bytes 1 (all_first c.args.mask bytes) (agree_from c.args.mask (get_or bytes 1 0) first same)
+
+pub alike_short-requires-clause-agree : goal.alike_short-requires-clause-agree
+alike_short-requires-clause-agree c =
+    let bytes = c.args.bytes.now in
+    let mask = c.args.mask in
+    let first = get_or bytes 0 0 in
+    let one : bit_and (bit_xor (get_or bytes 1 0) first) mask ≡ 0 = grind (c.if-bytes-first-ne0.false, arith, nat_tests) in
+    let two : bit_and (bit_xor (get_or bytes 2 0) first) mask ≡ 0 = grind (c.if-bytes-first-ne0-2.false, arith, nat_tests) in
+    all_more mask first bytes 2 (all_more mask first bytes 1 (all_first mask bytes) (agree_from mask (get_or bytes 1 0) first one)) (agree_from mask (get_or bytes 2 0) first two)
