@@ -25,12 +25,12 @@ fn keeps_front<M: Machine>()
     ensures { (machine : M) → KeepsFront (M.outputs (M.setup machine)) }
 {}
 
-// The room of a link: one item in its first slot and 32 in each other, up to the most that a link has.
+// The room of a link: one item in its first slot and 24 in each other, up to the most that a link has.
 fn room_of(slots: u32) -> u32
     requires { (1 ≤ slots) × (slots ≤ 16384) }
     ensures { (1 ≤ result) × (result ≤ 16384) }
 {
-    (1 + (slots - 1) * 32).min(16384)
+    (1 + (slots - 1) * 24).min(16384)
 }
 
 /// Runs a tree of decoders, each in a thread of its own, with links between them. Each run of the
@@ -40,7 +40,7 @@ fn room_of(slots: u32) -> u32
 /// instance are taken in their order, those of several as they come.
 ///
 /// `parents` tells of each machine on which one it stands. `slots` is 1 to 16,384: each link has
-/// room for one item in its first slot and for 32 in each other, but for no more than 16,384.
+/// room for one item in its first slot and for 24 in each other, but for no more than 16,384.
 /// `pacer` tells how much a machine does in a turn.
 ///
 /// The machines may already stand for samples: what is taken is what follows. A packet that doesn't
