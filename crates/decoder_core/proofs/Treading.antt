@@ -1,6 +1,6 @@
 -- A decoder of samples on its walk through runs: over those without a stop, and behind a stop.
-use Rattle.std.proofs.Common.{◌≡◌, ℕ, ◌+◌, ◌-◌, ◌≤◌, ◌<◌, List, [], ◌++◌, take, drop, length, replicate, slice_index, sym, ◌∙◌, ap, subst, arith, append_assoc, length-take-le, take-append-drop}
-use Rattle.std.proofs.lemmas.List.{append-nil, replicate-append-replicate, take_all, take-append-le}
+use Rattle.std.proofs.Common.{◌≡◌, ℕ, ◌+◌, ◌-◌, ◌≤◌, ◌<◌, List, ◌++◌, take, drop, length, replicate, slice_index, sym, ◌∙◌, ap, subst, arith, append_assoc, length-take-le, take-append-drop}
+use Rattle.std.proofs.lemmas.List.{replicate-append-replicate, take_all, take-append-le}
 use Rattle.la_base.specs.Samples.{samples}
 use Rattle.la_base.specs.declared.samples.Run.{Run}
 use Rattle.la_base.specs.declared.wires.Out.{Out}
@@ -28,12 +28,12 @@ module _ {L S : Type 0} (setup : L → S) (outs : S → List ℕ → List Out) (
       quiet_since setup outs stands alts quiet machine (walk_from walk) all (omega (arith, waits.stop, waits.count)) st
       (subst (λ (n : ℕ). NoneMet all (alts machine) (walk_from walk) n) (sym waits.count) waits.none)
 
-  module _ (machine : L) (walk next : Walk) (list all more : List ℕ) (on : OnWalk (outs (setup machine)) stands (alts machine) machine walk list all []) where
+  module _ (machine : L) (walk next : Walk) (list all more : List ℕ) (given : List Out) (on : OnWalk (outs (setup machine)) stands (alts machine) machine walk list all given) where
     from_within : walk_from walk ≤ length all
     from_within = omega (arith, on.waits.stop, on.waits.count)
 
     -- nothing stopped
-    pub passed_on : Walks (alts machine) next (all ++ more) → walk_from next ≡ walk_from walk → OnWalk (outs (setup machine)) stands (alts machine) machine next list (all ++ more) []
+    pub passed_on : Walks (alts machine) next (all ++ more) → walk_from next ≡ walk_from walk → OnWalk (outs (setup machine)) stands (alts machine) machine next list (all ++ more) given
     passed_on waits from =
         let cut : take (walk_from next) (all ++ more) ≡ take (walk_from walk) all = ap (λ (k : ℕ). take k (all ++ more)) from ∙ take-append-le (walk_from walk) all more from_within in
         let still = subst (λ (l : List ℕ). stands machine l) (sym cut) on.machine_stands in
@@ -51,7 +51,7 @@ module _ {L S : Type 0} (setup : L → S) (outs : S → List ℕ → List Out) (
     parts = sym (append_assoc seen (drop (walk_from walk) all) more) ∙ ap (λ (l : List ℕ). l ++ more) (take-append-drop (walk_from walk) all)
 
     module _ (new : L) (at value met : ℕ) (into : List Out) (stop : IsStop (all ++ more) (alts machine) (walk_from walk) at met) (value_is : value ≡ slice_index (all ++ more) at)
-        (there : StandsThere (stands machine) (stands new) (alts machine) at value met) (loud : IsLoud (outs (setup machine)) (stands machine) (alts machine) at value met into) where
+        (there : StandsThere (stands machine) (stands new) (alts machine) at value met) (loud : IsLoud (outs (setup machine)) (stands machine) (alts machine) at value met given into) where
       stops : StopsIn (alts machine) seen (drop (walk_from walk) all ++ more) at value met
       stops = record {
         stop = subst (λ (l : List ℕ). IsStop l (alts machine) (length seen) at met) (sym parts)
@@ -64,9 +64,12 @@ module _ {L S : Type 0} (setup : L → S) (outs : S → List ℕ → List Out) (
 
       pub gives_at : outs (setup machine) (take (at + 1) (all ++ more)) ≡ outs (setup machine) list ++ into
       gives_at =
+          let new = loud seen (drop (walk_from walk) all ++ more) on.machine_stands stops in
           ap (λ (l : List ℕ). outs (setup machine) (take (at + 1) l)) (sym parts)
-          ∙ loud seen (drop (walk_from walk) all ++ more) on.machine_stands stops
-          ∙ ap (λ (l : List Out). l ++ into) (sym (at_last machine walk all on.waits on.machine_stands) ∙ on.gives ∙ append-nil (outs (setup machine) list))
+          ∙ new.2
+          ∙ ap (λ (l : List Out). l ++ new.0) (sym (at_last machine walk all on.waits on.machine_stands) ∙ on.gives)
+          ∙ append_assoc (outs (setup machine) list) given new.0
+          ∙ ap (λ (l : List Out). outs (setup machine) list ++ l) (sym new.1)
 
       -- it waits on for the same
       pub stopped_on : setup new ≡ setup machine → alts new ≡ alts machine → Walks (alts machine) next (all ++ more) → walk_from next ≡ at + 1 → OnWalk (outs (setup machine)) stands (alts machine) new next list (all ++ more) into
@@ -97,24 +100,24 @@ first_value all run some =
 
 -- the same where setup and alternatives are those that the walk began with
 module _ {L S : Type 0} (setup : L → S) (outs : S → List ℕ → List Out) (stands : L → List ℕ → Type 0) (alts : L → List Alt)
-    (quiet : (machine : L) → IsQuiet (outs (setup machine)) (stands machine) (alts machine)) (machine : L) (walk next : Walk) (list all more : List ℕ) where
+    (quiet : (machine : L) → IsQuiet (outs (setup machine)) (stands machine) (alts machine)) (machine : L) (walk next : Walk) (list all more : List ℕ) (given : List Out) where
   abbrev Passing : S → List Alt → Type 0
-  Passing s asked = OnWalk (outs s) stands asked machine walk list all [] → Walks asked next (all ++ more) → walk_from next ≡ walk_from walk → OnWalk (outs s) stands asked machine next list (all ++ more) []
+  Passing s asked = OnWalk (outs s) stands asked machine walk list all given → Walks asked next (all ++ more) → walk_from next ≡ walk_from walk → OnWalk (outs s) stands asked machine next list (all ++ more) given
 
   pub tread_pass : (s : S) (asked : List Alt) → setup machine ≡ s → alts machine ≡ asked → Passing s asked
-  tread_pass s asked same like = subst (λ (t : S). Passing t asked) same (subst (λ (a : List Alt). Passing (setup machine) a) like (λ on waits from. passed_on setup outs stands alts quiet machine walk next list all more on waits from))
+  tread_pass s asked same like = subst (λ (t : S). Passing t asked) same (subst (λ (a : List Alt). Passing (setup machine) a) like (λ on waits from. passed_on setup outs stands alts quiet machine walk next list all more given on waits from))
 
   module _ (new : L) (at value met : ℕ) (into : List Out) (there : StandsThere (stands machine) (stands new) (alts machine) at value met)
-      (loud : IsLoud (outs (setup machine)) (stands machine) (alts machine) at value met into) (value_is : value ≡ slice_index (all ++ more) at) where
+      (loud : IsLoud (outs (setup machine)) (stands machine) (alts machine) at value met given into) (value_is : value ≡ slice_index (all ++ more) at) where
     abbrev Stopping : S → List Alt → Type 0
-    Stopping s asked = OnWalk (outs s) stands asked machine walk list all [] → IsStop (all ++ more) asked (walk_from walk) at met → Walks asked next (all ++ more) → walk_from next ≡ at + 1 → OnWalk (outs s) stands asked new next list (all ++ more) into
+    Stopping s asked = OnWalk (outs s) stands asked machine walk list all given → IsStop (all ++ more) asked (walk_from walk) at met → Walks asked next (all ++ more) → walk_from next ≡ at + 1 → OnWalk (outs s) stands asked new next list (all ++ more) into
 
     pub tread_stop : (s : S) (asked : List Alt) → setup machine ≡ s → alts machine ≡ asked → setup new ≡ setup machine → alts new ≡ alts machine → Stopping s asked
     tread_stop s asked same like kept still =
         subst (λ (t : S). Stopping t asked) same (subst (λ (a : List Alt). Stopping (setup machine) a) like
-        (λ on stop waits from. stopped_on setup outs stands alts quiet machine walk next list all more on new at value met into stop value_is there loud kept still waits from))
+        (λ on stop waits from. stopped_on setup outs stands alts quiet machine walk next list all more given on new at value met into stop value_is there loud kept still waits from))
 
     pub tread_there : (s : S) (asked : List Alt) → setup machine ≡ s → alts machine ≡ asked → at + 1 ≡ length (all ++ more) → Stopping s asked
     tread_there s asked same like last =
         subst (λ (t : S). Stopping t asked) same (subst (λ (a : List Alt). Stopping (setup machine) a) like
-        (λ on stop waits from. stopped_there setup outs stands alts quiet machine walk next list all more on new at value met into stop value_is there loud last waits from))
+        (λ on stop waits from. stopped_there setup outs stands alts quiet machine walk next list all more given on new at value met into stop value_is there loud last waits from))

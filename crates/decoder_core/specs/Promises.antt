@@ -77,12 +77,14 @@ abbrev pub IsQuiet : (List ℕ → List Out) → (List ℕ → Type 0) → List 
 IsQuiet outs stands alts =
     (seen more : List ℕ) → stands seen → Rests alts seen more → outs (seen ++ more) ≡ outs seen
 
--- *loud*: a stop extends the outputs by those that were put out, and by nothing else
+-- *loud*: a stop extends the outputs by those that were put behind the earlier ones, and by
+-- nothing else
 abbrev pub IsLoud : (List ℕ → List Out) → (List ℕ → Type 0) → List Alt → ℕ → ℕ → ℕ → List Out
-    → Type 0
-IsLoud outs stands alts at value met into =
+    → List Out → Type 0
+IsLoud outs stands alts at value met earlier into =
     (seen more : List ℕ) → stands seen → StopsIn alts seen more at value met
-    → outs (take (at + 1) (seen ++ more)) ≡ outs seen ++ into
+    → (new : List Out) × (into ≡ earlier ++ new)
+    × (outs (take (at + 1) (seen ++ more)) ≡ outs seen ++ new)
 
 -- after a stop a machine stands for the samples up to it, and the stop itself
 abbrev pub StandsThere : (List ℕ → Type 0) → (List ℕ → Type 0) → List Alt → ℕ → ℕ → ℕ → Type 0

@@ -65,17 +65,17 @@ pub trait LogicMachine: Configured {
         ensures last { last_of waiter.new ≡ last_of waiter.old };
 
     /// Takes the stop at sample number `at`, whose value is `value`; bit i of `met` says whether it
-    /// meets alternative i. *Loud*: the outputs grow by those that are put into `into`, in their
-    /// order, and by nothing else. Answers whether it may wait for something else now; where it
-    /// doesn't, `wait` isn't called.
+    /// meets alternative i. *Loud*: the outputs grow by those that are put into `into`, behind those
+    /// that are there, in their order, and by nothing else. Answers whether it may wait for
+    /// something else now; where it doesn't, `wait` isn't called.
     fn resume(&mut self, at: u64, value: Word, met: u8, into: &mut Outs) -> bool
-        requires empty { into.old ≡ [] }
+        requires room { length into.old ≤ 16 }
         requires early { at < 2 ^ 60 }
         ensures setup { Self.setup self.new ≡ Self.setup self.old }
         ensures stands { StandsThere (stands self.old) (stands self.new)
             (alts self.old) at value met }
         ensures loud { IsLoud (outs (Self.setup self.old)) (stands self.old)
-            (alts self.old) at value met into.new }
+            (alts self.old) at value met into.old into.new }
         ensures waits { result ≡ false → alts self.new ≡ alts self.old };
 
     /// At most the start of every note and of every packet that is still to come, where `next` is

@@ -30,8 +30,8 @@ fn first_of(run: Run) -> Run
 }
 
 /// Takes a machine through runs, by the masks of the alternatives that it waits for: over those
-/// without a stop, and over stops at which it puts out nothing and waits on for the same. It ends
-/// behind a stop with outputs, or behind which it waits for something else.
+/// without a stop, and over stops behind which it waits on for the same. It ends behind a stop
+/// behind which it waits for something else, or where there may be no room for what one more gives.
 #[inline(always)]
 pub fn walk_runs<L: LogicMachine>(
     machine: &mut L,
@@ -73,7 +73,7 @@ pub fn walk_runs<L: LogicMachine>(
                 };
             }
             walk.stop(*run);
-            if !into.list().is_empty() {
+            if into.is_full() {
                 return Walked {
                     count: place + 1,
                     anew: false,

@@ -1,7 +1,6 @@
-use Rattle.std.proofs.Common.{◌≡◌, ◌+◌, ◌-◌, ◌<◌, ◌++◌, [], ℕ, List, Some, length, length-append, take, replicate, slice_index, refl, sym, ◌∙◌, ap, subst, arith, append_assoc, get_or, ◌==◌, true}
+use Rattle.std.proofs.Common.{◌≡◌, ◌+◌, ◌-◌, ◌<◌, ◌++◌, ℕ, List, Some, length, length-append, take, replicate, slice_index, refl, sym, ◌∙◌, ap, subst, arith, append_assoc, get_or}
 use Rattle.std.proofs.lemmas.Bool.{false≢true}
-use Rattle.std.proofs.lemmas.Bool.Decides.{nat_tests}
-use Rattle.std.proofs.lemmas.List.{append-nil, get_or_read_under, nil_from_length}
+use Rattle.std.proofs.lemmas.List.{append-nil, get_or_read_under}
 use Rattle.la_base.specs.Samples.{samples}
 use Rattle.la_base.specs.Runs.{samples_of}
 use Rattle.la_base.specs.declared.wires.Out.{Out}
@@ -15,10 +14,7 @@ use Rattle.decoder_core.specs.Treading.{OnWalk}
 use Rattle.decoder_core.proofs.Counting.{samples_are}
 use Rattle.decoder_core.proofs.Treading.{first_part, first_value, tread_pass, tread_stop, tread_there}
 use Rattle.decoder_core.proofs.walks.walk_runs.Goals as goal
-use Rattle.decoder_core.proofs.walks.walk_runs.Goals.{then-met-eq0, else-met-eq0+else-resume+else-not-is_empty}
-
-is_zero : (n : ℕ) → (n == 0) ≡ true → n ≡ 0
-is_zero n is = grind (is, arith, nat_tests)
+use Rattle.decoder_core.proofs.walks.walk_runs.Goals.{then-met-eq0, else-met-eq0+else-resume+else-is_full}
 
 pub loop-place-init : goal.loop-place-init
 loop-place-init g c =
@@ -26,10 +22,11 @@ loop-place-init g c =
     record {
       setup = refl;
       alts = refl;
-      empty = c.requires.empty;
+      nothing = λ _. c.requires.empty;
+      room = omega (arith, ap (λ (l : List Out). length l) c.requires.empty);
       some = c.requires.some;
-      treads = λ says list waits st. subst (λ (l : List ℕ). OnWalk (m.outs (g.L.Configured.setup c.args.machine.now)) m.stands (m.alts c.args.machine.now) c.args.machine.now c.args.walk.now list l []) (sym (append-nil list))
-          (record { waits = waits; machine_stands = st; gives = sym (append-nil (m.outs (g.L.Configured.setup c.args.machine.now) list)) });
+      treads = λ says list waits st. subst (λ (l : List ℕ). OnWalk (m.outs (g.L.Configured.setup c.args.machine.now)) m.stands (m.alts c.args.machine.now) c.args.machine.now c.args.walk.now list l c.args.into.now) (sym (append-nil list))
+          (record { waits = waits; machine_stands = st; gives = sym (append-nil (m.outs (g.L.Configured.setup c.args.machine.now) list)) ∙ ap (λ (l : List Out). m.outs (g.L.Configured.setup c.args.machine.now) list ++ l) (sym c.requires.empty) });
     }
 
 pub returns-then-not-has_room-clause-treads : goal.returns-then-not-has_room-clause-treads
@@ -40,7 +37,7 @@ returns-then-not-has_room-clause-treads g c =
       more = samples_of (take c.loop-place.place c.args.runs.now);
       whole = λ _. refl;
       front = λ yes. absurd (false≢true yes);
-      treads = λ says list waits st. subst (λ (outs : List Out). OnWalk (m.outs (g.L.Configured.setup c.args.machine.now)) m.stands (m.alts c.args.machine.now) c.loop-place.machine c.loop-place.walk list (list ++ samples_of (take c.loop-place.place c.args.runs.now)) outs) (sym i.empty) (i.treads says list waits st);
+      treads = i.treads;
     }
 
 pub returns-clause-treads : goal.returns-clause-treads
@@ -53,7 +50,7 @@ returns-clause-treads g c =
       more = samples_of (take c.loop-place.place runs);
       whole = λ _. ap (λ (n : ℕ). samples_of (take n runs)) (sym end);
       front = λ yes. absurd (false≢true yes);
-      treads = λ says list waits st. subst (λ (outs : List Out). OnWalk (m.outs (g.L.Configured.setup c.args.machine.now)) m.stands (m.alts c.args.machine.now) c.loop-place.machine c.loop-place.walk list (list ++ samples_of (take c.loop-place.place runs)) outs) (sym i.empty) (i.treads says list waits st);
+      treads = i.treads;
     }
 
 pub returns-then-resume-clause-treads : goal.returns-then-resume-clause-treads
@@ -91,14 +88,14 @@ returns-then-resume-clause-treads g c =
           let last : length all + 1 ≡ length (all ++ samples first) = omega (arith, length-append all (samples first), samples_len first, c.first_of.ensures.len) in
           let value_is : run.value ≡ slice_index (all ++ samples first) (length all) = sym c.first_of.ensures.value ∙ first_value all first first.not_empty in
           subst (λ (l : List ℕ). OnWalk (m.outs (g.L.Configured.setup c.args.machine.now)) m.stands asked c.resume.new.self c.stop.new.self list l c.resume.new.into) (append_assoc list so_far (samples first))
-          (tread_there g.L.Configured.setup m.outs m.stands m.alts g.met.L.LogicMachine.quiet c.loop-place.machine walk c.stop.new.self list all (samples first) c.resume.new.self (length all) run.value c.met-met.result c.resume.new.into
+          (tread_there g.L.Configured.setup m.outs m.stands m.alts g.met.L.LogicMachine.quiet c.loop-place.machine walk c.stop.new.self list all (samples first) c.loop-place.into c.resume.new.self (length all) run.value c.met-met.result c.resume.new.into
           (subst (λ (n : ℕ). StandsThere (m.stands c.loop-place.machine) (m.stands c.resume.new.self) (m.alts c.loop-place.machine) n run.value c.met-met.result) place c.resume.ensures.stands)
-          (subst (λ (n : ℕ). IsLoud (m.outs (g.L.Configured.setup c.loop-place.machine)) (m.stands c.loop-place.machine) (m.alts c.loop-place.machine) n run.value c.met-met.result c.resume.new.into) place c.resume.ensures.loud)
+          (subst (λ (n : ℕ). IsLoud (m.outs (g.L.Configured.setup c.loop-place.machine)) (m.stands c.loop-place.machine) (m.alts c.loop-place.machine) n run.value c.met-met.result c.loop-place.into c.resume.new.into) place c.resume.ensures.loud)
           value_is (g.L.Configured.setup c.args.machine.now) asked i.setup i.alts last on both.0 both.1 from);
     }
 
-pub returns-then-not-is_empty-clause-treads : goal.returns-then-not-is_empty-clause-treads
-returns-then-not-is_empty-clause-treads g c =
+pub returns-then-is_full-clause-treads : goal.returns-then-is_full-clause-treads
+returns-then-is_full-clause-treads g c =
     let m = g.L.LogicMachine in
     let i = c.loop-place.invariant in
     let runs = c.args.runs.now in
@@ -121,9 +118,9 @@ returns-then-not-is_empty-clause-treads g c =
           let place : c.consumed-at.result ≡ length all = c.consumed-at.ensures ∙ sym on.waits.count in
           let from : walk_from next ≡ length all + 1 = c.stop-else-met-eq0.ensures.from ∙ ap (λ (n : ℕ). n + 1) (sym on.waits.count) in
           subst (λ (l : List ℕ). OnWalk (m.outs (g.L.Configured.setup c.args.machine.now)) m.stands asked c.resume.new.self next list l c.resume.new.into) (append_assoc list so_far (samples run))
-          (tread_stop g.L.Configured.setup m.outs m.stands m.alts g.met.L.LogicMachine.quiet c.loop-place.machine walk next list all (samples run) c.resume.new.self (length all) run.value c.met-met.result c.resume.new.into
+          (tread_stop g.L.Configured.setup m.outs m.stands m.alts g.met.L.LogicMachine.quiet c.loop-place.machine walk next list all (samples run) c.loop-place.into c.resume.new.self (length all) run.value c.met-met.result c.resume.new.into
           (subst (λ (n : ℕ). StandsThere (m.stands c.loop-place.machine) (m.stands c.resume.new.self) (m.alts c.loop-place.machine) n run.value c.met-met.result) place c.resume.ensures.stands)
-          (subst (λ (n : ℕ). IsLoud (m.outs (g.L.Configured.setup c.loop-place.machine)) (m.stands c.loop-place.machine) (m.alts c.loop-place.machine) n run.value c.met-met.result c.resume.new.into) place c.resume.ensures.loud)
+          (subst (λ (n : ℕ). IsLoud (m.outs (g.L.Configured.setup c.loop-place.machine)) (m.stands c.loop-place.machine) (m.alts c.loop-place.machine) n run.value c.met-met.result c.loop-place.into c.resume.new.into) place c.resume.ensures.loud)
           (first_value all run run.not_empty) (g.L.Configured.setup c.args.machine.now) asked i.setup i.alts c.resume.ensures.setup (c.resume.ensures.waits c.if-resume.false) on both.0 both.1 from);
     }
 
@@ -139,12 +136,13 @@ loop-place-preserved g c =
     let asked = m.alts c.args.machine.now in
     let so_far = samples_of (take at runs) in
     let longer = λ (list : List ℕ). append_assoc list so_far (samples run) ∙ ap (λ (l : List ℕ). list ++ l) (sym (samples_more runs at run within c.index-runs-place.is)) in
-    let Goes = λ (list : List ℕ) (machine : g.row.L.Denot) (next : Walk) (all : List ℕ). OnWalk (m.outs (g.L.Configured.setup c.args.machine.now)) m.stands asked machine next list all [] in
+    let Goes = λ (list : List ℕ) (machine : g.row.L.Denot) (next : Walk) (all : List ℕ). OnWalk (m.outs (g.L.Configured.setup c.args.machine.now)) m.stands asked machine next list all c.if-met-eq0.into in
     elim c.if-met-eq0.branch [
       | then-met-eq0 w ↦ record {
         setup = ap g.L.Configured.setup w.machine-is ∙ i.setup;
         alts = ap m.alts w.machine-is ∙ i.alts;
-        empty = w.into-is ∙ i.empty;
+        nothing = λ none. absurd (omega (arith, none));
+        room = omega (arith, i.room, ap (λ (l : List Out). length l) w.into-is);
         some = λ none. i.some (omega (arith, none, ap walked w.walk-is, w.pass.ensures.walked));
         treads = λ says list waits st.
             let all = list ++ so_far in
@@ -155,15 +153,16 @@ loop-place-preserved g c =
             subst (λ (machine : g.row.L.Denot). Goes list machine c.if-met-eq0.walk (list ++ samples_of (take (at + 1) runs))) (sym w.machine-is)
             (subst (λ (next : Walk). Goes list c.loop-place.machine next (list ++ samples_of (take (at + 1) runs))) (sym w.walk-is)
             (subst (λ (l : List ℕ). Goes list c.loop-place.machine w.pass.new.self l) (longer list)
-            (tread_pass g.L.Configured.setup m.outs m.stands m.alts g.met.L.LogicMachine.quiet c.loop-place.machine walk w.pass.new.self list all (samples run) (g.L.Configured.setup c.args.machine.now) asked i.setup i.alts on both.1 w.pass.ensures.from)));
+            (subst (λ (given : List Out). OnWalk (m.outs (g.L.Configured.setup c.args.machine.now)) m.stands asked c.loop-place.machine w.pass.new.self list (all ++ samples run) given) (sym w.into-is)
+            (tread_pass g.L.Configured.setup m.outs m.stands m.alts g.met.L.LogicMachine.quiet c.loop-place.machine walk w.pass.new.self list all (samples run) c.loop-place.into (g.L.Configured.setup c.args.machine.now) asked i.setup i.alts on both.1 w.pass.ensures.from))));
       }
-      | else-met-eq0+else-resume+else-not-is_empty w ↦
-          let none : w.resume.new.into ≡ [] = sym w.list.ensures.list ∙ nil_from_length w.list.result.now (is_zero (length w.list.result.now) (sym w.is_empty.ensures ∙ w.if-not-is_empty.false)) in
+      | else-met-eq0+else-resume+else-is_full w ↦
           let next = w.stop-else-met-eq0.new.self in
           record {
             setup = ap g.L.Configured.setup w.machine-is ∙ w.resume.ensures.setup ∙ i.setup;
             alts = ap m.alts w.machine-is ∙ w.resume.ensures.waits w.if-resume.false ∙ i.alts;
-            empty = w.into-is ∙ none;
+            nothing = λ none. absurd (omega (arith, none));
+            room = omega (arith, w.is_full.ensures.room w.if-is_full.false, ap (λ (l : List Out). length l) w.into-is);
             some = λ zero. i.some (omega (arith, zero, ap walked w.walk-is, w.stop-else-met-eq0.ensures.walked));
             treads = λ says list waits st.
                 let all = list ++ so_far in
@@ -175,10 +174,10 @@ loop-place-preserved g c =
                 subst (λ (machine : g.row.L.Denot). Goes list machine c.if-met-eq0.walk (list ++ samples_of (take (at + 1) runs))) (sym w.machine-is)
                 (subst (λ (n : Walk). Goes list w.resume.new.self n (list ++ samples_of (take (at + 1) runs))) (sym w.walk-is)
                 (subst (λ (l : List ℕ). Goes list w.resume.new.self next l) (longer list)
-                (subst (λ (outs : List Out). OnWalk (m.outs (g.L.Configured.setup c.args.machine.now)) m.stands asked w.resume.new.self next list (all ++ samples run) outs) none
-                (tread_stop g.L.Configured.setup m.outs m.stands m.alts g.met.L.LogicMachine.quiet c.loop-place.machine walk next list all (samples run) w.resume.new.self (length all) run.value c.met-met.result w.resume.new.into
+                (subst (λ (given : List Out). OnWalk (m.outs (g.L.Configured.setup c.args.machine.now)) m.stands asked w.resume.new.self next list (all ++ samples run) given) (sym w.into-is)
+                (tread_stop g.L.Configured.setup m.outs m.stands m.alts g.met.L.LogicMachine.quiet c.loop-place.machine walk next list all (samples run) c.loop-place.into w.resume.new.self (length all) run.value c.met-met.result w.resume.new.into
                 (subst (λ (n : ℕ). StandsThere (m.stands c.loop-place.machine) (m.stands w.resume.new.self) (m.alts c.loop-place.machine) n run.value c.met-met.result) place w.resume.ensures.stands)
-                (subst (λ (n : ℕ). IsLoud (m.outs (g.L.Configured.setup c.loop-place.machine)) (m.stands c.loop-place.machine) (m.alts c.loop-place.machine) n run.value c.met-met.result w.resume.new.into) place w.resume.ensures.loud)
+                (subst (λ (n : ℕ). IsLoud (m.outs (g.L.Configured.setup c.loop-place.machine)) (m.stands c.loop-place.machine) (m.alts c.loop-place.machine) n run.value c.met-met.result c.loop-place.into w.resume.new.into) place w.resume.ensures.loud)
                 (first_value all run run.not_empty) (g.L.Configured.setup c.args.machine.now) asked i.setup i.alts w.resume.ensures.setup (w.resume.ensures.waits w.if-resume.false) on both.0 both.1 from))));
           }
     ]

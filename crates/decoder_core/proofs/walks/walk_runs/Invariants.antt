@@ -1,4 +1,4 @@
-use Rattle.std.proofs.Common.{◌≡◌, ◌≢◌, ◌++◌, [], List, ℕ, take}
+use Rattle.std.proofs.Common.{◌≡◌, ◌≢◌, ◌≤◌, ◌++◌, [], List, ℕ, length, take}
 use Rattle.la_base.specs.Runs.{samples_of}
 use Rattle.wait_cond.specs.Walks.{Walks, walk_from, walked}
 use Rattle.decoder_core.specs.Treading.{OnWalk, SaysAlts}
@@ -10,8 +10,9 @@ invariant-loop-place g l =
     record {
       setup : g.L.Configured.setup l.machine ≡ g.L.Configured.setup l.fn.machine;
       alts : m.alts l.machine ≡ m.alts l.fn.machine;
-      empty : l.into ≡ [];
+      nothing : l.place ≡ 0 → l.into ≡ [];
+      room : length l.into ≤ 16;
       some : walked l.walk ≢ 0;
       treads : SaysAlts l.pair (m.alts l.fn.machine) → (list : List ℕ) → Walks (m.alts l.fn.machine) l.fn.walk list → m.stands l.fn.machine (take (walk_from l.fn.walk) list)
-          → OnWalk (m.outs (g.L.Configured.setup l.fn.machine)) m.stands (m.alts l.fn.machine) l.machine l.walk list (list ++ samples_of (take l.place l.runs)) [];
+          → OnWalk (m.outs (g.L.Configured.setup l.fn.machine)) m.stands (m.alts l.fn.machine) l.machine l.walk list (list ++ samples_of (take l.place l.runs)) l.into;
     }

@@ -119,8 +119,10 @@ returns-in-Met-clause-step g c =
             cond = c.wait_on.ensures.alts (λ same. c.scan.ensures.alts ∙ d.cond ∙ sym (c.resume-anew.ensures.waits same));
           };
       gives = λ input d.
+          let loud = c.resume-anew.ensures.loud (seen input) (more input) d.machine_stands (stops input d) in
           ap (λ (l : List ℕ). m.outs (g.L.Configured.setup s.machine) l) (place input d ∙ ap (λ (l : List ℕ). take (at + 1) l) (sym (parts input d)))
-          ∙ c.resume-anew.ensures.loud (seen input) (more input) d.machine_stands (stops input d)
+          ∙ loud.2
+          ∙ ap (λ (l : List Out). m.outs (g.L.Configured.setup s.machine) (seen input) ++ l) (ap (λ (l : List Out). l ++ loud.0) (sym c.requires) ∙ sym loud.1)
           ∙ ap (λ (l : List Out). l ++ c.resume-anew.new.into) (sym (outs_now g.L.Configured.setup m.outs m.stands m.alts g.met.L.LogicMachine.quiet s.machine s.waiter input d));
     }
 
