@@ -97,13 +97,17 @@ module _ {H E : Type 0} (d : EventDecoder H E) where
       event_is =
           d.sound.some held at stop.before value (length seen) met stop.fit stop.set stop.some
 
-      pub loud_of : (into : List Out) → into ≡ d.walk.gives held event
-          → d.outs (take (at + 1) (seen ++ more)) ≡ d.outs seen ++ into
-      loud_of into is =
-          stop.gives
-          ∙ ap (λ (l : List Out). d.outs seen ++ l)
-          (ap (λ (es : List E). gives_all d.walk held es) event_is
-          ∙ append-nil (d.walk.gives held event) ∙ sym is)
+      pub loud_of : (earlier into : List Out) → into ≡ earlier ++ d.walk.gives held event
+          → (new : List Out) × (into ≡ earlier ++ new)
+          × (d.outs (take (at + 1) (seen ++ more)) ≡ d.outs seen ++ new)
+      loud_of earlier into is = (
+        d.walk.gives held event,
+        is,
+        stop.gives
+            ∙ ap (λ (l : List Out). d.outs seen ++ l)
+            (ap (λ (es : List E). gives_all d.walk held es) event_is
+            ∙ append-nil (d.walk.gives held event)),
+      )
 
       pub holds_of : (new : H) → new ≡ d.walk.next held event
           → Holds new (take (at + 1) (seen ++ more))

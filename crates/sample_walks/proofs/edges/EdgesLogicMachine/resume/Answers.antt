@@ -10,4 +10,4 @@ returns-clause-stands c = λ seen more ends stop. (holds_of edges tt seen more (
 pub returns-clause-loud : goal.returns-clause-loud
 returns-clause-loud c = λ seen more ends stop.
     let note = c.note_at.ensures ∙ ap (λ (n : ℕ). note_at 0 c.args.at n) c.level.ensures in
-    loud_of edges tt seen more (ends, refl) c.args.at c.args.value c.args._met stop _ (c.push.ensures ∙ (λ i. c.requires.empty i ++ note i ∷ []))
+    loud_of edges tt seen more (ends, refl) c.args.at c.args.value c.args._met stop c.args.into.now _ (c.push.ensures ∙ (λ i. c.args.into.now ++ note i ∷ []))
