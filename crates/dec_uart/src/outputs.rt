@@ -1,5 +1,5 @@
 // What a stop puts out.
-ghost use Rattle.std.specs.Prelude.{◌≡◌, ◌≤◌, ◌<◌, ◌+◌, ◌^◌, ◌++◌, [], length};
+ghost use Rattle.std.specs.Prelude.{◌≡◌, ◌≤◌, ◌<◌, ◌+◌, ◌^◌, ◌++◌, length};
 ghost use Rattle.dec_uart.specs.Frames.{pieces, break_outs};
 ghost use Rattle.dec_uart.specs.laws.Machine.{word_outs, point_outs, stop_outs};
 
@@ -11,7 +11,7 @@ use la_base::PacketKind;
 
 // A byte, or two bytes with the higher first.
 fn give_pieces(line: Line, start: u64, at: u64, value: u64, into: &mut Outs)
-    requires room { length into.old ≤ 3 }
+    requires room { length into.old ≤ 19 }
     requires small { value < 2 ^ line.opts.bits }
     ensures gives { into.new ≡ into.old ++ pieces line.opts start at value }
     ensures few { length into.new ≤ length into.old + 2 }
@@ -25,8 +25,8 @@ fn give_pieces(line: Line, start: u64, at: u64, value: u64, into: &mut Outs)
 }
 
 fn give_frame(line: Line, start: u64, at: u64, word: u16, into: &mut Outs)
-    requires { into.old ≡ [] }
-    ensures { into.new ≡ word_outs line.opts start at word }
+    requires { length into.old ≤ 16 }
+    ensures { into.new ≡ into.old ++ word_outs line.opts start at word }
 {
     let value = data_of(line, word);
     let parity = parity_wrong(line, word);
@@ -50,9 +50,9 @@ fn give_frame(line: Line, start: u64, at: u64, word: u16, into: &mut Outs)
 
 // What point i of a frame gives.
 fn give_point(line: Line, start: u64, i: u64, word: u16, at: u64, level: bool, into: &mut Outs)
-    requires empty { into.old ≡ [] }
+    requires room { length into.old ≤ 16 }
     requires early { i ≤ 12 }
-    ensures { into.new ≡ point_outs line.opts start i word at level }
+    ensures { into.new ≡ into.old ++ point_outs line.opts start i word at level }
 {
     if i == 0 && level {
         into.push(span_note(0, start, at, 0, 0));
@@ -63,8 +63,8 @@ fn give_point(line: Line, start: u64, i: u64, word: u16, at: u64, level: bool, i
 
 // A break, where the line was low for long enough.
 fn give_break(line: Line, start: u64, at: u64, into: &mut Outs)
-    requires { into.old ≡ [] }
-    ensures { into.new ≡ break_outs line.opts line.rate start at }
+    requires { length into.old ≤ 16 }
+    ensures { into.new ≡ into.old ++ break_outs line.opts line.rate start at }
 {
     if at.saturating_sub(start) >= break_length(line) {
         into.push(span_note(4, start, at, 0, 0));
@@ -74,8 +74,8 @@ fn give_break(line: Line, start: u64, at: u64, into: &mut Outs)
 
 /// Puts out what a stop gives.
 pub fn give(line: Line, held: Held, at: u64, level: bool, into: &mut Outs)
-    requires { into.old ≡ [] }
-    ensures { into.new ≡ stop_outs line.opts line.rate held at level }
+    requires { length into.old ≤ 16 }
+    ensures { into.new ≡ into.old ++ stop_outs line.opts line.rate held at level }
 {
     match held {
         Held::Idle => {}

@@ -127,15 +127,20 @@ module _ (opts : UartOpts) (rate : Rate) {most : ℕ} (ranges : InRange most opt
           (walked walk seen) seen more ends refl at value met
           (subst (λ (alts : List Alt). StopsIn alts seen more at value met) alts_are s)
 
-      pub loud_is : (into : List Out) → into ≡ stop_outs opts rate held at (is_high value opts.rx)
-          → uart_outs opts rate (take (at + 1) (seen ++ more)) ≡ uart_outs opts rate seen ++ into
-      loud_is into told =
-          stop.gives
-          ∙ ap (λ (l : List Out). uart_outs opts rate seen ++ l)
-          (outs_same opts rate ranges.stop.0
-          (walked walk seen) at stop.before value stop.fit stop.moves
-          ∙ ap (λ (h : Held). stop_outs opts rate h at (is_high value opts.rx)) (sym is)
-          ∙ sym told)
+      pub loud_is : (earlier into : List Out)
+          → into ≡ earlier ++ stop_outs opts rate held at (is_high value opts.rx)
+          → (new : List Out) × (into ≡ earlier ++ new)
+          × (uart_outs opts rate (take (at + 1) (seen ++ more))
+          ≡ uart_outs opts rate seen ++ new)
+      loud_is earlier into told = (
+        stop_outs opts rate held at (is_high value opts.rx),
+        told,
+        stop.gives
+            ∙ ap (λ (l : List Out). uart_outs opts rate seen ++ l)
+            (outs_same opts rate ranges.stop.0
+            (walked walk seen) at stop.before value stop.fit stop.moves
+            ∙ ap (λ (h : Held). stop_outs opts rate h at (is_high value opts.rx)) (sym is)),
+      )
 
       pub stands_there : (new : Held) → new ≡ stop_held opts held at (is_high value opts.rx)
           → EndsThere walk (take (at + 1) (seen ++ more))
