@@ -64,13 +64,14 @@ impl Outbox {
         self.told.count() == 0 && self.fed.count() == 0 && self.place == 0
     }
 
-    /// Whether there is room for what one more step puts out, and for what stands behind it.
+    /// Whether there is room for what one more step puts out, at most 32 outputs, and for a floor
+    /// behind it.
     #[inline(always)]
     pub(crate) fn has_room(&self) -> bool
-        ensures room { result ≡ true → HasRoom 17 self.now }
+        ensures room { result ≡ true → HasRoom 33 self.now }
         ensures empty { is_empty self.now ≡ true → result ≡ true }
     {
-        self.told.count() <= 47 && self.fed.count() <= 47
+        self.told.count() <= 31 && self.fed.count() <= 31
     }
 
     /// Keeps the outputs of a step: notes and pieces for the marks, packets for each child.

@@ -60,7 +60,7 @@ impl<M: Machine> Stage<M> {
         requires going { self.old.closed ≡ false }
         requires some { 0 < length (waiting self.old.inbox.runs) }
         requires fresh { IsFresh self.old.outbox }
-        requires room { HasRoom 17 self.old.outbox }
+        requires room { HasRoom 33 self.old.outbox }
         ensures goes { Goes M.Machine Stepping 1 self.old self.new }
         ensures same { SameEnds self.old self.new }
         ensures fresh { IsFresh self.new.outbox }
@@ -82,7 +82,7 @@ impl<M: Machine> Stage<M> {
         requires some { 0 < length (waiting self.old.inbox.feeds) }
         requires no_runs { waiting self.old.inbox.runs ≡ [] }
         requires fresh { IsFresh self.old.outbox }
-        requires room { HasRoom 17 self.old.outbox }
+        requires room { HasRoom 33 self.old.outbox }
         ensures goes { Goes M.Machine Stepping 1 self.old self.new }
         ensures same { SameEnds self.old self.new }
         ensures fresh { IsFresh self.new.outbox }
@@ -104,7 +104,7 @@ impl<M: Machine> Stage<M> {
     fn tell_floor(&mut self)
         requires going { self.old.closed ≡ false }
         requires fresh { IsFresh self.old.outbox }
-        requires room { HasRoom 17 self.old.outbox }
+        requires room { HasRoom 33 self.old.outbox }
         ensures goes { Goes M.Machine Stepping 1 self.old self.new }
         ensures same { SameEnds self.old self.new }
         ensures fresh { IsFresh self.new.outbox }
