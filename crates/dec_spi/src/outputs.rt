@@ -1,5 +1,5 @@
 // What events put out.
-ghost use Rattle.std.specs.Prelude.{◌≡◌, ◌≤◌, ◌+◌, ◌++◌, ◌∷◌, [], length};
+ghost use Rattle.std.specs.Prelude.{◌≡◌, ◌≤◌, ◌+◌, ◌++◌, ◌∷◌, length};
 ghost use Rattle.dec_spi.specs.Bus.{byte_pieces, pieces, word_class, word_outs, select_outs};
 ghost use Rattle.dec_spi.specs.Bus.{deselect_outs};
 
@@ -9,8 +9,8 @@ use la_base::PacketKind;
 
 /// A stretch begins.
 pub fn give_select(at: u64, into: &mut Outs)
-    requires { into.old ≡ [] }
-    ensures { into.new ≡ select_outs at }
+    requires { length into.old ≤ 16 }
+    ensures { into.new ≡ into.old ++ select_outs at }
 {
     into.push(note_at(0, at, 0));
     into.push(packet_at(PacketKind::SpiSelect, at, 0));
@@ -18,8 +18,8 @@ pub fn give_select(at: u64, into: &mut Outs)
 
 /// A stretch has ended.
 pub fn give_deselect(at: u64, into: &mut Outs)
-    requires { into.old ≡ [] }
-    ensures { into.new ≡ deselect_outs at }
+    requires { length into.old ≤ 16 }
+    ensures { into.new ≡ into.old ++ deselect_outs at }
 {
     into.push(note_at(4, at, 0));
     into.push(packet_at(PacketKind::SpiDeselect, at, 0));
@@ -29,7 +29,7 @@ pub fn give_deselect(at: u64, into: &mut Outs)
 fn give_bytes(count: u64, class: u16, first: u64, last: u64, number: u32, into: &mut Outs)
     requires some { 1 ≤ count }
     requires most { count ≤ 4 }
-    requires room { length into.old ≤ 8 }
+    requires room { length into.old ≤ 24 }
     ensures gives { into.new ≡ into.old ++ byte_pieces count class first last number }
     ensures few { length into.new ≤ length into.old + 4 }
 {
@@ -55,7 +55,7 @@ fn give_pieces(
     number: u32,
     into: &mut Outs,
 )
-    requires room { length into.old ≤ 8 }
+    requires room { length into.old ≤ 24 }
     ensures gives { into.new ≡ into.old ++ pieces bus.now.opts.bits line class first last number }
     ensures few { length into.new ≤ length into.old + 4 }
 {
@@ -76,8 +76,8 @@ fn word_class(mosi: Option<u32>, miso: Option<u32>) -> u16
 
 /// A word, by its first and its last clock and its numbers on both lines.
 pub fn give_word(bus: &Bus, first: u64, last: u64, mosi: u32, miso: u32, into: &mut Outs)
-    requires { into.old ≡ [] }
-    ensures { into.new ≡ word_outs bus.now.opts first last mosi miso }
+    requires { length into.old ≤ 16 }
+    ensures { into.new ≡ into.old ++ word_outs bus.now.opts first last mosi miso }
 {
     let class = word_class(bus.opts.mosi, bus.opts.miso);
     into.push(span_note(class, first, last, mosi as u64, miso as u64));

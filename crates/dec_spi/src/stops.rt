@@ -1,5 +1,5 @@
 // What a stop puts out, and what is kept behind it.
-ghost use Rattle.std.specs.Prelude.{◌≡◌, []};
+ghost use Rattle.std.specs.Prelude.{◌≡◌, ◌≤◌, ◌++◌, length};
 ghost use Rattle.dec_spi.specs.declared.held.Held.TheVariants.{Inside};
 ghost use Rattle.dec_spi.specs.laws.Machine.{gives, next, clock_of, event_of, is_fresh};
 
@@ -12,8 +12,9 @@ use la_base::Word;
 
 // A clock in a stretch.
 fn clock(bus: &Bus, word: Bits, at: u64, value: Word, into: &mut Outs) -> Held
-    requires { into.old ≡ [] }
-    ensures gives { into.new ≡ gives bus.now.opts (Inside word) (clock_of bus.now.opts at value) }
+    requires { length into.old ≤ 16 }
+    ensures gives { into.new ≡ into.old
+        ++ gives bus.now.opts (Inside word) (clock_of bus.now.opts at value) }
     ensures next { result ≡ next bus.now.opts (Inside word) (clock_of bus.now.opts at value) }
 {
     let low_first = is_low_first(&bus.opts);
@@ -56,8 +57,9 @@ pub fn is_fresh(held: Held) -> bool
 
 /// Puts out what a stop gives, and answers what is then kept.
 pub fn stop(bus: &Bus, held: Held, at: u64, value: Word, into: &mut Outs) -> Held
-    requires { into.old ≡ [] }
-    ensures gives { into.new ≡ gives bus.now.opts held (event_of bus.now.opts held at value) }
+    requires { length into.old ≤ 16 }
+    ensures gives { into.new ≡ into.old
+        ++ gives bus.now.opts held (event_of bus.now.opts held at value) }
     ensures next { result ≡ next bus.now.opts held (event_of bus.now.opts held at value) }
 {
     match held {
