@@ -1,5 +1,5 @@
 // What a pulse says and gives.
-ghost use Rattle.std.specs.Prelude.{◌≡◌, []};
+ghost use Rattle.std.specs.Prelude.{◌≡◌, ◌≤◌, ◌++◌, length};
 ghost use Rattle.dec_onewire.specs.Link.{To};
 ghost use Rattle.dec_onewire.specs.laws.LinkMachine.{reset_by, answers_by, pulse_gives, end_by};
 ghost use Rattle.dec_onewire.specs.laws.LinkMachine.{gives, next, near_by};
@@ -27,8 +27,8 @@ fn answers(lengths: &Lengths, reset_end: Option<u64>, fall: u64) -> bool
 
 // Puts out what a pulse gives.
 fn give_pulse(lengths: &Lengths, reset_end: Option<u64>, fall: u64, rise: u64, into: &mut Outs)
-    requires { into.old ≡ [] }
-    ensures { into.new ≡ pulse_gives lengths.now reset_end fall rise }
+    requires { length into.old ≤ 16 }
+    ensures { into.new ≡ into.old ++ pulse_gives lengths.now reset_end fall rise }
 {
     let width = rise.saturating_sub(fall);
     if is_reset(lengths, width) {
@@ -46,8 +46,8 @@ fn give_pulse(lengths: &Lengths, reset_end: Option<u64>, fall: u64, rise: u64, i
 
 /// Puts out what an edge gives.
 pub fn give(lengths: &Lengths, held: Held, at: u64, level: bool, into: &mut Outs)
-    requires { into.old ≡ [] }
-    ensures { into.new ≡ gives lengths.now held (To at level) }
+    requires { length into.old ≤ 16 }
+    ensures { into.new ≡ into.old ++ gives lengths.now held (To at level) }
 {
     if level {
         match held.fall {

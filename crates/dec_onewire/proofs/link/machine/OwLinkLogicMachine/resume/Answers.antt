@@ -1,4 +1,4 @@
-use Rattle.std.proofs.Common.{◌∙◌}
+use Rattle.std.proofs.Common.{◌∙◌, ◌++◌}
 use Rattle.sample_walks.specs.laws.EventDecoders.{loud_of, holds_of}
 use Rattle.dec_onewire.specs.Link.{To}
 use Rattle.dec_onewire.specs.laws.LinkLaws.{link_decoder}
@@ -15,5 +15,5 @@ returns-clause-stands c = λ seen more stands stop.
 pub returns-clause-loud : goal.returns-clause-loud
 returns-clause-loud c = λ seen more stands stop.
     let m = c.args.self.now in
-    loud_of (link_decoder m.line.opts m.line.rate) m.held seen more (stands.0, stands.1) c.args.at c.args.value c.args._met stop _
-    (c.give.ensures ∙ (λ i. gives (stands.2 i) m.held (To c.args.at (c.pin-level.ensures i))))
+    loud_of (link_decoder m.line.opts m.line.rate) m.held seen more (stands.0, stands.1) c.args.at c.args.value c.args._met stop c.args.into.now _
+    (c.give.ensures ∙ (λ i. c.args.into.now ++ gives (stands.2 i) m.held (To c.args.at (c.pin-level.ensures i))))
