@@ -1,5 +1,5 @@
 // What an event puts out.
-ghost use Rattle.std.specs.Prelude.{◌≡◌, []};
+ghost use Rattle.std.specs.Prelude.{◌≡◌, ◌≤◌, ◌++◌, length};
 ghost use Rattle.dec_i2c.specs.Bytes.{address_outs, data_outs, first_class, first_outs, read_by};
 ghost use Rattle.dec_i2c.specs.Bytes.{byte_outs};
 ghost use Rattle.dec_i2c.specs.Bus.{start_outs, stop_outs, ack_outs};
@@ -12,8 +12,8 @@ use la_base::PacketKind;
 
 #[inline(never)]
 fn give_start(again: bool, at: u64, into: &mut Outs)
-    requires { into.old ≡ [] }
-    ensures { into.new ≡ start_outs again at }
+    requires { length into.old ≤ 16 }
+    ensures { into.new ≡ into.old ++ start_outs again at }
 {
     if again {
         into.push(note_at(1, at, 0));
@@ -26,8 +26,8 @@ fn give_start(again: bool, at: u64, into: &mut Outs)
 
 #[inline(never)]
 fn give_stop(at: u64, into: &mut Outs)
-    requires { into.old ≡ [] }
-    ensures { into.new ≡ stop_outs at }
+    requires { length into.old ≤ 16 }
+    ensures { into.new ≡ into.old ++ stop_outs at }
 {
     into.push(note_at(2, at, 0));
     into.push(packet_at(PacketKind::I2cStop, at, 0));
@@ -35,8 +35,8 @@ fn give_stop(at: u64, into: &mut Outs)
 
 #[inline(never)]
 fn give_ack(at: u64, level: bool, into: &mut Outs)
-    requires { into.old ≡ [] }
-    ensures { into.new ≡ ack_outs at level }
+    requires { length into.old ≤ 16 }
+    ensures { into.new ≡ into.old ++ ack_outs at level }
 {
     if level {
         into.push(note_at(8, at, 0));
@@ -48,8 +48,8 @@ fn give_ack(at: u64, level: bool, into: &mut Outs)
 }
 
 fn give_address(class: u16, first: u64, last: u64, a: u64, b: u64, into: &mut Outs)
-    requires { into.old ≡ [] }
-    ensures { into.new ≡ address_outs class first last a b }
+    requires { length into.old ≤ 16 }
+    ensures { into.new ≡ into.old ++ address_outs class first last a b }
 {
     into.push(span_note(class, first, last, a, 0));
     into.push(span_packet(PacketKind::I2cAddress, first, last, a, b));
@@ -57,8 +57,8 @@ fn give_address(class: u16, first: u64, last: u64, a: u64, b: u64, into: &mut Ou
 
 // A data byte; `read` is 0 where it is written and 1 where it is read.
 fn give_data(class: u16, read: u16, first: u64, last: u64, byte: u8, into: &mut Outs)
-    requires { into.old ≡ [] }
-    ensures { into.new ≡ data_outs class read first last byte }
+    requires { length into.old ≤ 16 }
+    ensures { into.new ≡ into.old ++ data_outs class read first last byte }
 {
     let value = byte as u64;
     into.push(span_note(class, first, last, value, 0));
@@ -80,8 +80,8 @@ fn first_class(byte: u8) -> u16
 }
 
 fn give_first(own: Option<u16>, first: u64, last: u64, byte: u8, into: &mut Outs)
-    requires { into.old ≡ [] }
-    ensures { into.new ≡ first_outs own first last byte }
+    requires { length into.old ≤ 16 }
+    ensures { into.new ≡ into.old ++ first_outs own first last byte }
 {
     match own {
         Some(address) => give_address(12, first, last, address as u64, 3, into),
@@ -98,8 +98,8 @@ fn give_first(own: Option<u16>, first: u64, last: u64, byte: u8, into: &mut Outs
 
 #[inline(never)]
 fn give_byte(role: Role, ten: Option<u16>, first: u64, last: u64, byte: u8, into: &mut Outs)
-    requires { into.old ≡ [] }
-    ensures { into.new ≡ byte_outs (λ own. read_by own ten) role first last byte }
+    requires { length into.old ≤ 16 }
+    ensures { into.new ≡ into.old ++ byte_outs (λ own. read_by own ten) role first last byte }
 {
     match role {
         Role::First => give_first(read_by(byte, ten), first, last, byte, into),
@@ -111,8 +111,8 @@ fn give_byte(role: Role, ten: Option<u16>, first: u64, last: u64, byte: u8, into
 }
 
 fn give_clock(segment: &Segment, at: u64, level: bool, into: &mut Outs)
-    requires { into.old ≡ [] }
-    ensures { into.new ≡ clock_gives segment.now at level }
+    requires { length into.old ≤ 16 }
+    ensures { into.new ≡ into.old ++ clock_gives segment.now at level }
 {
     if segment.bits == 7 {
         let byte = grown(segment.byte, level);
@@ -124,8 +124,8 @@ fn give_clock(segment: &Segment, at: u64, level: bool, into: &mut Outs)
 
 /// Puts out what the event gives that meets this set of alternatives.
 pub fn give(held: &Option<Segment>, met: u8, at: u64, level: bool, into: &mut Outs)
-    requires { into.old ≡ [] }
-    ensures { into.new ≡ gives held.now (event_met met at level) }
+    requires { length into.old ≤ 16 }
+    ensures { into.new ≡ into.old ++ gives held.now (event_met met at level) }
 {
     if met == 1 {
         if level {

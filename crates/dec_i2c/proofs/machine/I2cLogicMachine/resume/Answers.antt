@@ -1,4 +1,6 @@
-use Rattle.std.proofs.Common.{◌∙◌, ap, Bool}
+use Rattle.std.proofs.Common.{◌∙◌, ◌++◌, ap, sym, Bool, List}
+use Rattle.std.proofs.lemmas.List.{append-nil}
+use Rattle.la_base.specs.declared.wires.Out.{Out}
 use Rattle.sample_walks.specs.laws.EventDecoders.{loud_of, holds_of}
 use Rattle.dec_i2c.specs.laws.I2cLaws.{i2c_decoder}
 use Rattle.dec_i2c.specs.laws.Machine.{event_met, gives, next}
@@ -16,10 +18,11 @@ returns-then-takes_bit-clause-stands c = λ seen more stands stop.
 pub returns-then-takes_bit-clause-loud : goal.returns-then-takes_bit-clause-loud
 returns-then-takes_bit-clause-loud c = λ seen more stands stop.
     let m = c.args.self.now in
-    loud_of (i2c_decoder m.bus.scl m.bus.sda) m.held seen more stands c.args.at c.args.value c.args.met stop _
-    (c.requires.empty
-    ∙ bit_silent m.held c.args.met c.args.at c.pin-level.result c.if-takes_bit.ensures.answers
-    ∙ ap (λ (b : Bool). gives m.held (event_met c.args.met c.args.at b)) c.pin-level.ensures)
+    loud_of (i2c_decoder m.bus.scl m.bus.sda) m.held seen more stands c.args.at c.args.value c.args.met stop c.args.into.now _
+    (sym (append-nil c.args.into.now)
+    ∙ ap (λ (l : List Out). c.args.into.now ++ l)
+    (bit_silent m.held c.args.met c.args.at c.pin-level.result c.if-takes_bit.ensures.answers
+    ∙ ap (λ (b : Bool). gives m.held (event_met c.args.met c.args.at b)) c.pin-level.ensures))
 
 pub returns-clause-stands : goal.returns-clause-stands
 returns-clause-stands c = λ seen more stands stop.
@@ -32,5 +35,5 @@ pub returns-clause-loud : goal.returns-clause-loud
 returns-clause-loud c = λ seen more stands stop.
     let m = c.args.self.now in
     let left = c.takes_bit.ensures.keeps ∙ bit_left m.held c.args.met c.args.at c.pin-level.result c.if-takes_bit.ensures.answers in
-    loud_of (i2c_decoder m.bus.scl m.bus.sda) m.held seen more stands c.args.at c.args.value c.args.met stop _
-    (c.give.ensures ∙ (λ i. gives (left i) (event_met c.args.met c.args.at (c.pin-level.ensures i))))
+    loud_of (i2c_decoder m.bus.scl m.bus.sda) m.held seen more stands c.args.at c.args.value c.args.met stop c.args.into.now _
+    (c.give.ensures ∙ (λ i. c.args.into.now ++ gives (left i) (event_met c.args.met c.args.at (c.pin-level.ensures i))))
