@@ -79,23 +79,12 @@ no_high alt only = ap (λ (n : ℕ). bit_or n alt.rise) only.high ∙ ap (λ (n 
 pub timer_one : (alt : Alt) → OnlySkips alt → IsTimer (alt ∷ []) alt.skip
 timer_one alt only = record { alt = alt; is = refl; only = only; skips = refl }
 
-module _ (alts : List Alt) (skip : ℕ) (timer : IsTimer alts skip) where
-  first : slice_get alts 0 ≡ Some timer.alt
-  first = ap (λ (l : List Alt). slice_get l 0) timer.is
-
-  -- masks say nothing of it
-  pub timer_inexact : ¬ IsExact alts
-  timer_inexact exact = (exact.each 0 timer.alt first).edge (no_edges timer.alt timer.only)
-
-  -- what is kept of it is kept of another one that only skips, but for the samples to pass
-  pub kept_timer : (watched high : ℕ) (pair : Pair) → IsKept alts watched high skip pair → (alt : Alt) → OnlySkips alt → IsKept (alt ∷ []) watched high alt.skip pair
-  kept_timer watched high pair kept alt only = record {
-    some = omega arith;
-    watches = λ some. absurd ((kept.watches some 0 timer.alt first).0 (no_edges timer.alt timer.only));
-    asks = λ i other got line one. absurd (no_bits (high_lines timer.alt) (no_high timer.alt timer.only) line (kept.asks 0 timer.alt first line one));
-    skips = skip_one alt;
-    says = λ exact. absurd ((exact.each 0 alt refl).edge (no_edges alt only));
-  }
-    where
-      no_bits : (lines : ℕ) → lines ≡ 0 → (line : ℕ) → ¬ (bit_at lines line ≡ 1)
-      no_bits lines none line one = absurd (omega (arith, one, ap (λ (n : ℕ). bit_at n line) none, bit_at-zero line))
+-- masks say nothing of it
+pub kept_timer : (alt : Alt) (pair : Pair) → OnlySkips alt → IsKept (alt ∷ []) 0 0 alt.skip pair
+kept_timer alt pair only = record {
+  some = omega arith;
+  watches = λ some. absurd (some refl);
+  asks = λ i other got line one. absurd (omega (arith, one, bit_at-zero line));
+  skips = skip_one alt;
+  says = λ exact. absurd ((exact.each 0 alt refl).edge (no_edges alt only));
+}

@@ -13,4 +13,4 @@ pub mod WordLemmas
 pub mod PairLemmas
 pub mod PairSets
 pub mod Exact
-mod Timers
+pub mod Timers

@@ -155,3 +155,15 @@ module _ (list more : List ℕ) (value len : ℕ) (is : more ≡ replicate len v
 pub samples_are : (run : Run) → samples run ≡ replicate run.len run.value
 unfolding samples
 samples_are run = refl
+
+-- a wait that begins behind a run
+pub begun : (list : List ℕ) (run : Run) (alts : List Alt) (before now : ℕ) → length list ≡ before → before + run.len ≡ now → WaitsAt alts now now run.value (list ++ samples run)
+begun list run alts before now count is = record {
+  count = omega (arith, count, is, whole_len list (samples run) run.value run.len (samples_are run));
+  stop = omega arith;
+  last_is = sym (ap (λ (n : ℕ). slice_index (list ++ samples run) n) place ∙ now_is list (samples run) run.value run.len (samples_are run) (run.len - 1) (omega (arith, run.not_empty)));
+  none = λ q after below. absurd (omega (arith, after, below));
+}
+  where
+    place : now - 1 ≡ length list + (run.len - 1)
+    place = omega (arith, count, is, run.not_empty)

@@ -1,5 +1,5 @@
 -- A wait for one alternative that only skips.
-use Rattle.std.proofs.Common.{◌≡◌, ◌≢◌, inl, inr, ℕ, ◌+◌, ◌-◌, ◌≤◌, ◌<◌, max, List, [], ◌++◌, length, slice_get, Option, Some, None, refl, sym, ◌∙◌, ap, subst, arith}
+use Rattle.std.proofs.Common.{◌≡◌, ◌≢◌, inl, inr, ℕ, ◌+◌, ◌-◌, ◌≤◌, ◌<◌, ◌^◌, max, List, [], ◌++◌, length, slice_get, Option, Some, None, refl, sym, ◌∙◌, ap, subst, arith}
 use Rattle.std.specs.Int.{bit_at}
 use Rattle.std.proofs.lemmas.Bool.{cases_eq}
 use Rattle.std.proofs.lemmas.Nat.Bits.{bit_at-zero}
@@ -7,12 +7,14 @@ use Rattle.la_base.specs.declared.samples.Run.{Run}
 use Rattle.la_base.specs.Samples.{samples, before_of}
 use Rattle.wait_cond.specs.Conds.{IsTimer}
 use Rattle.wait_cond.specs.Meets.{LinesHold}
-use Rattle.wait_cond.specs.Stops.{MetSet, NoneMet}
+use Rattle.wait_cond.specs.Stops.{IsStop, MetSet, NoneMet}
 use Rattle.wait_cond.specs.Waiting.{Found, WaitsAt}
+use Rattle.wait_cond.specs.Walks.{IsTimeLeft, StopsBehind, Walks}
 use Rattle.wait_cond.specs.Watching.{SkipMore}
 use Rattle.wait_cond.specs.declared.alt.Alt.{Alt}
+use Rattle.wait_cond.specs.declared.walk.Walk.{Walk}
 use Rattle.wait_cond.proofs.Passing.{none_so_far}
-use Rattle.wait_cond.proofs.Runs.{met_at, none_skipped, samples_are, through}
+use Rattle.wait_cond.proofs.Runs.{met_at, none_skipped, samples_are, through, whole_len}
 use Rattle.wait_cond.proofs.Sets.{get_push, met_more, none_yet}
 
 no_bit_of : {A : Type 0} (mask line : ℕ) → mask ≡ 0 → bit_at mask line ≡ 1 → A
@@ -72,3 +74,20 @@ module _ (alts : List Alt) (skip : ℕ) (timer : IsTimer alts skip) where
 
     pub timer_through : run.len < from + skip - consumed → Found alts from (list ++ samples run) (length list) run.len None
     timer_through before = early run.len (omega (arith, before))
+
+  -- where it stops on a walk
+  pub timer_behind : (walk : Walk) (value left : ℕ) → IsTimeLeft walk skip left → StopsBehind alts walk value left
+  timer_behind walk value left is = record {
+    fits = omega (arith, is);
+    none = λ list run w same short. early list run (2 ^ 60 - walk.room) walk.from walk.last w run.len (omega (arith, is, short, run.not_empty));
+    stop = λ list run w same long room.
+        let place : left ≡ max 1 (walk.from + skip - (2 ^ 60 - walk.room)) - 1 = omega (arith, is, room) in
+        let found = timer_found list run (2 ^ 60 - walk.room) walk.from walk.last w left place (omega (arith, long)) in
+        record {
+          after = omega (arith, w.stop, w.count);
+          within = omega (arith, whole_len list (samples run) run.value run.len (samples_are run), long);
+          set = found.2;
+          some = found.3;
+          first = found.1;
+        };
+  }

@@ -76,13 +76,17 @@ impl Cond {
         ensures { cond_alts self.new ≡ alt ∷ [] }
     {
         let timer = only_skips(&alt);
-        // A decoder of a serial line waits for a time at each of its bits, and all else stays then.
-        if self.timer && timer {
+        // Of a wait for a time, which is that of a serial line, masks say nothing.
+        if timer {
+            self.timer = true;
+            self.exact = false;
+            self.watched = 0;
+            self.high = 0;
             self.skip = alt.skip;
             keep_one(&mut self.alts, alt);
             return;
         }
-        self.timer = timer;
+        self.timer = false;
         self.watched = edge_lines(&alt);
         self.high = high_lines(&alt);
         self.skip = alt.skip;

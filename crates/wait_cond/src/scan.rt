@@ -5,7 +5,7 @@ use crate::behind::behind;
 use crate::met::met_set;
 use crate::pair::Pair;
 use crate::standing::first_standing;
-use crate::walk::Walk;
+use crate::walk::{Walk, timer_place};
 use crate::{Alt, Cond};
 use la_base::{Run, Word};
 
@@ -318,6 +318,15 @@ impl Waiter {
         self.last = walk.last;
     }
 
+    /// Takes the last sample that was consumed for the last stop, so that another condition can be
+    /// set where a walk ended; then `put` sets its numbers.
+    #[inline(always)]
+    pub fn take_stop(&mut self)
+        ensures { wait_from self.new ≡ consumed_by self.new }
+    {
+        self.from = self.consumed;
+    }
+
     // The alternatives that the next sample meets, where it has this value.
     #[inline(always)]
     fn met_next(&self, value: Word) -> u8
@@ -450,14 +459,4 @@ fn early_room(from: u64, skip: u64, consumed: u64) -> u64
         .saturating_sub(1)
         .saturating_sub(consumed)
         .min(MOST_SAMPLES - consumed)
-}
-
-// The first sample from the next one on at which so many were skipped, counted from there; where it
-// isn't among those that there is room for, any other number that isn't either.
-fn timer_place(from: u64, skip: u64, consumed: u64) -> u64
-    requires early { from ≤ 2 ^ 60 }
-    requires few { consumed ≤ 2 ^ 60 }
-    ensures { min result (2 ^ 60) ≡ min (max 1 (from + skip - consumed) - 1) (2 ^ 60) }
-{
-    from.saturating_add(skip).saturating_sub(consumed).max(1) - 1
 }

@@ -1,5 +1,5 @@
 // A wait in the midst of runs.
-ghost use Rattle.std.specs.Prelude.{◌≤◌, ◌-◌, ◌^◌};
+ghost use Rattle.std.specs.Prelude.{◌≡◌, ◌≤◌, ◌+◌, ◌-◌, ◌^◌, max, min};
 
 use la_base::{Run, Word};
 
@@ -25,7 +25,7 @@ impl Walk {
     ghost use Rattle.wait_cond.specs.declared.alt.Alt.{Alt};
     ghost use Rattle.wait_cond.specs.Stops.{MetSet, NoneMet, IsStop};
     ghost use Rattle.wait_cond.specs.Watching.{NeverMet};
-    ghost use Rattle.wait_cond.specs.Walks.{Walks, walked, walk_from, walk_last};
+    ghost use Rattle.wait_cond.specs.Walks.{IsTimeLeft, Walks, walked, walk_from, walk_last};
 
     /// Whether there is room for a run.
     #[inline(always)]
@@ -81,10 +81,57 @@ impl Walk {
             → NeverMet alts (Some run.value) run.value
             → NoneMet (list ++ samples run) alts (walk_from self.old) (length list + run.len)
             × Walks alts self.new (list ++ samples run) }
+        ensures none { (alts : List Alt) (list : List ℕ) → Walks alts self.old list
+            → NoneMet (list ++ samples run) alts (walk_from self.old) (length list + run.len)
+            → Walks alts self.new (list ++ samples run) }
         ensures walked { walked self.new ≡ walked self.old + run.len }
         ensures from { walk_from self.new ≡ walk_from self.old }
     {
         self.room -= run.len;
         self.last = run.value;
     }
+
+    /// Consumes a run whose last sample is a stop, behind which any wait may begin.
+    #[inline(always)]
+    pub fn stop_behind(&mut self, run: Run)
+        requires room { walked self.old + run.len ≤ 2 ^ 60 }
+        ensures waits { (asked alts : List Alt) (list : List ℕ) → Walks asked self.old list
+            → Walks alts self.new (list ++ samples run) }
+        ensures walked { walked self.new ≡ walked self.old + run.len }
+        ensures from { walk_from self.new ≡ walked self.old + run.len }
+    {
+        self.room -= run.len;
+        self.from = MOST_SAMPLES - self.room;
+        self.last = run.value;
+    }
+
+    /// How many samples come before the first one at which so many were skipped, of those that
+    /// there is room for.
+    #[inline(always)]
+    pub fn time_left(&self, skip: u64) -> u64
+        ensures { IsTimeLeft self.now skip result }
+    {
+        let place = timer_place(self.from, skip, MOST_SAMPLES - self.room);
+        place.min(self.room)
+    }
+
+    /// The same where the last sample was a stop.
+    #[inline(always)]
+    pub fn time_begun(&self, skip: u64) -> u64
+        requires stop { walk_from self.now ≡ walked self.now }
+        requires some { 0 < skip }
+        ensures { IsTimeLeft self.now skip result }
+    {
+        self.room.min(skip - 1)
+    }
+}
+
+/// The first sample from the next one on at which so many were skipped, counted from there; where it
+/// isn't among those that there is room for, any other number that isn't either.
+pub fn timer_place(from: u64, skip: u64, consumed: u64) -> u64
+    requires early { from ≤ 2 ^ 60 }
+    requires few { consumed ≤ 2 ^ 60 }
+    ensures { min result (2 ^ 60) ≡ min (max 1 (from + skip - consumed) - 1) (2 ^ 60) }
+{
+    from.saturating_add(skip).saturating_sub(consumed).max(1) - 1
 }

@@ -13,3 +13,11 @@ returns-clause-waits c = λ alts list w some set stands.
     let more = through list (samples run) run.value run.len (samples_are run) alts (2 ^ 60 - s.room) s.from s.last run.not_empty w none in
     let left : 2 ^ 60 - s.room + run.len ≡ 2 ^ 60 - (s.room - run.len) = omega (arith, c.requires.room, s.few) in
     (none, subst (λ (n : ℕ). WaitsAt alts n s.from run.value (list ++ samples run)) left more)
+
+pub returns-clause-none : goal.returns-clause-none
+returns-clause-none c = λ alts list w none.
+    let s = c.args.self.now in
+    let run = c.args.run in
+    let more = through list (samples run) run.value run.len (samples_are run) alts (2 ^ 60 - s.room) s.from s.last run.not_empty w none in
+    let left : 2 ^ 60 - s.room + run.len ≡ 2 ^ 60 - (s.room - run.len) = omega (arith, c.requires.room, s.few) in
+    subst (λ (n : ℕ). WaitsAt alts n s.from run.value (list ++ samples run)) left more
