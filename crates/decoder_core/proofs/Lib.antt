@@ -1,6 +1,7 @@
 pub mod Counting
 pub mod Driven
 mod Treading
+mod Striding
 mod Trodden
 pub mod Ordered
 mod Joining

@@ -83,8 +83,8 @@ module _ {L S : Type 0} (setup : L → S) (outs : S → List ℕ → List Out) (
           }
 
       -- another wait begins, and the stop is the last sample
-      pub stopped_there : at + 1 ≡ length (all ++ more) → Walks (alts machine) next (all ++ more) → walk_from next ≡ at + 1 → OnWalk (outs (setup machine)) stands (alts machine) new next list (all ++ more) into
-      stopped_there last waits from =
+      pub stopped_there : (asked : List Alt) → at + 1 ≡ length (all ++ more) → Walks asked next (all ++ more) → walk_from next ≡ at + 1 → OnWalk (outs (setup machine)) stands asked new next list (all ++ more) into
+      stopped_there asked last waits from =
           let whole : take (at + 1) (all ++ more) ≡ all ++ more = take_all (at + 1) (all ++ more) (omega (arith, last)) in
           record {
             waits = waits;
@@ -120,4 +120,13 @@ module _ {L S : Type 0} (setup : L → S) (outs : S → List ℕ → List Out) (
     pub tread_there : (s : S) (asked : List Alt) → setup machine ≡ s → alts machine ≡ asked → at + 1 ≡ length (all ++ more) → Stopping s asked
     tread_there s asked same like last =
         subst (λ (t : S). Stopping t asked) same (subst (λ (a : List Alt). Stopping (setup machine) a) like
-        (λ on stop waits from. stopped_there setup outs stands alts quiet machine walk next list all more given on new at value met into stop value_is there loud last waits from))
+        (λ on stop waits from. stopped_there setup outs stands alts quiet machine walk next list all more given on new at value met into stop value_is there loud (alts machine) last waits from))
+
+    -- the same, and whatever it waits for then
+    abbrev Renewing : S → Type 0
+    Renewing s = OnWalk (outs s) stands (alts machine) machine walk list all given → IsStop (all ++ more) (alts machine) (walk_from walk) at met → Walks (alts new) next (all ++ more) → walk_from next ≡ at + 1 → OnWalk (outs s) stands (alts new) new next list (all ++ more) into
+
+    pub tread_anew : (s : S) → setup machine ≡ s → at + 1 ≡ length (all ++ more) → Renewing s
+    tread_anew s same last =
+        subst (λ (t : S). Renewing t) same
+        (λ on stop waits from. stopped_there setup outs stands alts quiet machine walk next list all more given on new at value met into stop value_is there loud (alts new) last waits from)

@@ -1,13 +1,13 @@
 -- Steps over runs: one behind another, and the walk of a driver.
-use Rattle.std.proofs.Common.{◌≡◌, ◌+◌, ◌-◌, ◌^◌, ◌≤◌, ◌<◌, ◌++◌, [], ℕ, zero, suc, List, Bool, true, false, Option, None, length, map, take, get_or, refl, sym, ◌∙◌, ap, subst, arith, append_assoc, length-append, not}
-use Rattle.std.proofs.lemmas.List.{append-nil, map-append, nil_from_length, take_all}
+use Rattle.std.proofs.Common.{◌≡◌, ◌+◌, ◌-◌, ◌^◌, ◌≤◌, ◌<◌, ◌++◌, [], ℕ, zero, suc, List, Bool, true, false, Option, None, Some, length, map, take, get_or, refl, sym, ◌∙◌, ap, subst, arith, append_assoc, length-append, not}
+use Rattle.std.proofs.lemmas.List.{append-nil, length-map, map-append, nil_from_length, take_all}
 use Rattle.la_base.specs.Runs.{samples_of}
 use Rattle.la_base.specs.Samples.{samples}
 use Rattle.la_base.specs.declared.samples.Run.{Run}
 use Rattle.la_base.specs.declared.wires.Feed.TheVariants.{Run as RunFeed}
 use Rattle.la_base.specs.declared.wires.Out.{Out}
-use Rattle.la_base.proofs.RunLemmas.{count_more}
-use Rattle.wait_cond.specs.Waiting.{Waits, alts_of, consumed_by, wait_from}
+use Rattle.la_base.proofs.RunLemmas.{count_more, samples_len}
+use Rattle.wait_cond.specs.Waiting.{Waits, alts_of, consumed_by, rest_len, wait_from}
 use Rattle.wait_cond.specs.Walks.{Walks, walk_from}
 use Rattle.wait_cond.specs.declared.alt.Alt.{Alt}
 use Rattle.wait_cond.specs.declared.pair.Pair.{Pair}
@@ -16,6 +16,7 @@ use Rattle.wait_cond.specs.declared.walk.Walk.{Walk}
 use Rattle.decoder_core.specs.Driving.{Drives, Passes, Steps, StepsRuns}
 use Rattle.decoder_core.specs.Inputs.{Item, Sample, counted_samples, left_feed, left_items}
 use Rattle.decoder_core.specs.Treading.{OnWalk, SaysAlts}
+use Rattle.decoder_core.specs.Striding.{Strides}
 use Rattle.decoder_core.specs.Promises.{IsQuiet}
 use Rattle.decoder_core.proofs.Counting.{counted_more_samples}
 use Rattle.decoder_core.proofs.Driven.{list_len, through}
@@ -75,35 +76,59 @@ module _ {before after : List Item → Type 0} {outputs : List Item → List Out
   pub step_runs : {run : Run} {rest : Option Run} {into : List Out} → Steps before after outputs (RunFeed run) (left_feed rest) into → StepsRuns before after outputs (samples run) rest into
   step_runs s = record { front = s.front; split = s.split; consumes = s.consumes; gives = s.gives }
 
-module _ {L S : Type 0} (setup : L → S) (outs : S → List ℕ → List Out) (stands : L → List ℕ → Type 0) (alts : L → List Alt) (pair : Pair) (machine new : L) (waiter later : Waiter) (walk next : Walk)
-    (more : List ℕ) (into : List Out) (says : SaysAlts pair (alts_of waiter)) (begins : (list : List ℕ) → Waits waiter list → Walks (alts_of waiter) walk list) (from : walk_from walk ≡ wait_from waiter)
-    (treads : SaysAlts pair (alts machine) → (list : List ℕ) → Walks (alts machine) walk list → stands machine (take (walk_from walk) list) → OnWalk (outs (setup machine)) stands (alts machine) new next list (list ++ more) into)
-    (ends : (list : List ℕ) → Walks (alts_of waiter) next list → Waits later list) (there : wait_from later ≡ walk_from next) (asks : alts_of waiter ≡ alts machine → alts_of later ≡ alts new) where
-  on : (input : List Item) → Drives stands alts machine waiter input → OnWalk (outs (setup machine)) stands (alts machine) new next (counted_samples input) (counted_samples input ++ more) into
-  on input d = treads (subst (λ (l : List Alt). SaysAlts pair l) d.cond says) (counted_samples input) (subst (λ (l : List Alt). Walks l walk (counted_samples input)) d.cond (begins (counted_samples input) d.waits))
-      (subst (λ (n : ℕ). stands machine (take n (counted_samples input))) (sym from) d.machine_stands)
-
+-- the walk of a driver is a step over the samples that it consumed
+module _ {L S : Type 0} (setup : L → S) (outs : S → List ℕ → List Out) (stands : L → List ℕ → Type 0) (alts : L → List Alt) (machine new : L) (waiter later : Waiter) (asked : List Alt) (next : Walk) (more : List ℕ) (into : List Out)
+    (on : (input : List Item) → Drives stands alts machine waiter input → OnWalk (outs (setup machine)) stands asked new next (counted_samples input) (counted_samples input ++ more) into)
+    (ends : (input : List Item) → Drives stands alts machine waiter input → (list : List ℕ) → Walks asked next list → Waits later list) (there : wait_from later ≡ walk_from next)
+    (asks : (input : List Item) → Drives stands alts machine waiter input → alts_of later ≡ alts new) where
   counted : (input : List Item) → Drives stands alts machine waiter input → counted_samples (input ++ map Sample more) ≡ counted_samples input ++ more
   counted input d =
       let o = on input d in
       let room : length more ≤ 2 ^ 60 - length (counted_samples input) = omega (arith, o.waits.count, length-append (counted_samples input) more) in
       counted_more_samples input more ∙ ap (λ (l : List ℕ). counted_samples input ++ l) (take_all (2 ^ 60 - length (counted_samples input)) more room)
 
-  -- the walk of a driver is a step over the samples that it consumed
-  pub walk_steps : StepsRuns (Drives stands alts machine waiter) (Drives stands alts new later) (λ input. outs (setup machine) (counted_samples input)) more None into
-  walk_steps = record {
+  walked_on : StepsRuns (Drives stands alts machine waiter) (Drives stands alts new later) (λ input. outs (setup machine) (counted_samples input)) more None into
+  walked_on = record {
     front = map Sample more;
     split = sym (append-nil (map Sample more));
     consumes = λ input d.
         let o = on input d in
         let is = sym (counted input d) in
         record {
-          waits = subst (λ (l : List ℕ). Waits later l) is (ends (counted_samples input ++ more) (subst (λ (l : List Alt). Walks l next (counted_samples input ++ more)) (sym d.cond) o.waits));
+          waits = subst (λ (l : List ℕ). Waits later l) is (ends input d (counted_samples input ++ more) o.waits);
           machine_stands = subst (λ (n : ℕ). stands new (take n (counted_samples (input ++ map Sample more)))) (sym there) (subst (λ (l : List ℕ). stands new (take (walk_from next) l)) is o.machine_stands);
-          cond = asks d.cond;
+          cond = asks input d;
         };
     gives = λ input d. ap (outs (setup machine)) (counted input d) ∙ (on input d).gives;
   }
+
+module _ {L S : Type 0} (setup : L → S) (outs : S → List ℕ → List Out) (stands : L → List ℕ → Type 0) (alts : L → List Alt) (machine new : L) (waiter later : Waiter) (walk next : Walk) (more : List ℕ) (into : List Out)
+    (begins : (list : List ℕ) → Waits waiter list → Walks (alts_of waiter) walk list) (from : walk_from walk ≡ wait_from waiter) (there : wait_from later ≡ walk_from next) where
+  -- where it began
+  walk_begins : (input : List Item) → Drives stands alts machine waiter input → Walks (alts machine) walk (counted_samples input)
+  walk_begins input d = subst (λ (l : List Alt). Walks l walk (counted_samples input)) d.cond (begins (counted_samples input) d.waits)
+
+  walk_stands : (input : List Item) → Drives stands alts machine waiter input → stands machine (take (walk_from walk) (counted_samples input))
+  walk_stands input d = subst (λ (n : ℕ). stands machine (take n (counted_samples input))) (sym from) d.machine_stands
+
+  -- by masks
+  pub walk_steps : (pair : Pair) → SaysAlts pair (alts_of waiter)
+      → (SaysAlts pair (alts machine) → (list : List ℕ) → Walks (alts machine) walk list → stands machine (take (walk_from walk) list) → OnWalk (outs (setup machine)) stands (alts machine) new next list (list ++ more) into)
+      → ((list : List ℕ) → Walks (alts_of waiter) next list → Waits later list) → (alts_of waiter ≡ alts machine → alts_of later ≡ alts new)
+      → StepsRuns (Drives stands alts machine waiter) (Drives stands alts new later) (λ input. outs (setup machine) (counted_samples input)) more None into
+  walk_steps pair says treads ends asks =
+      walked_on setup outs stands alts machine new waiter later (alts machine) next more into
+      (λ input d. treads (subst (λ (l : List Alt). SaysAlts pair l) d.cond says) (counted_samples input) (walk_begins input d) (walk_stands input d))
+      (λ input d list on. ends list (subst (λ (l : List Alt). Walks l next list) (sym d.cond) on)) there (λ input d. asks d.cond)
+
+  -- over stops of waits for a time
+  pub timed_steps : Strides (outs (setup machine)) stands alts machine new walk next [] into more → ((list : List ℕ) → Walks (alts new) next list → Waits later list) → alts_of later ≡ alts new
+      → StepsRuns (Drives stands alts machine waiter) (Drives stands alts new later) (λ input. outs (setup machine) (counted_samples input)) more None into
+  timed_steps strides ends asks =
+      walked_on setup outs stands alts machine new waiter later (alts new) next more into
+      (λ input d. strides (counted_samples input) (counted_samples input)
+      (record { waits = walk_begins input d; machine_stands = walk_stands input d; gives = sym (append-nil (outs (setup machine) (counted_samples input))) }))
+      (λ input d list on. ends list on) there (λ input d. asks)
 
 -- nothing was consumed
 pub rests_runs : {before : List Item → Type 0} {outputs : List Item → List Out} {samples : List ℕ} {rest : Option Run} → map Sample samples ≡ left_items (left_feed rest) → StepsRuns before before outputs samples rest []
@@ -124,3 +149,8 @@ module _ {L S : Type 0} (setup : L → S) (outs : S → List ℕ → List Out) (
       let room : length more ≤ 2 ^ 60 - length (counted_samples input) = omega (arith, len, count, later.few) in
       through setup outs stands alts quiet machine waiter input d later more (map Sample more)
       (counted_more_samples input more ∙ ap (λ (l : List ℕ). counted_samples input ++ l) (take_all (2 ^ 60 - length (counted_samples input)) more room)) (waits (counted_samples input) d.waits) from same
+
+-- how many items are left of a run
+pub left_count : (rest : Option Run) → length (left_items (left_feed rest)) ≡ rest_len rest
+left_count None = refl
+left_count (Some run) = length-map (samples run) Sample ∙ samples_len run

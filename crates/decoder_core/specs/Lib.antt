@@ -5,6 +5,7 @@ pub mod Packets
 pub mod Marks
 pub mod Driving
 pub mod Treading
+pub mod Striding
 pub mod Trees
 pub mod Keeping
 pub mod laws

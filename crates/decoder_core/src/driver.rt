@@ -3,9 +3,10 @@ ghost use Rattle.std.specs.Prelude.{◌≡◌, ◌≤◌, ◌<◌, ◌+◌, ◌^
 ghost use Rattle.std.specs.Prelude.{replicate, take, ◌≢◌, ◌-◌, true, false, IfSome};
 ghost use Rattle.la_base.specs.Samples.{samples};
 ghost use Rattle.la_base.specs.declared.wires.Wire.TheVariants.{Logic};
-ghost use Rattle.wait_cond.specs.Conds.{IsExact};
+ghost use Rattle.wait_cond.specs.Conds.{IsExact, IsTimer};
 ghost use Rattle.la_base.specs.Runs.{samples_of};
 ghost use Rattle.wait_cond.specs.Waiting.{Waits, alts_of, wait_from, consumed_by, last_of};
+ghost use Rattle.wait_cond.specs.Waiting.{rest_len, rest_samples};
 ghost use Rattle.decoder_core.specs.Inputs.{Item, Sample, counted_samples, items_of, left_feed};
 ghost use Rattle.decoder_core.specs.Inputs.{left_items};
 ghost use Rattle.decoder_core.specs.Driving.{LeavesFewer, Passes, ReachesStop, Steps, StepsRuns};
@@ -13,6 +14,7 @@ ghost use Rattle.decoder_core.specs.Driving.{StopsFirst};
 ghost use Rattle.decoder_core.specs.Driving.{Drives, Sleeps, SameState};
 ghost use Rattle.decoder_core.specs.laws.CountedLaws.{nothing_counted, front_counted, few_counted};
 
+use crate::timed::walk_timed;
 use crate::walks::walk_runs;
 use crate::{LogicMachine, Machine, Outs, Taken};
 use la_base::{Feed, Run, Wire};
@@ -125,6 +127,109 @@ impl<L: LogicMachine> Driver<L> {
         Taken {
             count: walked.count,
             rest: self.pass_behind(runs[walked.count - 1]),
+        }
+    }
+
+    // Consumes runs while a time alone is waited for, over many stops. It isn't inlined, so that the
+    // walk has its registers.
+    #[inline(never)]
+    fn step_timed(&mut self, skip: u64, runs: &[Run], into: &mut Outs) -> Taken
+        requires empty { into.old ≡ [] }
+        requires timer { IsTimer (L.alts self.old.machine) skip }
+        requires some { consumed_by self.old.waiter ≢ 0 }
+        ensures setup { L.setup self.new.machine ≡ L.setup self.old.machine }
+        ensures within { result.count ≤ length runs.now }
+        ensures none { result.count ≡ 0 → into.new ≡ [] }
+        ensures steps { StepsRuns
+            (Drives L.stands L.alts self.old.machine self.old.waiter)
+            (Drives L.stands L.alts self.new.machine self.new.waiter)
+            (λ input. L.outs (L.setup self.old.machine) (counted_samples input))
+            (samples_of (take result.count runs.now)) result.rest into.new }
+        ensures fewer { LeavesFewer (samples_of (take result.count runs.now)) result.rest }
+    {
+        let mut walk = self.waiter.walk();
+        let strode = walk_timed(&mut self.machine, &mut walk, skip, runs, into);
+        self.waiter.take_stop();
+        self.machine.wait(&mut self.waiter);
+        self.waiter.put(walk);
+        Taken {
+            count: strode.count,
+            rest: self.pass_left(strode.rest),
+        }
+    }
+
+    // The same where a time alone may be waited for; where it isn't, no run is taken.
+    #[inline(always)]
+    fn step_skipping(&mut self, runs: &[Run], into: &mut Outs) -> Taken
+        requires { into.old ≡ [] }
+        ensures setup { L.setup self.new.machine ≡ L.setup self.old.machine }
+        ensures within { result.count ≤ length runs.now }
+        ensures none { result.count ≡ 0 → into.new ≡ [] }
+        ensures steps { StepsRuns
+            (Drives L.stands L.alts self.old.machine self.old.waiter)
+            (Drives L.stands L.alts self.new.machine self.new.waiter)
+            (λ input. L.outs (L.setup self.old.machine) (counted_samples input))
+            (samples_of (take result.count runs.now)) result.rest into.new }
+        ensures fewer { LeavesFewer (samples_of (take result.count runs.now)) result.rest }
+    {
+        let skip = self.machine.skip();
+        if skip == 0 {
+            return Taken {
+                count: 0,
+                rest: None,
+            };
+        }
+        if self.waiter.consumed() == 0 {
+            return Taken {
+                count: 0,
+                rest: None,
+            };
+        }
+        self.step_timed(skip, runs, into)
+    }
+
+    // Consumes runs where no time alone is waited for, at least one where there is one.
+    #[inline(always)]
+    fn step_others(&mut self, runs: &[Run], into: &mut Outs) -> Taken
+        requires { into.old ≡ [] }
+        ensures setup { L.setup self.new.machine ≡ L.setup self.old.machine }
+        ensures within { result.count ≤ length runs.now }
+        ensures some { 0 < length runs.now → 0 < result.count }
+        ensures steps { StepsRuns
+            (Drives L.stands L.alts self.old.machine self.old.waiter)
+            (Drives L.stands L.alts self.new.machine self.new.waiter)
+            (λ input. L.outs (L.setup self.old.machine) (counted_samples input))
+            (samples_of (take result.count runs.now)) result.rest into.new }
+        ensures fewer { LeavesFewer (samples_of (take result.count runs.now)) result.rest }
+    {
+        if self.waiter.is_exact() {
+            let taken = self.step_exact(runs, into);
+            if taken.count > 0 {
+                return taken;
+            }
+        }
+        self.step_any(runs, into)
+    }
+
+    // Consumes what is left of a run where it is plain that it has no stop, or answers it.
+    #[inline(always)]
+    fn pass_left(&mut self, left: Option<Run>) -> Option<Run>
+        ensures setup { L.setup self.new.machine ≡ L.setup self.old.machine }
+        ensures steps { StepsRuns
+            (Drives L.stands L.alts self.old.machine self.old.waiter)
+            (Drives L.stands L.alts self.new.machine self.new.waiter)
+            (λ input. L.outs (L.setup self.old.machine) (counted_samples input))
+            (rest_samples left) result [] }
+        ensures few { rest_len result ≤ rest_len left }
+    {
+        match left {
+            Some(rest) => {
+                if self.pass_rest(rest) {
+                    return None;
+                }
+                Some(rest)
+            }
+            None => None,
         }
     }
 
@@ -289,13 +394,11 @@ impl<L: LogicMachine> Machine for Driver<L> {
     }
 
     fn step_runs(&mut self, runs: &[Run], into: &mut Outs) -> Taken {
-        if self.waiter.is_exact() {
-            let taken = self.step_exact(runs, into);
-            if taken.count > 0 {
-                return taken;
-            }
+        let taken = self.step_skipping(runs, into);
+        if taken.count > 0 {
+            return taken;
         }
-        self.step_any(runs, into)
+        self.step_others(runs, into)
     }
 
     fn step_run(&mut self, run: Run, into: &mut Outs) -> Option<Run> {

@@ -13,6 +13,7 @@ mod laws;
 mod machine;
 mod outputs;
 mod outs;
+mod timed;
 mod walks;
 
 pub use driver::{Driver, one_input_makes_one_driver};

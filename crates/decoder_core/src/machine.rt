@@ -1,11 +1,11 @@
 // What a decoder is, by the outputs of its whole input.
 ghost use Rattle.std.specs.Prelude.{◌≡◌, ◌≤◌, ◌<◌, ◌+◌, ◌^◌, [], ◌∷◌, ◌++◌, ℕ, List, length, take};
-ghost use Rattle.std.specs.Prelude.{false};
+ghost use Rattle.std.specs.Prelude.{false, ◌≢◌};
 ghost use Rattle.la_base.specs.Runs.{samples_of};
 ghost use Rattle.la_base.specs.declared.wires.Out.{Out};
 ghost use Rattle.la_base.specs.declared.wires.Wire.{Wire};
 ghost use Rattle.wait_cond.specs.declared.alt.Alt.{Alt};
-ghost use Rattle.wait_cond.specs.Conds.{cond_alts};
+ghost use Rattle.wait_cond.specs.Conds.{IsTimer, cond_alts};
 ghost use Rattle.wait_cond.specs.Waiting.{Waits, alts_of, wait_from, consumed_by, last_of};
 ghost use Rattle.decoder_core.specs.Inputs.{Item, left_feed};
 ghost use Rattle.decoder_core.specs.Promises.{IsFloor, GivesFrom, GivesNothing, GivesOn};
@@ -77,6 +77,15 @@ pub trait LogicMachine: Configured {
         ensures loud { IsLoud (outs (Self.setup self.old)) (stands self.old)
             (alts self.old) at value met into.old into.new }
         ensures waits { result ≡ false → alts self.new ≡ alts self.old };
+
+    /// The samples that it skips up to its next stop, where it waits for a time alone; else 0, and
+    /// it may answer 0 there too. It is for speed alone.
+    #[inline(always)]
+    fn skip(&self) -> u64
+        ensures timer { result ≢ 0 → IsTimer (alts self.now) result }
+    {
+        0
+    }
 
     /// At most the start of every note and of every packet that is still to come, where `next` is
     /// the number of samples consumed so far; and at least the start of what has begun and isn't

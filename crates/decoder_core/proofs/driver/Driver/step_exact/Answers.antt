@@ -14,8 +14,8 @@ returns-then-not-walked-clause-steps g c =
     let same = is_false c.walk_runs-walked.result.anew c.if-not-walked.true in
     subst (λ (l : List ℕ). StepsRuns (Drives m.stands m.alts s.machine s.waiter) (Drives m.stands m.alts c.walk_runs-walked.new.machine c.put.new.self) (λ input. m.outs (g.L.Configured.setup s.machine) (counted_samples input)) l None c.walk_runs-walked.new.into)
     (sym (walked.treads.whole same))
-    (walk_steps g.L.Configured.setup m.outs m.stands m.alts c.pair-pair.result s.machine c.walk_runs-walked.new.machine s.waiter c.put.new.self c.walk-walk.result c.walk_runs-walked.new.walk walked.treads.more c.walk_runs-walked.new.into
-    (record { says = c.pair-pair.ensures.says; stands = c.pair-pair.ensures.stands }) c.walk-walk.ensures.waits c.walk-walk.ensures.from walked.treads.treads c.put.ensures.waits c.put.ensures.from
+    (walk_steps g.L.Configured.setup m.outs m.stands m.alts s.machine c.walk_runs-walked.new.machine s.waiter c.put.new.self c.walk-walk.result c.walk_runs-walked.new.walk walked.treads.more c.walk_runs-walked.new.into
+    c.walk-walk.ensures.waits c.walk-walk.ensures.from c.put.ensures.from c.pair-pair.result (record { says = c.pair-pair.ensures.says; stands = c.pair-pair.ensures.stands }) walked.treads.treads c.put.ensures.waits
     (λ cond. c.put.ensures.alts ∙ cond ∙ sym (walked.alts same)))
 
 pub wait-requires : goal.wait-requires
@@ -31,8 +31,8 @@ returns-clause-steps g c =
     let machine = c.walk_runs-walked.new.machine in
     let run = c.index-runs-walked.result in
     let new = c.pass_behind.new.self in
-    let there = walk_steps g.L.Configured.setup m.outs m.stands m.alts c.pair-pair.result s.machine machine s.waiter c.wait.new.waiter c.walk-walk.result c.walk_runs-walked.new.walk treads.more into
-    (record { says = c.pair-pair.ensures.says; stands = c.pair-pair.ensures.stands }) c.walk-walk.ensures.waits c.walk-walk.ensures.from treads.treads (λ list on. c.wait.ensures.waits list (c.put.ensures.waits list on)) (c.wait.ensures.from ∙ c.put.ensures.from)
+    let there = walk_steps g.L.Configured.setup m.outs m.stands m.alts s.machine machine s.waiter c.wait.new.waiter c.walk-walk.result c.walk_runs-walked.new.walk treads.more into
+    c.walk-walk.ensures.waits c.walk-walk.ensures.from (c.wait.ensures.from ∙ c.put.ensures.from) c.pair-pair.result (record { says = c.pair-pair.ensures.says; stands = c.pair-pair.ensures.stands }) treads.treads (λ list on. c.wait.ensures.waits list (c.put.ensures.waits list on))
     (λ cond. c.wait.ensures.alts) in
     let rest = subst (λ (o : List Item → List Out). StepsRuns (Drives m.stands m.alts machine c.wait.new.waiter) (Drives m.stands m.alts new.machine new.waiter) o (replicate (run.len - 1) run.value) c.pass_behind.result [])
     (ap (λ setup input. m.outs setup (counted_samples input)) walked.setup) c.pass_behind.ensures.steps in

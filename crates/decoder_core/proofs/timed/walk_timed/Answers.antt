@@ -1,0 +1,96 @@
+use Rattle.std.proofs.Common.{◌≡◌, ◌+◌, ◌-◌, [], ◌++◌, ℕ, List, length, take, replicate, sym, ◌∙◌, ap, subst, arith, append_assoc}
+use Rattle.std.proofs.lemmas.List.{append-nil}
+use Rattle.la_base.specs.Runs.{samples_of}
+use Rattle.la_base.specs.declared.wires.Out.{Out}
+use Rattle.la_base.proofs.RunLemmas.{count_more, samples_more}
+use Rattle.wait_cond.specs.Walks.{walked}
+use Rattle.wait_cond.specs.declared.walk.Walk.{Walk}
+use Rattle.decoder_core.specs.Striding.{Strides, Timed}
+use Rattle.decoder_core.proofs.Counting.{samples_are}
+use Rattle.decoder_core.proofs.Striding.{parts, stride_pass, strides_then, timed_behind, timed_pass}
+use Rattle.decoder_core.proofs.timed.walk_timed.Goals as goal
+use Rattle.decoder_core.proofs.timed.walk_timed.Goals.{then-run-left, else-run-left+else-not-has_room+else-came}
+
+pub returns-then-came-clause-fewer : goal.returns-then-came-clause-fewer
+returns-then-came-clause-fewer g c = λ some.
+    let runs = c.args.runs.now in
+    let more = count_more runs c.loop-place.place c.index-runs-place.result (omega (arith, c.loop-place-test.true)) c.index-runs-place.is in
+    omega (arith, more, c.rest_of.ensures.len, c.stride-came.ensures.rest)
+
+pub returns-then-came-clause-strides : goal.returns-then-came-clause-strides
+returns-then-came-clause-strides g c =
+    let m = g.L.LogicMachine in
+    let i = c.loop-place.invariant in
+    let runs = c.args.runs.now in
+    let run = c.index-runs-place.result in
+    let came = c.stride-came.result in
+    let so_far = samples_of (take c.loop-place.place runs) in
+    let some = replicate (run.len - came.rest) run.value in
+    record {
+      more = so_far ++ some;
+      split = samples_more runs c.loop-place.place run (omega (arith, c.loop-place-test.true)) c.index-runs-place.is
+          ∙ ap (λ (l : List ℕ). so_far ++ l) (parts run came.rest c.stride-came.ensures.rest ∙ ap (λ (l : List ℕ). some ++ l) (sym c.rest_of.ensures.samples))
+          ∙ sym (append_assoc so_far some _);
+      strides = strides_then (m.outs (g.L.Configured.setup c.args.machine.now)) m.stands m.alts c.args.machine.now c.loop-place.machine c.stride-came.new.machine c.args.walk.now c.loop-place.walk c.stride-came.new.walk [] c.loop-place.into c.stride-came.new.into so_far some i.strides
+          (subst (λ (s : g.row.L-Setup.Denot). Strides (m.outs s) m.stands m.alts c.loop-place.machine c.stride-came.new.machine c.loop-place.walk c.stride-came.new.walk c.loop-place.into c.stride-came.new.into some) i.setup c.stride-came.ensures.strides);
+    }
+
+pub returns-clause-strides : goal.returns-clause-strides
+returns-clause-strides g c =
+    let runs = c.args.runs.now in
+    let end : c.loop-place.place ≡ length runs = omega (arith, c.loop-place-test.false, c.loop-place.auto.place-end) in
+    record {
+      more = samples_of (take c.loop-place.place runs);
+      split = ap (λ (n : ℕ). samples_of (take n runs)) (sym end) ∙ sym (append-nil (samples_of (take c.loop-place.place runs)));
+      strides = c.loop-place.invariant.strides;
+    }
+
+pub loop-place-preserved : goal.loop-place-preserved
+loop-place-preserved g c =
+    let m = g.L.LogicMachine in
+    let i = c.loop-place.invariant in
+    let runs = c.args.runs.now in
+    let at = c.loop-place.place in
+    let run = c.index-runs-place.result in
+    let walk = c.loop-place.walk in
+    let so_far = samples_of (take at runs) in
+    let next = samples_of (take (at + 1) runs) in
+    let longer = sym (samples_more runs at run (omega (arith, c.loop-place-test.true)) c.index-runs-place.is) in
+    let setup = g.L.Configured.setup c.args.machine.now in
+    elim c.if-run-left.branch [
+      | then-run-left w ↦ record {
+        setup = ap g.L.Configured.setup w.machine-is ∙ i.setup;
+        nothing = λ none. absurd (omega (arith, none));
+        room = omega (arith, i.room, ap (λ (l : List Out). length l) w.into-is);
+        some = λ none. i.some (omega (arith, none, ap walked w.walk-is, w.pass.ensures.walked));
+        timed = subst (λ (machine : g.row.L.Denot). Timed (m.alts machine) c.if-run-left.walk c.if-run-left.left) (sym w.machine-is)
+            (subst (λ (n : Walk). Timed (m.alts c.loop-place.machine) n c.if-run-left.left) (sym w.walk-is)
+            (subst (λ (n : ℕ). Timed (m.alts c.loop-place.machine) w.pass.new.self n) (sym w.left-is)
+            (timed_pass (m.alts c.loop-place.machine) walk w.pass.new.self c.loop-place.left run.len i.timed run.not_empty (omega (arith, w.if-run-left.true)) w.pass.ensures.walked w.pass.ensures.from)));
+        strides = subst (λ (machine : g.row.L.Denot). Strides (m.outs setup) m.stands m.alts c.args.machine.now machine c.args.walk.now c.if-run-left.walk [] c.if-run-left.into next) (sym w.machine-is)
+            (subst (λ (n : Walk). Strides (m.outs setup) m.stands m.alts c.args.machine.now c.loop-place.machine c.args.walk.now n [] c.if-run-left.into next) (sym w.walk-is)
+            (subst (λ (l : List Out). Strides (m.outs setup) m.stands m.alts c.args.machine.now c.loop-place.machine c.args.walk.now w.pass.new.self [] l next) (sym w.into-is)
+            (stride_pass g.L.Configured.setup m.outs m.stands m.alts g.met.L.LogicMachine.quiet setup c.args.machine.now c.loop-place.machine c.args.walk.now walk w.pass.new.self [] c.loop-place.into so_far next run c.loop-place.left i.strides i.setup
+            (timed_behind (m.alts c.loop-place.machine) walk c.loop-place.left run.value i.timed) longer (omega (arith, w.if-run-left.true)) w.pass.ensures.none w.pass.ensures.from)));
+      }
+      | else-run-left+else-not-has_room+else-came w ↦
+          let came = w.stride-came in
+          let none = came.ensures.through w.if-came.false in
+          let whole : run.len - came.result.rest ≡ run.len = omega (arith, none) in
+          record {
+            setup = ap g.L.Configured.setup w.machine-is ∙ came.ensures.setup ∙ i.setup;
+            nothing = λ zero. absurd (omega (arith, zero));
+            room = omega (arith, came.ensures.room w.if-came.false, ap (λ (l : List Out). length l) w.into-is);
+            some = λ zero. i.some (omega (arith, zero, ap walked w.walk-is, came.ensures.walked));
+            timed = subst (λ (machine : g.row.L.Denot). Timed (m.alts machine) c.if-run-left.walk c.if-run-left.left) (sym w.machine-is)
+                (subst (λ (n : Walk). Timed (m.alts came.new.machine) n c.if-run-left.left) (sym w.walk-is)
+                (subst (λ (n : ℕ). Timed (m.alts came.new.machine) came.new.walk n) (sym w.left-is) (came.ensures.timed w.if-came.false)));
+            strides = subst (λ (machine : g.row.L.Denot). Strides (m.outs setup) m.stands m.alts c.args.machine.now machine c.args.walk.now c.if-run-left.walk [] c.if-run-left.into next) (sym w.machine-is)
+                (subst (λ (n : Walk). Strides (m.outs setup) m.stands m.alts c.args.machine.now came.new.machine c.args.walk.now n [] c.if-run-left.into next) (sym w.walk-is)
+                (subst (λ (l : List Out). Strides (m.outs setup) m.stands m.alts c.args.machine.now came.new.machine c.args.walk.now came.new.walk [] l next) (sym w.into-is)
+                (subst (λ (l : List ℕ). Strides (m.outs setup) m.stands m.alts c.args.machine.now came.new.machine c.args.walk.now came.new.walk [] came.new.into l)
+                (ap (λ (n : ℕ). so_far ++ replicate n run.value) whole ∙ ap (λ (l : List ℕ). so_far ++ l) (sym (samples_are run)) ∙ longer)
+                (strides_then (m.outs setup) m.stands m.alts c.args.machine.now c.loop-place.machine came.new.machine c.args.walk.now walk came.new.walk [] c.loop-place.into came.new.into so_far (replicate (run.len - came.result.rest) run.value) i.strides
+                (subst (λ (s : g.row.L-Setup.Denot). Strides (m.outs s) m.stands m.alts c.loop-place.machine came.new.machine walk came.new.walk c.loop-place.into came.new.into (replicate (run.len - came.result.rest) run.value)) i.setup came.ensures.strides)))));
+          }
+    ]
