@@ -3,8 +3,8 @@
 -- one, and stop bits, which are high. Parities, frame errors and breaks are those of the line
 -- control and line status registers of the 16550; where bits are read is this project's own.
 use Rattle.std.specs.Prelude.{ℕ, ◌+◌, ◌*◌, ◌/◌, ◌%◌, ◌-◌, nat_lt, Bool, false, not, ◌==◌}
-use Rattle.std.specs.Prelude.{if◌then◌else◌, List, [], ◌∷◌, ◌++◌, take, drop, get_or}
-use Rattle.std.specs.List.{list_any, count_by}
+use Rattle.std.specs.Prelude.{if◌then◌else◌, List, [], ◌∷◌, ◌++◌, take, drop, get_or, map}
+use Rattle.std.specs.List.{list_any, count_by, range_with_len}
 use Rattle.la_base.specs.declared.samples.Rate.{Rate}
 use Rattle.la_base.specs.declared.wires.Out.{Out}
 use Rattle.la_base.specs.declared.wires.PacketKind.TheVariants.{UartFrame, UartBreak}
@@ -44,6 +44,10 @@ last_bit opts = before_stop opts + opts.stop - 1
 -- adds up
 abbrev pub bit_point : UartOpts → Rate → ℕ → ℕ
 bit_point opts rate i = point rate.num rate.den opts.baud opts.sp i
+
+-- where each bit is read that a frame can have
+abbrev pub points_of : UartOpts → Rate → List ℕ
+points_of opts rate = map (bit_point opts rate) (range_with_len 0 13)
 
 -- how many samples a break has at least: those of all bits of a frame
 abbrev pub break_length : UartOpts → Rate → ℕ

@@ -1,6 +1,7 @@
 // What a decoder of a serial line is made of.
-ghost use Rattle.std.specs.Prelude.{◌≤◌, ◌^◌};
+ghost use Rattle.std.specs.Prelude.{◌≡◌, ◌≤◌, ◌^◌};
 ghost use Rattle.la_base.specs.declared.samples.TheConstants.{MOST_PINS};
+ghost use Rattle.dec_uart.specs.Frames.{last_bit, points_of};
 ghost use Rattle.dec_uart.specs.Ranges.{InRange, FastEnough};
 
 use crate::UartOpts;
@@ -40,4 +41,10 @@ pub enum Held {
 pub struct Uart {
     pub(crate) line: Line,
     pub(crate) held: Held,
+    // where the bits of a frame are read, and the number of the last: what the line says, so that
+    // nothing is divided at a stop
+    pub(crate) points: [u64; 13],
+    pub(crate) last: u8,
+    ghost points_are: { points ≡ points_of line.opts line.rate },
+    ghost last_is: { last ≡ last_bit line.opts },
 }

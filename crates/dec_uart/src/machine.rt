@@ -4,13 +4,12 @@ ghost use Rattle.la_base.specs.declared.wires.Wire.TheVariants.{Uart as UartWire
 ghost use Rattle.dec_uart.specs.Frames.{uart_outs, uart_near};
 ghost use Rattle.dec_uart.specs.Opening.{StandsFor, alts_of};
 ghost use Rattle.dec_uart.specs.laws.LineLaws.{uart_on_wire};
-ghost use Rattle.dec_uart.specs.laws.Machine.{held_alt, held_near};
+ghost use Rattle.dec_uart.specs.laws.Machine.{held_alt, held_near, held_time};
 ghost use Rattle.dec_uart.specs.laws.MachineLaws.{uart_quiet, uart_nothing, uart_prefix};
 ghost use Rattle.dec_uart.specs.laws.MachineLaws.{uart_order, uart_few, one_uart, uart_one_stop};
 
 use crate::outputs::give;
-use crate::points::{bit_point, last_bit};
-use crate::steps::step;
+use crate::steps::{step, takes_point};
 use crate::{Held, Line, Uart};
 use decoder_core::{Configured, Driver, LogicMachine, Outs, is_send};
 use la_base::{Word, mask, pin};
@@ -40,21 +39,32 @@ fn alt(high: Word, fall: Word, skip: u64) -> Alt
     }
 }
 
-// What is waited for: a frame, its next point, or the end of a line that stays low.
-fn held_alt(line: Line, held: Held) -> Alt
-    ensures { result ≡ held_alt line.opts line.rate held }
-{
-    match held {
-        Held::Idle => alt(0, mask(line.opts.rx), 0),
-        Held::Inside {
-            points,
-            reached,
-            ..
-        } => {
-            let i = (points as u64).min(last_bit(line));
-            alt(0, 0, bit_point(line, i).saturating_sub(reached))
+impl Uart {
+    // How many samples come up to the next point of the frame that is open, that one too; 0 where
+    // none is open.
+    #[inline(always)]
+    fn time(&self) -> u64
+        ensures { result ≡ held_time self.now.line.opts self.now.line.rate self.now.held }
+    {
+        match self.held {
+            Held::Inside {
+                points,
+                reached,
+                ..
+            } => self.points[points.min(self.last) as usize].saturating_sub(reached),
+            Held::Idle | Held::Low { .. } => 0,
         }
-        Held::Low { .. } => alt(mask(line.opts.rx), 0, 0),
+    }
+
+    // What is waited for: a frame, its next point, or the end of a line that stays low.
+    fn alt(&self) -> Alt
+        ensures { result ≡ held_alt self.now.line.opts self.now.line.rate self.now.held }
+    {
+        match self.held {
+            Held::Idle => alt(0, mask(self.line.opts.rx), 0),
+            Held::Inside { .. } => alt(0, 0, self.time()),
+            Held::Low { .. } => alt(mask(self.line.opts.rx), 0, 0),
+        }
     }
 }
 
@@ -87,20 +97,28 @@ impl LogicMachine for Uart {
     ghost alts = { λ machine. alts_of machine };
 
     fn cond(&self) -> Cond {
-        Cond::one(held_alt(self.line, self.held))
+        Cond::one(self.alt())
     }
 
     fn wait(&self, waiter: &mut Waiter) {
-        waiter.renew_one(held_alt(self.line, self.held));
+        waiter.renew_one(self.alt());
     }
 
     // Inlined into both steps of a driver.
     #[inline(always)]
     fn resume(&mut self, at: u64, value: Word, _met: u8, into: &mut Outs) -> bool {
         let level = pin(value, self.line.opts.rx);
+        if takes_point(&mut self.held, self.last, at, level) {
+            return true;
+        }
         give(self.line, self.held, at, level, into);
         self.held = step(self.line, self.held, at, level);
         true
+    }
+
+    #[inline(always)]
+    fn skip(&self) -> u64 {
+        self.time()
     }
 
     fn floor(&self, next: u64) -> u64 {

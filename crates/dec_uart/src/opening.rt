@@ -4,6 +4,7 @@ ghost use Rattle.la_base.specs.declared.samples.TheConstants.{MOST_PINS};
 ghost use Rattle.dec_uart.specs.Opening.{Opens};
 ghost use Rattle.dec_uart.specs.Ranges.{InRange, FastEnough};
 
+use crate::points::{last_bit, points_of};
 use crate::{Held, Line, Uart, UartOpts};
 use decoder_core::OptFault;
 use la_base::{MOST_PINS, Rate};
@@ -60,6 +61,8 @@ impl Uart {
         Ok(Uart {
             line,
             held: Held::Idle,
+            points: points_of(line),
+            last: last_bit(line) as u8,
         })
     }
 }

@@ -1,7 +1,7 @@
 // The bits of a frame, and where they are read.
 ghost use Rattle.std.specs.Prelude.{◌≡◌, ◌≤◌};
 ghost use Rattle.dec_uart.specs.Frames.{parity_of, parity_bits, before_stop, last_bit, bit_point};
-ghost use Rattle.dec_uart.specs.Frames.{break_length};
+ghost use Rattle.dec_uart.specs.Frames.{break_length, points_of};
 
 use crate::{Line, Parity};
 use rate_math::{point, samples_of_bits};
@@ -52,6 +52,28 @@ pub fn bit_point(line: Line, i: u64) -> u64
     ensures { result ≡ bit_point line.opts line.rate i }
 {
     point(line.rate, line.opts.baud, line.opts.sp, i)
+}
+
+/// Where each bit is read that a frame can have.
+pub fn points_of(line: Line) -> [u64; 13]
+    ensures { result ≡ points_of line.opts line.rate }
+{
+    let at = |i| bit_point(line, i);
+    [
+        at(0),
+        at(1),
+        at(2),
+        at(3),
+        at(4),
+        at(5),
+        at(6),
+        at(7),
+        at(8),
+        at(9),
+        at(10),
+        at(11),
+        at(12),
+    ]
 }
 
 /// How many samples a break has at least.

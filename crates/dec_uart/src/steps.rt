@@ -1,6 +1,7 @@
 // How a stop changes what is held.
 ghost use Rattle.std.specs.Prelude.{◌≡◌, ◌≤◌};
 ghost use Rattle.dec_uart.specs.laws.Machine.{held_after, point_held, stop_held};
+ghost use Rattle.dec_uart.specs.laws.Machine.{is_point, point_taken};
 
 use crate::frames::with_level;
 use crate::points::last_bit;
@@ -59,5 +60,32 @@ pub fn step(line: Line, held: Held, at: u64, level: bool) -> Held
             point_held(line, start, i, word, at, level)
         }
         Held::Low { .. } => Held::Idle,
+    }
+}
+
+/// Takes a point in place that gives nothing and isn't the last, and answers whether it did; else
+/// nothing is changed.
+#[inline(always)]
+pub fn takes_point(held: &mut Held, last: u8, at: u64, level: bool) -> bool
+    requires { last ≤ 12 }
+    ensures answers { result ≡ is_point last held.old level }
+    ensures keeps { held.new ≡ point_taken last held.old at level }
+{
+    match held {
+        Held::Inside {
+            start,
+            points,
+            word,
+            reached,
+        } => {
+            if *points >= last || (*points == 0 && level) {
+                return false;
+            }
+            *word = with_level(*points as u64, *word, level);
+            *points += 1;
+            *reached = at.saturating_sub(*start);
+            true
+        }
+        Held::Idle | Held::Low { .. } => false,
     }
 }

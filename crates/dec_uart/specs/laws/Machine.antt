@@ -172,3 +172,26 @@ abbrev pub held_near : Held → ℕ → ℕ
 held_near held.Idle next = next
 held_near (held.Inside f i word reached) next = f
 held_near (held.Low f) next = f
+
+-- how many samples come up to the next point of the frame that is open, that one too; 0 where none
+-- is open
+abbrev pub held_time : UartOpts → Rate → Held → ℕ
+held_time opts rate held.Idle = 0
+held_time opts rate (held.Inside f i word reached) =
+    bit_point opts rate (min i (last_bit opts)) - reached
+held_time opts rate (held.Low f) = 0
+
+-- whether a stop is a point before the last that gives nothing, and what is held where such a point
+-- is taken, and no other
+abbrev pub is_point : ℕ → Held → Bool → Bool
+is_point last held.Idle level = false
+is_point last (held.Inside f i word reached) level = nat_lt i last && not ((i == 0) && level)
+is_point last (held.Low f) level = false
+
+abbrev pub point_taken : ℕ → Held → ℕ → Bool → Held
+point_taken last held.Idle at level = held.Idle
+point_taken last (held.Inside f i word reached) at level =
+    if nat_lt i last && not ((i == 0) && level)
+    then held.Inside f (i + 1) (with_level i word level) (at - f)
+    else held.Inside f i word reached
+point_taken last (held.Low f) at level = held.Low f

@@ -1,6 +1,9 @@
 -- What a decoder of a serial line that stands for samples answers.
 use Rattle.std.proofs.Common.{◌≡◌, ℕ, ◌+◌, ◌≤◌, List, [], ◌∷◌, ◌++◌, take, length, Option, refl}
 use Rattle.std.proofs.Common.{sym, ◌∙◌, ap, subst}
+use Rattle.std.proofs.Math.Nat.{ℕ_set}
+use mathlib.Core.HLevel.{is_prop→PathP}
+use mathlib.Core.List.{is_set as list_set}
 use Rattle.la_base.specs.Samples.{is_high}
 use Rattle.la_base.specs.declared.samples.Rate.{Rate}
 use Rattle.la_base.specs.declared.wires.Out.{Out}
@@ -19,7 +22,7 @@ use Rattle.dec_uart.specs.declared.held.Held.{Held}
 use Rattle.dec_uart.specs.declared.held.Line.{Line}
 use Rattle.dec_uart.specs.declared.held.Uart.{Uart}
 use Rattle.dec_uart.specs.declared.options.UartOpts.{UartOpts}
-use Rattle.dec_uart.specs.Frames.{shape_of, uart_outs, uart_near}
+use Rattle.dec_uart.specs.Frames.{last_bit, points_of, shape_of, uart_outs, uart_near}
 use Rattle.dec_uart.specs.Opening.{line_of, alts_of, StandsFor}
 use Rattle.dec_uart.specs.Ranges.{InRange, FastEnough}
 use Rattle.dec_uart.specs.laws.Grown.{outs_walked, near_walked}
@@ -154,13 +157,32 @@ module _ (opts : UartOpts) (rate : Rate) {most : ℕ} (ranges : InRange most opt
             ∙ ap (held_of (shape_of opts rate)) stop.keeps,
       )
 
+-- decoders with equal lines that hold the same are equal: the line says the rest
+same_uart : (one other : Uart) → line_of one ≡ line_of other → one.held ≡ other.held → one ≡ other
+same_uart one other line held =
+    let points : one.points ≡ other.points =
+    one.points_are ∙ ap (λ (l : Line). points_of l.opts l.rate) line ∙ sym other.points_are in
+    let last : one.last ≡ other.last =
+    one.last_is ∙ ap (λ (l : Line). last_bit l.opts) line ∙ sym other.last_is in
+    λ i. record {
+      line = line i;
+      held = held i;
+      points = points i;
+      last = last i;
+      points_are = is_prop→PathP (λ j. points j ≡ points_of (line j).opts (line j).rate)
+          (λ j. list_set ℕ_set (points j) (points_of (line j).opts (line j).rate)) one.points_are
+          other.points_are i;
+      last_is = is_prop→PathP (λ j. last j ≡ last_bit (line j).opts)
+          (λ j. ℕ_set (last j) (last_bit (line j).opts)) one.last_is other.last_is i;
+    }
+
 pub one_uart : (one other : Uart) (list : List ℕ) → line_of one ≡ line_of other → StandsFor one list
     → StandsFor other list → one ≡ other
 one_uart one other list same stands also =
     let held : one.held ≡ other.held =
     stands.1 ∙ (λ i. held_of (shape_of (same i).opts (same i).rate)
     (walked (line_walk (shape_of (same i).opts (same i).rate)) list)) ∙ sym also.1 in
-    λ i. record { line = same i; held = held i }
+    same_uart one other same held
 
 pub uart_quiet : (machine : Uart) (seen more : List ℕ) → StandsFor machine seen
     → Rests (alts_of machine) seen more → uart_outs machine.line.opts machine.line.rate
