@@ -1,12 +1,11 @@
 -- Conditions of which masks say all.
-use Rattle.std.proofs.Common.{◌≡◌, ◌≤◌, inl, inr, ℕ, List, [], ◌∷◌, ◌++◌, Some, refl, sym, ◌∙◌, ◌^◌, ◌%◌, bit_and, bit_or, ap, subst, arith, length, slice_get, length-append}
+use Rattle.std.proofs.Common.{◌≡◌, ◌≤◌, inl, inr, ℕ, List, [], ◌∷◌, ◌++◌, Some, refl, sym, ◌∙◌, ◌^◌, ◌%◌, bit_and, bit_or, ap, subst, arith, length, length-append}
 use Rattle.wait_cond.specs.Conds.{IsExact, IsKept, IsTimer, OnlySkips}
 use Rattle.wait_cond.specs.Pairs.{Says, SaysAll}
 use Rattle.std.specs.Int.Bits.{xor_self}
 use Rattle.std.proofs.lemmas.Bool.Decides.{leb_tells}
 use Rattle.la_base.proofs.Halves.{low_bit, no_bit}
 use Rattle.wait_cond.specs.Meets.{AllIn}
-use Rattle.std.specs.Int.{bit_at}
 use Rattle.std.proofs.lemmas.Nat.Bits.{bit_at-zero}
 use Rattle.wait_cond.specs.Watching.{edge_lines, high_lines, AskHigh, NeverMet, Watches}
 use Rattle.wait_cond.specs.declared.alt.Alt.{Alt}

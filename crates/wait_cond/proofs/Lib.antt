@@ -14,3 +14,4 @@ pub mod PairLemmas
 pub mod PairSets
 pub mod Exact
 pub mod Timers
+pub mod FallLemmas

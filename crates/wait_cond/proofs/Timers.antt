@@ -7,9 +7,9 @@ use Rattle.la_base.specs.declared.samples.Run.{Run}
 use Rattle.la_base.specs.Samples.{samples, before_of}
 use Rattle.wait_cond.specs.Conds.{IsTimer}
 use Rattle.wait_cond.specs.Meets.{LinesHold}
-use Rattle.wait_cond.specs.Stops.{IsStop, MetSet, NoneMet}
+use Rattle.wait_cond.specs.Stops.{MetSet, NoneMet}
 use Rattle.wait_cond.specs.Waiting.{Found, WaitsAt}
-use Rattle.wait_cond.specs.Walks.{IsTimeLeft, StopsBehind, Walks}
+use Rattle.wait_cond.specs.Walks.{IsTimeLeft, StopsBehind}
 use Rattle.wait_cond.specs.Watching.{SkipMore}
 use Rattle.wait_cond.specs.declared.alt.Alt.{Alt}
 use Rattle.wait_cond.specs.declared.walk.Walk.{Walk}

@@ -1,5 +1,5 @@
 -- The alternatives of a condition, and what is kept beside them.
-use Rattle.std.specs.Prelude.{ℕ, ◌≡◌, ◌≢◌, ◌≤◌, List, [], ◌∷◌, length, slice_get, Some}
+use Rattle.std.specs.Prelude.{ℕ, ◌≡◌, ◌≢◌, ◌≤◌, ◌<◌, ◌^◌, List, [], ◌∷◌, length, slice_get, Some}
 use Rattle.wait_cond.specs.Pairs.{Says, SaysAll}
 use Rattle.wait_cond.specs.Watching.{Watches, AskHigh, SkipAtLeast}
 use Rattle.wait_cond.specs.declared.alt.Alt.{Alt}
@@ -39,3 +39,17 @@ pub record IsTimer (alts : List Alt) (skip : ℕ) : Type 0 where
   pub is : alts ≡ alt ∷ []
   pub only : OnlySkips alt
   pub skips : alt.skip ≡ skip
+
+-- one alternative alone, which asks these lines of the lower half to fall, and nothing else
+pub record IsFall (alts : List Alt) (lines : ℕ) : Type 0 where
+  pub alt : Alt
+  pub is : alts ≡ alt ∷ []
+  pub low : alt.low ≡ 0
+  pub high : alt.high ≡ 0
+  pub rise : alt.rise ≡ 0
+  pub fall : alt.fall ≡ lines
+  pub edge : alt.edge ≡ 0
+  pub steady : alt.steady ≡ 0
+  pub skip : alt.skip ≡ 0
+  pub lower : lines < 2 ^ 64
+  pub some : lines ≢ 0

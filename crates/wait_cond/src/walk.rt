@@ -1,7 +1,8 @@
 // A wait in the midst of runs.
-ghost use Rattle.std.specs.Prelude.{◌≡◌, ◌≤◌, ◌+◌, ◌-◌, ◌^◌, max, min};
+ghost use Rattle.std.specs.Prelude.{◌≡◌, ◌≤◌, ◌+◌, ◌-◌, ◌^◌, max, min, MatchBool};
+ghost use Rattle.wait_cond.specs.Meets.{AllFall};
 
-use la_base::{Run, Word};
+use la_base::{Run, Word, low_half};
 
 // How many samples may be consumed.
 const MOST_SAMPLES: u64 = 1 << 60;
@@ -25,7 +26,9 @@ impl Walk {
     ghost use Rattle.wait_cond.specs.declared.alt.Alt.{Alt};
     ghost use Rattle.wait_cond.specs.Stops.{MetSet, NoneMet, IsStop};
     ghost use Rattle.wait_cond.specs.Watching.{NeverMet};
-    ghost use Rattle.wait_cond.specs.Walks.{IsTimeLeft, Walks, walked, walk_from, walk_last};
+    ghost use Rattle.wait_cond.specs.Conds.{IsFall};
+    ghost use Rattle.wait_cond.specs.Walks.{IsTimeLeft, StopsBehind, Walks, walked, walk_from};
+    ghost use Rattle.wait_cond.specs.Walks.{walk_last};
 
     /// Whether there is room for a run.
     #[inline(always)]
@@ -124,6 +127,33 @@ impl Walk {
     {
         self.room.min(skip - 1)
     }
+
+    /// How many samples of a value come before the first one at which all of these lines fall, of
+    /// those that there is room for: none, or all of them.
+    #[inline(always)]
+    pub fn fall_left(&self, lines: u64, value: Word) -> u64
+        requires { walked self.now ≢ 0 }
+        ensures { (alts : List Alt) → IsFall alts lines → StopsBehind alts self.now value result }
+    {
+        let before = low_half(self.last);
+        let now = low_half(value);
+        if all_fall(lines, before, now) {
+            0
+        } else {
+            self.room
+        }
+    }
+}
+
+// Whether each of these lines falls.
+#[inline(always)]
+fn all_fall(lines: u64, before: u64, now: u64) -> bool
+    ensures { MatchBool result (AllFall lines before now) (¬ AllFall lines before now) }
+{
+    if lines & before != lines {
+        return false;
+    }
+    lines & now == 0
 }
 
 /// The first sample from the next one on at which so many were skipped, counted from there; where it

@@ -1,5 +1,4 @@
-use Rattle.std.proofs.Common.{◌≡◌, ◌+◌, ◌-◌, ◌^◌, ◌++◌, ℕ, length, subst, arith}
-use Rattle.la_base.specs.Samples.{samples}
+use Rattle.std.proofs.Common.{◌-◌, ◌^◌, arith}
 use Rattle.wait_cond.proofs.Runs.{begun}
 use Rattle.wait_cond.proofs.walk.Walk.stop_behind.Goals as goal
 
