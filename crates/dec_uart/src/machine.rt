@@ -1,5 +1,5 @@
 // A serial line as a decoder of samples: it sleeps from point to point.
-ghost use Rattle.std.specs.Prelude.{◌≡◌, ◌≢◌, ◌∷◌, [], ℕ, List, false};
+ghost use Rattle.std.specs.Prelude.{◌≡◌, ◌≢◌, ◌<◌, ◌^◌, ◌∷◌, [], ℕ, List, false};
 ghost use Rattle.la_base.specs.declared.wires.Wire.TheVariants.{Uart as UartWire};
 ghost use Rattle.dec_uart.specs.Frames.{uart_outs, uart_near};
 ghost use Rattle.dec_uart.specs.Opening.{StandsFor, alts_of};
@@ -68,6 +68,14 @@ impl Uart {
     }
 }
 
+// The line in the lower half of a sample; 0 where it isn't there.
+#[inline(always)]
+fn low_mask(line: u32) -> u64
+    ensures { result ≢ 0 → (result ≡ 2 ^ line) × (result < 2 ^ 64) }
+{
+    if line < 64 { 1 << line } else { 0 }
+}
+
 // Where the frame starts that is open, else the number of samples.
 fn near(held: Held, next: u64) -> u64
     ensures { result ≡ held_near held next }
@@ -119,6 +127,14 @@ impl LogicMachine for Uart {
     #[inline(always)]
     fn skip(&self) -> u64 {
         self.time()
+    }
+
+    #[inline(always)]
+    fn falls(&self) -> u64 {
+        match self.held {
+            Held::Idle => low_mask(self.line.opts.rx),
+            Held::Inside { .. } | Held::Low { .. } => 0,
+        }
     }
 
     fn floor(&self, next: u64) -> u64 {

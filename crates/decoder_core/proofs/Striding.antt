@@ -10,10 +10,9 @@ use Rattle.wait_cond.specs.Walks.{StopsBehind, Walks, walk_from, walked}
 use Rattle.wait_cond.specs.declared.alt.Alt.{Alt}
 use Rattle.wait_cond.specs.declared.walk.Walk.{Walk}
 use Rattle.wait_cond.proofs.Runs.{now_is}
-use Rattle.wait_cond.proofs.Timers.{timer_behind}
 use Rattle.decoder_core.specs.Promises.{IsLoud, IsQuiet, StandsThere}
 use Rattle.decoder_core.specs.Treading.{OnWalk}
-use Rattle.decoder_core.specs.Striding.{Strides, Timed}
+use Rattle.decoder_core.specs.Striding.{Awaits, Strides, Timed}
 use Rattle.decoder_core.proofs.Counting.{samples_are}
 use Rattle.decoder_core.proofs.Treading.{tread_anew, tread_pass}
 
@@ -23,16 +22,18 @@ further run value k n same count =
     ap (λ (l : List ℕ). replicate k value ++ l) (samples_are run ∙ ap (λ (v : ℕ). replicate run.len v) same)
     ∙ replicate-append-replicate k run.len value ∙ ap (λ (i : ℕ). replicate i value) count
 
--- where the next stop is
-pub timed_behind : (alts : List Alt) (walk : Walk) (left value : ℕ) → Timed alts walk left → StopsBehind alts walk value left
-timed_behind alts walk left value t = timer_behind alts t.skip t.timer walk value left t.left_is
-
--- the time that is left behind a run
-pub timed_pass : (alts : List Alt) (walk next : Walk) (left len : ℕ) → Timed alts walk left → 0 < len → len ≤ left → walked next ≡ walked walk + len → walk_from next ≡ walk_from walk → Timed alts next (left - len)
+-- what is waited for behind a run that ends before the stop
+timed_pass : (alts : List Alt) (walk next : Walk) (left len : ℕ) → Timed alts walk left → 0 < len → len ≤ left → walked next ≡ walked walk + len → walk_from next ≡ walk_from walk → Timed alts next (left - len)
 timed_pass alts walk next left len t some short count from = record {
   skip = t.skip;
   timer = t.timer;
   left_is = omega (arith, t.left_is, some, short, count, from, walk.few, next.few);
+}
+
+pub awaits_pass : (alts : List Alt) (walk next : Walk) (falls left len : ℕ) → Awaits alts walk falls left → 0 < len → len ≤ left → walked next ≡ walked walk + len → walk_from next ≡ walk_from walk → Awaits alts next falls (left - len)
+awaits_pass alts walk next falls left len a some short count from = record {
+  timed = λ none. timed_pass alts walk next left len (a.timed none) some short count from;
+  falling = a.falling;
 }
 
 -- a run in two parts

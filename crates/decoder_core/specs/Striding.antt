@@ -1,7 +1,8 @@
--- What a decoder of samples does on its walk over many stops, while it waits for a time alone.
-use Rattle.std.specs.Prelude.{ℕ, ◌≡◌, List, [], ◌++◌}
+-- What a decoder of samples does on its walk over many stops, while it waits for a time alone or for
+-- the fall of lines alone.
+use Rattle.std.specs.Prelude.{ℕ, ◌≡◌, ◌≢◌, List, [], ◌++◌}
 use Rattle.la_base.specs.declared.wires.Out.{Out}
-use Rattle.wait_cond.specs.Conds.{IsTimer}
+use Rattle.wait_cond.specs.Conds.{IsFall, IsTimer}
 use Rattle.wait_cond.specs.Walks.{IsTimeLeft}
 use Rattle.wait_cond.specs.declared.alt.Alt.{Alt}
 use Rattle.wait_cond.specs.declared.walk.Walk.{Walk}
@@ -12,6 +13,11 @@ pub record Timed (alts : List Alt) (walk : Walk) (left : ℕ) : Type 0 where
   pub skip : ℕ
   pub timer : IsTimer alts skip
   pub left_is : IsTimeLeft walk skip left
+
+-- a time alone is waited for, or the fall of lines alone: those of `falls`, where there are some
+pub record Awaits (alts : List Alt) (walk : Walk) (falls left : ℕ) : Type 0 where
+  pub timed : falls ≡ 0 → Timed alts walk left
+  pub falling : falls ≢ 0 → IsFall alts falls
 
 -- a machine that stood for samples on a walk, behind which these outputs were given, stands for
 -- more samples, and these are given then

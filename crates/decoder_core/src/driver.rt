@@ -3,7 +3,7 @@ ghost use Rattle.std.specs.Prelude.{◌≡◌, ◌≤◌, ◌<◌, ◌+◌, ◌^
 ghost use Rattle.std.specs.Prelude.{replicate, take, ◌≢◌, ◌-◌, true, false, IfSome};
 ghost use Rattle.la_base.specs.Samples.{samples};
 ghost use Rattle.la_base.specs.declared.wires.Wire.TheVariants.{Logic};
-ghost use Rattle.wait_cond.specs.Conds.{IsExact, IsTimer};
+ghost use Rattle.wait_cond.specs.Conds.{IsExact, IsFall, IsTimer};
 ghost use Rattle.la_base.specs.Runs.{samples_of};
 ghost use Rattle.wait_cond.specs.Waiting.{Waits, alts_of, wait_from, consumed_by, last_of};
 ghost use Rattle.wait_cond.specs.Waiting.{rest_len, rest_samples};
@@ -14,7 +14,7 @@ ghost use Rattle.decoder_core.specs.Driving.{StopsFirst};
 ghost use Rattle.decoder_core.specs.Driving.{Drives, Sleeps, SameState};
 ghost use Rattle.decoder_core.specs.laws.CountedLaws.{nothing_counted, front_counted, few_counted};
 
-use crate::timed::walk_timed;
+use crate::timed::{first_next, walk_stops};
 use crate::walks::walk_runs;
 use crate::{LogicMachine, Machine, Outs, Taken};
 use la_base::{Feed, Run, Wire};
@@ -130,12 +130,13 @@ impl<L: LogicMachine> Driver<L> {
         }
     }
 
-    // Consumes runs while a time alone is waited for, over many stops. It isn't inlined, so that the
-    // walk has its registers.
+    // Consumes runs while the fall of these lines alone is waited for, or where there are none a
+    // time alone, over many stops. It isn't inlined, so that the walk has its registers.
     #[inline(never)]
-    fn step_timed(&mut self, skip: u64, runs: &[Run], into: &mut Outs) -> Taken
+    fn step_stops(&mut self, falls: u64, skip: u64, runs: &[Run], into: &mut Outs) -> Taken
         requires empty { into.old ≡ [] }
-        requires timer { IsTimer (L.alts self.old.machine) skip }
+        requires timer { falls ≡ 0 → IsTimer (L.alts self.old.machine) skip }
+        requires fall { falls ≢ 0 → IsFall (L.alts self.old.machine) falls }
         requires some { consumed_by self.old.waiter ≢ 0 }
         ensures setup { L.setup self.new.machine ≡ L.setup self.old.machine }
         ensures within { result.count ≤ length runs.now }
@@ -148,7 +149,8 @@ impl<L: LogicMachine> Driver<L> {
         ensures fewer { LeavesFewer (samples_of (take result.count runs.now)) result.rest }
     {
         let mut walk = self.waiter.walk();
-        let strode = walk_timed(&mut self.machine, &mut walk, skip, runs, into);
+        let first = first_next(&walk, falls, skip);
+        let strode = walk_stops(&mut self.machine, &mut walk, first, runs, into);
         self.waiter.take_stop();
         self.machine.wait(&mut self.waiter);
         self.waiter.put(walk);
@@ -158,7 +160,7 @@ impl<L: LogicMachine> Driver<L> {
         }
     }
 
-    // The same where a time alone may be waited for; where it isn't, no run is taken.
+    // The same where such a wait may be; where it isn't, no run is taken.
     #[inline(always)]
     fn step_skipping(&mut self, runs: &[Run], into: &mut Outs) -> Taken
         requires { into.old ≡ [] }
@@ -172,23 +174,22 @@ impl<L: LogicMachine> Driver<L> {
             (samples_of (take result.count runs.now)) result.rest into.new }
         ensures fewer { LeavesFewer (samples_of (take result.count runs.now)) result.rest }
     {
-        let skip = self.machine.skip();
-        if skip == 0 {
-            return Taken {
-                count: 0,
-                rest: None,
-            };
-        }
+        let none = Taken {
+            count: 0,
+            rest: None,
+        };
         if self.waiter.consumed() == 0 {
-            return Taken {
-                count: 0,
-                rest: None,
-            };
+            return none;
         }
-        self.step_timed(skip, runs, into)
+        let falls = self.machine.falls();
+        let skip = self.machine.skip();
+        if !is_some(falls, skip) {
+            return none;
+        }
+        self.step_stops(falls, skip, runs, into)
     }
 
-    // Consumes runs where no time alone is waited for, at least one where there is one.
+    // Consumes runs by the other ways, at least one where there is one.
     #[inline(always)]
     fn step_others(&mut self, runs: &[Run], into: &mut Outs) -> Taken
         requires { into.old ≡ [] }
@@ -313,6 +314,17 @@ impl<L: LogicMachine> Driver<L> {
             }
         }
     }
+}
+
+// Whether one of two numbers isn't 0.
+#[inline(always)]
+fn is_some(one: u64, other: u64) -> bool
+    ensures { result ≡ true → one ≡ 0 → other ≢ 0 }
+{
+    if one != 0 {
+        return true;
+    }
+    other != 0
 }
 
 // Begins the wait for what a machine waits for, behind its last stop. Where that is what it waited

@@ -5,7 +5,7 @@ ghost use Rattle.la_base.specs.Runs.{samples_of};
 ghost use Rattle.la_base.specs.declared.wires.Out.{Out};
 ghost use Rattle.la_base.specs.declared.wires.Wire.{Wire};
 ghost use Rattle.wait_cond.specs.declared.alt.Alt.{Alt};
-ghost use Rattle.wait_cond.specs.Conds.{IsTimer, cond_alts};
+ghost use Rattle.wait_cond.specs.Conds.{IsFall, IsTimer, cond_alts};
 ghost use Rattle.wait_cond.specs.Waiting.{Waits, alts_of, wait_from, consumed_by, last_of};
 ghost use Rattle.decoder_core.specs.Inputs.{Item, left_feed};
 ghost use Rattle.decoder_core.specs.Promises.{IsFloor, GivesFrom, GivesNothing, GivesOn};
@@ -83,6 +83,15 @@ pub trait LogicMachine: Configured {
     #[inline(always)]
     fn skip(&self) -> u64
         ensures timer { result ≢ 0 → IsTimer (alts self.now) result }
+    {
+        0
+    }
+
+    /// The lines of the lower half of a sample that must all fall at its next stop, where it waits
+    /// for that alone; else 0, and it may answer 0 there too. It is for speed alone.
+    #[inline(always)]
+    fn falls(&self) -> u64
+        ensures fall { result ≢ 0 → IsFall (alts self.now) result }
     {
         0
     }

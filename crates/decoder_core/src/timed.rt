@@ -1,11 +1,12 @@
-// A decoder of samples over many runs, while it waits for a time alone.
+// A decoder of samples over many runs, while it waits for a time alone or for the fall of lines.
 ghost use Rattle.std.specs.Prelude.{◌≡◌, ◌≢◌, ◌≤◌, ◌<◌, ◌+◌, ◌-◌, ◌^◌, ◌++◌, [], ℕ, List, length};
 ghost use Rattle.std.specs.Prelude.{take, replicate, true, false};
 ghost use Rattle.la_base.specs.Runs.{samples_of};
-ghost use Rattle.wait_cond.specs.Conds.{IsTimer};
+ghost use Rattle.wait_cond.specs.Conds.{IsFall, IsTimer};
 ghost use Rattle.wait_cond.specs.Waiting.{rest_len, rest_samples};
-ghost use Rattle.wait_cond.specs.Walks.{walk_from, walked};
-ghost use Rattle.decoder_core.specs.Striding.{Strides, StridesOver, Timed};
+ghost use Rattle.wait_cond.specs.Walks.{StopsBehind, walk_from, walked};
+ghost use Rattle.wait_cond.specs.declared.alt.Alt.{Alt};
+ghost use Rattle.decoder_core.specs.Striding.{Awaits, Strides, StridesOver};
 
 use crate::{LogicMachine, Outs};
 use la_base::{Run, Word};
@@ -18,14 +19,23 @@ pub struct Strode {
     pub rest: Option<Run>,
 }
 
-/// How far a machine came in a run: how many of its samples are left, and whether another wait than
-/// for a time alone begins there, or there may be no room for what one more stop gives. Where
-/// neither is so, nothing is left, and so many samples come before the next stop.
+/// What a machine waits for: the fall of these lines alone, or where there are none a time alone;
+/// so many samples come before the stop, which of a wait for a fall says nothing from one run to the
+/// next. Or that the walk has ended: it waits for something else, or there may be no room for what
+/// one more stop gives.
+#[derive(Clone, Copy, PartialEq, Eq)]
+pub struct Next {
+    pub falls: u64,
+    pub left: u64,
+    pub ended: bool,
+}
+
+/// How far a machine came in a run: how many of its samples are left, and what it waits for then.
+/// Where the walk hasn't ended, nothing is left.
 #[derive(Clone, Copy, PartialEq, Eq)]
 pub struct Came {
     pub rest: u64,
-    pub ended: bool,
-    pub left: u64,
+    pub next: Next,
 }
 
 // So many samples of one value, if there are any.
@@ -54,88 +64,145 @@ fn front(run: Run, len: u64) -> Run
     }
 }
 
-// Whether a time alone is waited for, by what is skipped, and what one more stop gives has room.
+/// What is waited for at the begin of a walk.
 #[inline(always)]
-fn goes_on(skip: u64, into: &Outs) -> bool
-    ensures { result ≡ true → (0 < skip) × (length into.now ≤ 16) }
+pub fn first_next(walk: &Walk, falls: u64, skip: u64) -> Next
+    ensures { (alts : List Alt) → (falls ≡ 0 → IsTimer alts skip) → (falls ≢ 0 → IsFall alts falls)
+        → Awaits alts walk.now result.falls result.left }
 {
-    if skip == 0 {
-        return false;
+    if falls != 0 {
+        return Next {
+            falls,
+            left: 0,
+            ended: false,
+        };
     }
-    !into.is_full()
+    Next {
+        falls: 0,
+        left: walk.time_left(skip),
+        ended: false,
+    }
 }
 
-/// Takes a machine through a run with stops, the first of which comes behind so many samples.
+// What is waited for behind a stop, where its value goes on.
+#[inline(always)]
+fn next_of<L: LogicMachine>(machine: &L, walk: &Walk, value: Word, into: &Outs) -> Next
+    requires some { walked walk.now ≢ 0 }
+    requires stop { walk_from walk.now ≡ walked walk.now }
+    ensures room { result.ended ≡ false → length into.now ≤ 16 }
+    ensures awaits { result.ended ≡ false
+        → Awaits (L.alts machine.now) walk.now result.falls result.left }
+    ensures stops { result.ended ≡ false
+        → StopsBehind (L.alts machine.now) walk.now value result.left }
+{
+    let ended = Next {
+        falls: 0,
+        left: 0,
+        ended: true,
+    };
+    if into.is_full() {
+        return ended;
+    }
+    let falls = machine.falls();
+    if falls != 0 {
+        return Next {
+            falls,
+            left: walk.fall_left(falls, value),
+            ended: false,
+        };
+    }
+    let skip = machine.skip();
+    if skip == 0 {
+        return ended;
+    }
+    Next {
+        falls: 0,
+        left: walk.time_begun(skip),
+        ended: false,
+    }
+}
+
+// How many samples of a run come before the next stop.
+#[inline(always)]
+fn ahead(walk: &Walk, next: Next, value: Word) -> u64
+    requires { walked walk.now ≢ 0 }
+    ensures stops { (alts : List Alt) → Awaits alts walk.now next.falls next.left
+        → StopsBehind alts walk.now value result }
+    ensures awaits { (alts : List Alt) → Awaits alts walk.now next.falls next.left
+        → Awaits alts walk.now next.falls result }
+{
+    if next.falls == 0 {
+        return next.left;
+    }
+    walk.fall_left(next.falls, value)
+}
+
+/// Takes a machine through a run with stops, before the first of which so many samples come.
 #[inline(always)]
 pub fn stride<L: LogicMachine>(
     machine: &mut L,
     walk: &mut Walk,
-    first: u64,
+    first: Next,
     run: Run,
     into: &mut Outs,
 ) -> Came
-    requires timed { Timed (L.alts machine.old) walk.old first }
+    requires awaits { Awaits (L.alts machine.old) walk.old first.falls first.left }
+    requires stops { StopsBehind (L.alts machine.old) walk.old run.value first.left }
     requires fits { walked walk.old + run.len ≤ 2 ^ 60 }
-    requires stops { first < run.len }
+    requires some { first.left < run.len }
     requires room { length into.old ≤ 16 }
     ensures setup { L.setup machine.new ≡ L.setup machine.old }
     ensures rest { result.rest < run.len }
-    ensures through { result.ended ≡ false → result.rest ≡ 0 }
-    ensures room { result.ended ≡ false → length into.new ≤ 16 }
-    ensures timed { result.ended ≡ false → Timed (L.alts machine.new) walk.new result.left }
+    ensures through { result.next.ended ≡ false → result.rest ≡ 0 }
+    ensures room { result.next.ended ≡ false → length into.new ≤ 16 }
+    ensures awaits { result.next.ended ≡ false
+        → Awaits (L.alts machine.new) walk.new result.next.falls result.next.left }
     ensures walked { walked walk.new ≡ walked walk.old + (run.len - result.rest) }
     ensures strides { Strides (L.outs (L.setup machine.old)) L.stands L.alts
         machine.old machine.new walk.old walk.new into.old into.new
         (replicate (run.len - result.rest) run.value) }
 {
-    let mut left = first;
+    let mut next = first;
     let mut rest = run.len;
-    while left < rest {
-        let at = walk.consumed() + left;
+    while next.left < rest {
+        let at = walk.consumed() + next.left;
         machine.resume(at, run.value, 1, into);
-        let part = front(run, left + 1);
+        let part = front(run, next.left + 1);
         walk.stop_behind(part);
-        rest -= left + 1;
-        let skip = machine.skip();
-        if !goes_on(skip, into) {
-            return Came {
-                rest,
-                ended: true,
-                left: 0,
-            };
+        rest -= next.left + 1;
+        next = next_of(machine, walk, run.value, into);
+        if next.ended {
+            return Came { rest, next };
         }
-        left = walk.time_begun(skip);
     }
     if rest == 0 {
-        return Came {
-            rest: 0,
-            ended: false,
-            left,
-        };
+        return Came { rest, next };
     }
     let last = front(run, rest);
     walk.pass(last);
     Came {
         rest: 0,
-        ended: false,
-        left: left - rest,
+        next: Next {
+            left: next.left - rest,
+            ..next
+        },
     }
 }
 
-/// Takes a machine through runs while it waits for a time alone, over those that end before and over
-/// stops. It ends behind a stop behind which it waits for something else, or where there may be no
-/// room for what one more gives.
+/// Takes a machine through runs while it waits for a time alone or for the fall of lines alone, over
+/// those without a stop and over stops. It ends behind a stop behind which it waits for something
+/// else, or where there may be no room for what one more gives.
 #[inline(always)]
-pub fn walk_timed<L: LogicMachine>(
+pub fn walk_stops<L: LogicMachine>(
     machine: &mut L,
     walk: &mut Walk,
-    skip: u64,
+    first: Next,
     runs: &[Run],
     into: &mut Outs,
 ) -> Strode
     requires empty { into.old ≡ [] }
     requires some { walked walk.old ≢ 0 }
-    requires timer { IsTimer (L.alts machine.old) skip }
+    requires awaits { Awaits (L.alts machine.old) walk.old first.falls first.left }
     ensures setup { L.setup machine.new ≡ L.setup machine.old }
     ensures within { result.count ≤ length runs.now }
     ensures some { walked walk.new ≢ 0 }
@@ -146,11 +213,15 @@ pub fn walk_timed<L: LogicMachine>(
         machine.old machine.new walk.old walk.new into.new
         (samples_of (take result.count runs.now)) (rest_samples result.rest) }
 {
-    let mut left = walk.time_left(skip);
+    let mut next = first;
     for (place, run) in runs.iter().enumerate() {
+        let left = ahead(walk, next, run.value);
         if run.len <= left {
             walk.pass(*run);
-            left -= run.len;
+            next = Next {
+                left: left - run.len,
+                ..next
+            };
         } else {
             if !walk.has_room(*run) {
                 return Strode {
@@ -158,14 +229,14 @@ pub fn walk_timed<L: LogicMachine>(
                     rest: None,
                 };
             }
-            let came = stride(machine, walk, left, *run, into);
-            if came.ended {
+            let came = stride(machine, walk, Next { left, ..next }, *run, into);
+            if came.next.ended {
                 return Strode {
                     count: place + 1,
                     rest: rest_of(run.value, came.rest),
                 };
             }
-            left = came.left;
+            next = came.next;
         }
     }
     Strode {

@@ -1,62 +1,70 @@
-use Rattle.std.proofs.Common.{◌≡◌, ◌+◌, ◌-◌, ◌<◌, ℕ, replicate, refl, ◌∙◌, subst, arith}
-use Rattle.decoder_core.specs.Striding.{Strides}
-use Rattle.decoder_core.proofs.Striding.{further, stride_pass, stride_stop, timed_behind}
+use Rattle.std.proofs.Common.{◌≡◌, ◌+◌, ◌-◌, ◌<◌, ℕ, replicate, sym, ◌∙◌, subst, arith}
+use Rattle.wait_cond.specs.Walks.{StopsBehind}
+use Rattle.decoder_core.proofs.Striding.{awaits_pass, further, stride_pass, stride_stop}
 use Rattle.decoder_core.proofs.timed.stride.Goals as goal
 
-pub returns-then-not-goes_on-clause-strides : goal.returns-then-not-goes_on-clause-strides
-returns-then-not-goes_on-clause-strides g c =
+pub returns-then-next-clause-strides : goal.returns-then-next-clause-strides
+returns-then-next-clause-strides g c =
     let m = g.L.LogicMachine in
-    let i = c.loop-left.invariant in
-    let left = c.loop-left.left in
-    let walk = c.loop-left.walk in
+    let i = c.loop-next.invariant in
+    let left = c.loop-next.next.left in
+    let walk = c.loop-next.walk in
     let run = c.args.run in
-    let count : run.len - c.loop-left.rest + (left + 1) ≡ run.len - (c.loop-left.rest - (left + 1)) = omega (arith, i.within, c.loop-left-test.true) in
-    let fits : left < walk.room = omega (arith, i.counted, c.requires.fits, c.loop-left-test.true, walk.few) in
-    stride_stop g.L.Configured.setup m.outs m.stands m.alts g.met.L.LogicMachine.quiet (g.L.Configured.setup c.args.machine.now) c.args.machine.now c.loop-left.machine c.args.walk.now walk c.stop_behind.new.self c.args.into.now c.loop-left.into
-    (replicate (run.len - c.loop-left.rest) run.value) (replicate (run.len - (c.loop-left.rest - (left + 1))) run.value) c.front-part.result left i.strides i.setup
-    (timed_behind (m.alts c.loop-left.machine) walk left c.front-part.result.value i.timed) (further c.front-part.result run.value (run.len - c.loop-left.rest) (run.len - (c.loop-left.rest - (left + 1))) c.front-part.ensures.value (omega (arith, c.front-part.ensures.len, count)))
-    c.resume.new.self c.resume.new.into (c.consumed.result + left) run.value c.front-part.ensures.value (omega (arith, c.consumed.ensures)) c.front-part.ensures.len fits c.resume.ensures.stands c.resume.ensures.loud c.stop_behind.ensures.waits c.stop_behind.ensures.from
+    let part = c.front-part in
+    let count : run.len - c.loop-next.rest + (left + 1) ≡ run.len - (c.loop-next.rest - (left + 1)) = omega (arith, i.within, c.loop-next-test.true) in
+    let fits : left < walk.room = omega (arith, i.counted, c.requires.fits, c.loop-next-test.true, walk.few) in
+    stride_stop g.L.Configured.setup m.outs m.stands m.alts g.met.L.LogicMachine.quiet (g.L.Configured.setup c.args.machine.now) c.args.machine.now c.loop-next.machine c.args.walk.now walk c.stop_behind.new.self c.args.into.now c.loop-next.into
+    (replicate (run.len - c.loop-next.rest) run.value) (replicate (run.len - (c.loop-next.rest - (left + 1))) run.value) part.result left i.strides i.setup
+    (subst (λ (v : ℕ). StopsBehind (m.alts c.loop-next.machine) walk v left) (sym part.ensures.value) i.stops)
+    (further part.result run.value (run.len - c.loop-next.rest) (run.len - (c.loop-next.rest - (left + 1))) part.ensures.value (omega (arith, part.ensures.len, count)))
+    c.resume.new.self c.resume.new.into (c.consumed.result + left) run.value part.ensures.value (omega (arith, c.consumed.ensures)) part.ensures.len fits c.resume.ensures.stands c.resume.ensures.loud c.stop_behind.ensures.waits c.stop_behind.ensures.from
 
-pub loop-left-preserved : goal.loop-left-preserved
-loop-left-preserved g c =
+pub loop-next-preserved : goal.loop-next-preserved
+loop-next-preserved g c =
     let m = g.L.LogicMachine in
-    let i = c.loop-left.invariant in
-    let left = c.loop-left.left in
-    let walk = c.loop-left.walk in
+    let i = c.loop-next.invariant in
+    let left = c.loop-next.next.left in
+    let walk = c.loop-next.walk in
     let run = c.args.run in
-    let count : run.len - c.loop-left.rest + (left + 1) ≡ run.len - (c.loop-left.rest - (left + 1)) = omega (arith, i.within, c.loop-left-test.true) in
-    let fits : left < walk.room = omega (arith, i.counted, c.requires.fits, c.loop-left-test.true, walk.few) in
-    let ahead = c.if-not-goes_on.ensures refl in
+    let part = c.front-part in
+    let count : run.len - c.loop-next.rest + (left + 1) ≡ run.len - (c.loop-next.rest - (left + 1)) = omega (arith, i.within, c.loop-next-test.true) in
+    let fits : left < walk.room = omega (arith, i.counted, c.requires.fits, c.loop-next-test.true, walk.few) in
     record {
       setup = c.resume.ensures.setup ∙ i.setup;
       within = omega (arith, i.within);
-      counted = omega (arith, i.counted, c.loop-left-test.true, c.stop_behind.ensures.walked, c.front-part.ensures.len);
-      room = ahead.1;
-      timed = record { skip = c.skip-skip.result; timer = c.skip-skip.ensures.timer (λ none. omega (arith, none, ahead.0)); left_is = c.time_begun-left.ensures };
+      counted = omega (arith, i.counted, c.loop-next-test.true, c.stop_behind.ensures.walked, part.ensures.len);
+      room = c.next_of-next.ensures.room c.if-next.false;
+      awaits = c.next_of-next.ensures.awaits c.if-next.false;
+      stops = c.next_of-next.ensures.stops c.if-next.false;
       strides =
-          stride_stop g.L.Configured.setup m.outs m.stands m.alts g.met.L.LogicMachine.quiet (g.L.Configured.setup c.args.machine.now) c.args.machine.now c.loop-left.machine c.args.walk.now walk c.stop_behind.new.self c.args.into.now c.loop-left.into
-          (replicate (run.len - c.loop-left.rest) run.value) (replicate (run.len - (c.loop-left.rest - (left + 1))) run.value) c.front-part.result left i.strides i.setup
-          (timed_behind (m.alts c.loop-left.machine) walk left c.front-part.result.value i.timed) (further c.front-part.result run.value (run.len - c.loop-left.rest) (run.len - (c.loop-left.rest - (left + 1))) c.front-part.ensures.value (omega (arith, c.front-part.ensures.len, count)))
-          c.resume.new.self c.resume.new.into (c.consumed.result + left) run.value c.front-part.ensures.value (omega (arith, c.consumed.ensures)) c.front-part.ensures.len fits c.resume.ensures.stands c.resume.ensures.loud c.stop_behind.ensures.waits c.stop_behind.ensures.from;
+          stride_stop g.L.Configured.setup m.outs m.stands m.alts g.met.L.LogicMachine.quiet (g.L.Configured.setup c.args.machine.now) c.args.machine.now c.loop-next.machine c.args.walk.now walk c.stop_behind.new.self c.args.into.now c.loop-next.into
+          (replicate (run.len - c.loop-next.rest) run.value) (replicate (run.len - (c.loop-next.rest - (left + 1))) run.value) part.result left i.strides i.setup
+          (subst (λ (v : ℕ). StopsBehind (m.alts c.loop-next.machine) walk v left) (sym part.ensures.value) i.stops)
+          (further part.result run.value (run.len - c.loop-next.rest) (run.len - (c.loop-next.rest - (left + 1))) part.ensures.value (omega (arith, part.ensures.len, count)))
+          c.resume.new.self c.resume.new.into (c.consumed.result + left) run.value part.ensures.value (omega (arith, c.consumed.ensures)) part.ensures.len fits c.resume.ensures.stands c.resume.ensures.loud c.stop_behind.ensures.waits c.stop_behind.ensures.from;
     }
 
 pub returns-then-rest-eq0-clause-strides : goal.returns-then-rest-eq0-clause-strides
-returns-then-rest-eq0-clause-strides g c =
+returns-then-rest-eq0-clause-strides g c = c.loop-next.invariant.strides
+
+pub returns-clause-awaits : goal.returns-clause-awaits
+returns-clause-awaits g c = λ going.
     let m = g.L.LogicMachine in
-    let i = c.loop-left.invariant in
-    let run = c.args.run in
-    let count : run.len - c.loop-left.rest ≡ run.len - 0 = omega (arith, c.if-rest-eq0.true) in
-    subst (λ (n : ℕ). Strides (m.outs (g.L.Configured.setup c.args.machine.now)) m.stands m.alts c.args.machine.now c.loop-left.machine c.args.walk.now c.loop-left.walk c.args.into.now c.loop-left.into (replicate n run.value)) count i.strides
+    let last = c.front-last in
+    awaits_pass (m.alts c.loop-next.machine) c.loop-next.walk c.pass.new.self c.loop-next.next.falls c.loop-next.next.left c.loop-next.rest c.loop-next.invariant.awaits (omega (arith, c.if-rest-eq0.false)) (omega (arith, c.loop-next-test.false))
+    (omega (arith, c.pass.ensures.walked, last.ensures.len)) c.pass.ensures.from
 
 pub returns-clause-strides : goal.returns-clause-strides
 returns-clause-strides g c =
     let m = g.L.LogicMachine in
-    let i = c.loop-left.invariant in
-    let walk = c.loop-left.walk in
-    let left = c.loop-left.left in
+    let i = c.loop-next.invariant in
+    let walk = c.loop-next.walk in
+    let left = c.loop-next.next.left in
     let run = c.args.run in
-    let count : run.len - c.loop-left.rest + c.front-last.result.len ≡ run.len - 0 = omega (arith, i.within, c.front-last.ensures.len) in
-    stride_pass g.L.Configured.setup m.outs m.stands m.alts g.met.L.LogicMachine.quiet (g.L.Configured.setup c.args.machine.now) c.args.machine.now c.loop-left.machine c.args.walk.now walk c.pass.new.self c.args.into.now c.loop-left.into
-    (replicate (run.len - c.loop-left.rest) run.value) (replicate (run.len - 0) run.value) c.front-last.result left i.strides i.setup
-    (timed_behind (m.alts c.loop-left.machine) walk left c.front-last.result.value i.timed) (further c.front-last.result run.value (run.len - c.loop-left.rest) (run.len - 0) c.front-last.ensures.value count)
-    (omega (arith, c.loop-left-test.false, c.front-last.ensures.len)) c.pass.ensures.none c.pass.ensures.from
+    let last = c.front-last in
+    let count : run.len - c.loop-next.rest + last.result.len ≡ run.len - 0 = omega (arith, i.within, last.ensures.len) in
+    stride_pass g.L.Configured.setup m.outs m.stands m.alts g.met.L.LogicMachine.quiet (g.L.Configured.setup c.args.machine.now) c.args.machine.now c.loop-next.machine c.args.walk.now walk c.pass.new.self c.args.into.now c.loop-next.into
+    (replicate (run.len - c.loop-next.rest) run.value) (replicate (run.len - 0) run.value) last.result left i.strides i.setup
+    (subst (λ (v : ℕ). StopsBehind (m.alts c.loop-next.machine) walk v left) (sym last.ensures.value) i.stops)
+    (further last.result run.value (run.len - c.loop-next.rest) (run.len - 0) last.ensures.value count)
+    (omega (arith, c.loop-next-test.false, last.ensures.len)) c.pass.ensures.none c.pass.ensures.from

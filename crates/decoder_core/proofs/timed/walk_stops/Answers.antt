@@ -5,11 +5,12 @@ use Rattle.la_base.specs.declared.wires.Out.{Out}
 use Rattle.la_base.proofs.RunLemmas.{count_more, samples_more}
 use Rattle.wait_cond.specs.Walks.{walked}
 use Rattle.wait_cond.specs.declared.walk.Walk.{Walk}
-use Rattle.decoder_core.specs.Striding.{Strides, Timed}
+use Rattle.decoder_core.specs.declared.timed.Next.{Next}
+use Rattle.decoder_core.specs.Striding.{Awaits, Strides}
 use Rattle.decoder_core.proofs.Counting.{samples_are}
-use Rattle.decoder_core.proofs.Striding.{parts, stride_pass, strides_then, timed_behind, timed_pass}
-use Rattle.decoder_core.proofs.timed.walk_timed.Goals as goal
-use Rattle.decoder_core.proofs.timed.walk_timed.Goals.{then-run-left, else-run-left+else-not-has_room+else-came}
+use Rattle.decoder_core.proofs.Striding.{awaits_pass, parts, stride_pass, strides_then}
+use Rattle.decoder_core.proofs.timed.walk_stops.Goals as goal
+use Rattle.decoder_core.proofs.timed.walk_stops.Goals.{then-run-left, else-run-left+else-not-has_room+else-came}
 
 pub returns-then-came-clause-fewer : goal.returns-then-came-clause-fewer
 returns-then-came-clause-fewer g c = λ some.
@@ -53,6 +54,7 @@ loop-place-preserved g c =
     let at = c.loop-place.place in
     let run = c.index-runs-place.result in
     let walk = c.loop-place.walk in
+    let left = c.ahead-left.result in
     let so_far = samples_of (take at runs) in
     let next = samples_of (take (at + 1) runs) in
     let longer = sym (samples_more runs at run (omega (arith, c.loop-place-test.true)) c.index-runs-place.is) in
@@ -63,15 +65,15 @@ loop-place-preserved g c =
         nothing = λ none. absurd (omega (arith, none));
         room = omega (arith, i.room, ap (λ (l : List Out). length l) w.into-is);
         some = λ none. i.some (omega (arith, none, ap walked w.walk-is, w.pass.ensures.walked));
-        timed = subst (λ (machine : g.row.L.Denot). Timed (m.alts machine) c.if-run-left.walk c.if-run-left.left) (sym w.machine-is)
-            (subst (λ (n : Walk). Timed (m.alts c.loop-place.machine) n c.if-run-left.left) (sym w.walk-is)
-            (subst (λ (n : ℕ). Timed (m.alts c.loop-place.machine) w.pass.new.self n) (sym w.left-is)
-            (timed_pass (m.alts c.loop-place.machine) walk w.pass.new.self c.loop-place.left run.len i.timed run.not_empty (omega (arith, w.if-run-left.true)) w.pass.ensures.walked w.pass.ensures.from)));
+        awaits = subst (λ (machine : g.row.L.Denot). Awaits (m.alts machine) c.if-run-left.walk c.if-run-left.next.falls c.if-run-left.next.left) (sym w.machine-is)
+            (subst (λ (n : Walk). Awaits (m.alts c.loop-place.machine) n c.if-run-left.next.falls c.if-run-left.next.left) (sym w.walk-is)
+            (subst (λ (n : Next). Awaits (m.alts c.loop-place.machine) w.pass.new.self n.falls n.left) (sym w.next-is)
+            (awaits_pass (m.alts c.loop-place.machine) walk w.pass.new.self c.loop-place.next.falls left run.len (c.ahead-left.ensures.awaits (m.alts c.loop-place.machine) i.awaits) run.not_empty (omega (arith, w.if-run-left.true)) w.pass.ensures.walked w.pass.ensures.from)));
         strides = subst (λ (machine : g.row.L.Denot). Strides (m.outs setup) m.stands m.alts c.args.machine.now machine c.args.walk.now c.if-run-left.walk [] c.if-run-left.into next) (sym w.machine-is)
             (subst (λ (n : Walk). Strides (m.outs setup) m.stands m.alts c.args.machine.now c.loop-place.machine c.args.walk.now n [] c.if-run-left.into next) (sym w.walk-is)
             (subst (λ (l : List Out). Strides (m.outs setup) m.stands m.alts c.args.machine.now c.loop-place.machine c.args.walk.now w.pass.new.self [] l next) (sym w.into-is)
-            (stride_pass g.L.Configured.setup m.outs m.stands m.alts g.met.L.LogicMachine.quiet setup c.args.machine.now c.loop-place.machine c.args.walk.now walk w.pass.new.self [] c.loop-place.into so_far next run c.loop-place.left i.strides i.setup
-            (timed_behind (m.alts c.loop-place.machine) walk c.loop-place.left run.value i.timed) longer (omega (arith, w.if-run-left.true)) w.pass.ensures.none w.pass.ensures.from)));
+            (stride_pass g.L.Configured.setup m.outs m.stands m.alts g.met.L.LogicMachine.quiet setup c.args.machine.now c.loop-place.machine c.args.walk.now walk w.pass.new.self [] c.loop-place.into so_far next run left i.strides i.setup
+            (c.ahead-left.ensures.stops (m.alts c.loop-place.machine) i.awaits) longer (omega (arith, w.if-run-left.true)) w.pass.ensures.none w.pass.ensures.from)));
       }
       | else-run-left+else-not-has_room+else-came w ↦
           let came = w.stride-came in
@@ -82,9 +84,9 @@ loop-place-preserved g c =
             nothing = λ zero. absurd (omega (arith, zero));
             room = omega (arith, came.ensures.room w.if-came.false, ap (λ (l : List Out). length l) w.into-is);
             some = λ zero. i.some (omega (arith, zero, ap walked w.walk-is, came.ensures.walked));
-            timed = subst (λ (machine : g.row.L.Denot). Timed (m.alts machine) c.if-run-left.walk c.if-run-left.left) (sym w.machine-is)
-                (subst (λ (n : Walk). Timed (m.alts came.new.machine) n c.if-run-left.left) (sym w.walk-is)
-                (subst (λ (n : ℕ). Timed (m.alts came.new.machine) came.new.walk n) (sym w.left-is) (came.ensures.timed w.if-came.false)));
+            awaits = subst (λ (machine : g.row.L.Denot). Awaits (m.alts machine) c.if-run-left.walk c.if-run-left.next.falls c.if-run-left.next.left) (sym w.machine-is)
+                (subst (λ (n : Walk). Awaits (m.alts came.new.machine) n c.if-run-left.next.falls c.if-run-left.next.left) (sym w.walk-is)
+                (subst (λ (n : Next). Awaits (m.alts came.new.machine) came.new.walk n.falls n.left) (sym w.next-is) (came.ensures.awaits w.if-came.false)));
             strides = subst (λ (machine : g.row.L.Denot). Strides (m.outs setup) m.stands m.alts c.args.machine.now machine c.args.walk.now c.if-run-left.walk [] c.if-run-left.into next) (sym w.machine-is)
                 (subst (λ (n : Walk). Strides (m.outs setup) m.stands m.alts c.args.machine.now came.new.machine c.args.walk.now n [] c.if-run-left.into next) (sym w.walk-is)
                 (subst (λ (l : List Out). Strides (m.outs setup) m.stands m.alts c.args.machine.now came.new.machine c.args.walk.now came.new.walk [] l next) (sym w.into-is)

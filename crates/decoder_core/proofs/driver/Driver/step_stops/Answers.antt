@@ -7,18 +7,18 @@ use Rattle.wait_cond.specs.declared.alt.Alt.{Alt}
 use Rattle.decoder_core.specs.Driving.{Drives, StepsRuns}
 use Rattle.decoder_core.specs.Inputs.{Item, counted_samples}
 use Rattle.decoder_core.proofs.Trodden.{left_count, runs_then, timed_steps}
-use Rattle.decoder_core.proofs.driver.Driver.step_timed.Goals as goal
+use Rattle.decoder_core.proofs.driver.Driver.step_stops.Goals as goal
 
 pub returns-clause-steps : goal.returns-clause-steps
 returns-clause-steps g c =
     let m = g.L.LogicMachine in
     let s = c.args.self.now in
-    let strode = c.walk_timed-strode.ensures in
+    let strode = c.walk_stops-strode.ensures in
     let over = strode.strides in
-    let into = c.walk_timed-strode.new.into in
-    let machine = c.walk_timed-strode.new.machine in
-    let next = c.walk_timed-strode.new.walk in
-    let left = rest_samples c.walk_timed-strode.result.rest in
+    let into = c.walk_stops-strode.new.into in
+    let machine = c.walk_stops-strode.new.machine in
+    let next = c.walk_stops-strode.new.walk in
+    let left = rest_samples c.walk_stops-strode.result.rest in
     let new = c.pass_left.new.self in
     let there = timed_steps g.L.Configured.setup m.outs m.stands m.alts s.machine machine s.waiter c.put.new.self c.walk-walk.result next over.more into
     c.walk-walk.ensures.waits c.walk-walk.ensures.from c.put.ensures.from over.strides (λ list on. c.put.ensures.waits list (subst (λ (l : List Alt). Walks l next list) (sym c.wait.ensures.alts) on))
@@ -31,4 +31,4 @@ returns-clause-steps g c =
 
 pub returns-clause-fewer : goal.returns-clause-fewer
 returns-clause-fewer g c = λ some.
-    omega (arith, c.walk_timed-strode.ensures.fewer some, c.pass_left.ensures.few, left_count c.pass_left.result)
+    omega (arith, c.walk_stops-strode.ensures.fewer some, c.pass_left.ensures.few, left_count c.pass_left.result)

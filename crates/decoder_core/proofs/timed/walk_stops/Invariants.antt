@@ -1,8 +1,8 @@
 use Rattle.std.proofs.Common.{◌≡◌, ◌≢◌, ◌≤◌, [], length, take}
 use Rattle.la_base.specs.Runs.{samples_of}
 use Rattle.wait_cond.specs.Walks.{walked}
-use Rattle.decoder_core.specs.Striding.{Strides, Timed}
-use Rattle.decoder_core.proofs.timed.walk_timed.Given as goal
+use Rattle.decoder_core.specs.Striding.{Awaits, Strides}
+use Rattle.decoder_core.proofs.timed.walk_stops.Given as goal
 
 abbrev pub invariant-loop-place : goal.invariant-loop-place
 invariant-loop-place g l =
@@ -12,6 +12,6 @@ invariant-loop-place g l =
       nothing : l.place ≡ 0 → l.into ≡ [];
       room : length l.into ≤ 16;
       some : walked l.walk ≢ 0;
-      timed : Timed (m.alts l.machine) l.walk l.left;
+      awaits : Awaits (m.alts l.machine) l.walk l.next.falls l.next.left;
       strides : Strides (m.outs (g.L.Configured.setup l.fn.machine)) m.stands m.alts l.fn.machine l.machine l.fn.walk l.walk [] l.into (samples_of (take l.place l.runs));
     }
