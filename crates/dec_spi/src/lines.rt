@@ -1,14 +1,18 @@
-// A clock before the last of a word, taken by masks.
-ghost use Rattle.std.specs.Prelude.{◌≡◌, ◌<◌, ◌≤◌, true};
+// A clock in a stretch, taken by masks.
+ghost use Rattle.std.specs.Prelude.{◌≡◌, ◌≤◌, ◌++◌, length, true};
+ghost use Rattle.dec_spi.specs.Bus.{word_outs};
 ghost use Rattle.dec_spi.specs.laws.Machine.{mask_of};
-ghost use Rattle.dec_spi.specs.laws.Lines.{is_low, reads, lines_of, is_bit, bit_next, taken};
+ghost use Rattle.dec_spi.specs.laws.Lines.{is_low, reads, lines_of, no_bits, bits_next, bits_give};
+ghost use Rattle.dec_spi.specs.laws.Lines.{is_clock, clocked, clock_outs};
 
 use crate::levels::{is_active_high, is_low_first};
-use crate::words::{start_of, with_bit};
-use crate::{Bits, Held, SpiOpts};
+use crate::outputs::give_word;
+use crate::words::{no_bits, start_of, with_bit};
+use crate::{Bits, Bus, Held, SpiOpts};
+use decoder_core::Outs;
 
 /// The lines of a bus as masks of the lower half of a sample, 0 for a line that isn't given. Where
-/// one lies in the upper half, all of this is 0, and no clock is taken by it.
+/// one lies in the upper half, no sample is selected, so that no clock is taken by it.
 #[derive(Clone, Copy, PartialEq, Eq)]
 pub struct Lines {
     pub select: u64,
@@ -17,8 +21,6 @@ pub struct Lines {
     pub mosi: u64,
     pub miso: u64,
     pub low_first: bool,
-    /// The bits of a word.
-    pub bits: u64,
 }
 
 // Whether a line, if it is given, lies in the lower half.
@@ -53,16 +55,14 @@ pub fn lines_of(opts: &SpiOpts) -> Lines
             mosi: mask_of(opts.mosi),
             miso: mask_of(opts.miso),
             low_first: is_low_first(opts),
-            bits: opts.bits,
         }
     } else {
         Lines {
             select: 0,
-            active: 0,
+            active: 1,
             mosi: 0,
             miso: 0,
             low_first: false,
-            bits: 0,
         }
     }
 }
@@ -75,11 +75,25 @@ fn reads(mask: u64, low: u64) -> bool
     low & mask != 0
 }
 
-// A clock before the last of a word.
+// Puts out a word that is whole, and begins the next one. It isn't inlined, so that other clocks
+// have their registers.
+#[inline(never)]
+fn end_word(bus: &Bus, word: &mut Bits, at: u64, into: &mut Outs)
+    requires { length into.old ≤ 16 }
+    ensures gives { into.new ≡ into.old
+        ++ word_outs bus.now.opts word.old.first at word.old.mosi word.old.miso }
+    ensures next { word.new ≡ no_bits }
+{
+    give_word(bus, word.first, at, word.mosi, word.miso, into);
+    *word = no_bits();
+}
+
+// A clock in a stretch.
 #[inline(always)]
-fn take(lines: &Lines, word: &mut Bits, at: u64, low: u64)
-    requires { word.old.count < 32 }
-    ensures { word.new ≡ bit_next lines.now word.old at low }
+fn take(bus: &Bus, lines: &Lines, word: &mut Bits, at: u64, low: u64, into: &mut Outs)
+    requires { length into.old ≤ 16 }
+    ensures gives { into.new ≡ into.old ++ bits_give bus.now.opts lines.now word.old at low }
+    ensures next { word.new ≡ bits_next bus.now.opts lines.now word.old at low }
 {
     word.mosi = with_bit(
         lines.low_first,
@@ -94,21 +108,33 @@ fn take(lines: &Lines, word: &mut Bits, at: u64, low: u64)
         reads(lines.miso, low),
     );
     word.first = start_of(word.count, word.first, at);
-    word.count += 1;
+    if word.count as u64 + 1 < bus.opts.bits {
+        word.count += 1;
+    } else {
+        end_word(bus, word, at, into);
+    }
 }
 
-/// Takes in place what gives nothing and ends nothing, by the lower half of the sample: a clock
-/// before the last of a word. Answers whether it did; nothing is changed where it didn't.
+/// Takes in place a clock in a stretch, by the lower half of the sample, and puts out the word that
+/// ends with it, if one does. Answers whether it did; nothing is changed where it didn't.
 #[inline(always)]
-pub fn takes_bit(lines: &Lines, held: &mut Held, at: u64, low: u64) -> bool
-    requires { lines.now.bits ≤ 32 }
-    ensures answers { result ≡ is_bit lines.now held.old low }
-    ensures keeps { held.new ≡ taken lines.now held.old at low }
+pub fn takes_clock(
+    bus: &Bus,
+    lines: &Lines,
+    held: &mut Held,
+    at: u64,
+    low: u64,
+    into: &mut Outs,
+) -> bool
+    requires { length into.old ≤ 16 }
+    ensures answers { result ≡ is_clock lines.now held.old low }
+    ensures gives { into.new ≡ into.old ++ clock_outs bus.now.opts lines.now held.old at low }
+    ensures next { held.new ≡ clocked bus.now.opts lines.now held.old at low }
 {
     match held {
         Held::Inside(word) => {
-            if low & lines.select == lines.active && (word.count as u64) + 1 < lines.bits {
-                take(lines, word, at, low);
+            if low & lines.select == lines.active {
+                take(bus, lines, word, at, low, into);
                 true
             } else {
                 false

@@ -9,7 +9,7 @@ ghost use Rattle.dec_spi.specs.laws.SpiLaws.{spi_few, spi_on_wire};
 ghost use Rattle.dec_spi.specs.laws.MachineLaws.{one_spi, spi_one_stop};
 
 use crate::alternatives::{first_select, next_event};
-use crate::lines::takes_bit;
+use crate::lines::takes_clock;
 use crate::stops::{is_fresh, stop};
 use crate::words::near;
 use crate::{Held, Spi, SpiOpts};
@@ -51,7 +51,14 @@ impl LogicMachine for Spi {
     // Inlined into both steps of a driver.
     #[inline(always)]
     fn resume(&mut self, at: u64, value: Word, _met: u8, into: &mut Outs) -> bool {
-        if takes_bit(&self.lines, &mut self.held, at, low_half(value)) {
+        if takes_clock(
+            &self.bus,
+            &self.lines,
+            &mut self.held,
+            at,
+            low_half(value),
+            into,
+        ) {
             return false;
         }
         let fresh = is_fresh(self.held);

@@ -1,5 +1,6 @@
 // Words, bit by bit.
 ghost use Rattle.std.specs.Prelude.{◌≡◌};
+ghost use Rattle.dec_spi.specs.laws.Lines.{no_bits};
 ghost use Rattle.dec_spi.specs.laws.Machine.{begun, with_bit, start_of, near_by};
 
 use crate::{Bits, Held};
@@ -23,16 +24,23 @@ pub fn start_of(count: u8, first: u64, at: u64) -> u64
     if count == 0 { at } else { first }
 }
 
-/// What is kept in a stretch where no word has begun.
-pub fn begun() -> Held
-    ensures { result ≡ begun }
+/// What is kept of a word that hasn't begun.
+pub fn no_bits() -> Bits
+    ensures { result ≡ no_bits }
 {
-    Held::Inside(Bits {
+    Bits {
         count: 0,
         mosi: 0,
         miso: 0,
         first: 0,
-    })
+    }
+}
+
+/// What is kept in a stretch where no word has begun.
+pub fn begun() -> Held
+    ensures { result ≡ begun }
+{
+    Held::Inside(no_bits())
 }
 
 /// Where the word starts that has begun, else the number of samples.
