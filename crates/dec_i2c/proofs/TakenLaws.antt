@@ -1,7 +1,11 @@
 -- An event that is taken in place: it gives nothing, and what is kept is what follows it.
 use Rattle.std.proofs.Common.{refl, ◌≡◌, ℕ, ◌<◌, Bool, true, false, [], Option, Some, None, sym, ◌∙◌, ap, arith, nat_lt, ◌==◌, if◌then◌else◌}
+use Rattle.std.specs.Prelude.{not, ◌^◌}
+use Rattle.std.specs.Int.Bits.{bit_and}
 use Rattle.std.proofs.lemmas.Bool.{true≢false}
 use Rattle.std.proofs.lemmas.Bool.Decides.{nat_tests}
+use Rattle.la_base.specs.Samples.{is_high}
+use Rattle.sample_walks.proofs.LineTests.{line_reads}
 use Rattle.list_cuts.proofs.TestLaws.{when_yes, when_no, test_no}
 use Rattle.dec_i2c.specs.declared.held.Segment.{Segment}
 use Rattle.dec_i2c.specs.Bus.{Start, Stop, Clock, ack_outs}
@@ -56,3 +60,7 @@ bit_kept held met k level is = same_by k level held (met == 1) is
 -- and where it isn't
 pub bit_left : (held : Option Segment) (met k : ℕ) (level : Bool) → false ≡ is_bit held met → taken held met k level ≡ held
 bit_left held met k level is = left_by k level held (met == 1) is
+
+-- a line that is asked by its mask
+pub level_is : (level : Bool) (value mask sda : ℕ) → mask ≡ 2 ^ sda → level ≡ not (bit_and value mask == 0) → level ≡ is_high value sda
+level_is level value mask sda is asked = asked ∙ ap (λ (m : ℕ). not (bit_and value m == 0)) is ∙ line_reads value sda

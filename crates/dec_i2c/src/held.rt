@@ -1,6 +1,8 @@
 // What an I2C decoder is made of.
-ghost use Rattle.std.specs.Prelude.{◌<◌};
+ghost use Rattle.std.specs.Prelude.{◌≡◌, ◌<◌, ◌^◌};
 ghost use Rattle.la_base.specs.declared.samples.TheConstants.{MOST_PINS};
+
+use la_base::Word;
 
 /// Options: the bits of SCL and SDA in a sample.
 #[derive(Clone, Copy, PartialEq, Eq)]
@@ -54,5 +56,8 @@ pub struct Segment {
 #[derive(Drop)]
 pub struct I2c {
     pub(crate) bus: Bus,
+    // the mask of SDA
+    pub(crate) sda_mask: Word,
     pub(crate) held: Option<Segment>,
+    ghost mask_is: { sda_mask ≡ 2 ^ bus.sda },
 }

@@ -1,5 +1,6 @@
 // I2C as a decoder of samples: it sleeps between two events.
-ghost use Rattle.std.specs.Prelude.{◌≡◌, ◌∷◌, [], ℕ, List, true};
+ghost use Rattle.std.specs.Prelude.{◌≡◌, ◌==◌, ◌∷◌, [], ℕ, List, true, not};
+ghost use Rattle.std.specs.Int.Bits.{bit_and};
 ghost use Rattle.la_base.specs.declared.wires.Wire.TheVariants.{I2c as I2cWire};
 ghost use Rattle.sample_walks.specs.laws.EventDecoders.{quiet_of};
 ghost use Rattle.dec_i2c.specs.Bus.{i2c_outs, i2c_near};
@@ -14,7 +15,7 @@ use crate::outputs::give;
 use crate::steps::{step, takes_bit};
 use crate::{Bus, I2c, I2cOpts, Segment};
 use decoder_core::{Configured, Driver, LogicMachine, OptFault, Outs, is_send};
-use la_base::{MOST_PINS, Rate, Word, mask, pin};
+use la_base::{MOST_PINS, Rate, Word, mask};
 use wait_cond::{Alt, Cond, Waiter};
 
 // SCL stays high, and SDA rises or falls.
@@ -48,6 +49,14 @@ fn clock_alt(bus: Bus) -> Alt
     }
 }
 
+// Whether the line of a mask is high.
+#[inline(always)]
+fn reads(mask: Word, value: Word) -> bool
+    ensures { result ≡ not (bit_and value mask == 0) }
+{
+    value & mask != 0
+}
+
 // Where the byte that has begun and isn't given yet starts, else the number of samples.
 fn near(held: &Option<Segment>, next: u64) -> u64
     ensures { result ≡ near_by held.now next }
@@ -75,7 +84,11 @@ impl I2c {
                 scl: opts.scl,
                 sda: opts.sda,
             };
-            Ok(I2c { bus, held: None })
+            Ok(I2c {
+                bus,
+                sda_mask: mask(bus.sda),
+                held: None,
+            })
         } else {
             Err(OptFault::Range)
         }
@@ -112,7 +125,7 @@ impl LogicMachine for I2c {
     // Inlined into both steps of a driver.
     #[inline(always)]
     fn resume(&mut self, at: u64, value: Word, met: u8, into: &mut Outs) -> bool {
-        let level = pin(value, self.bus.sda);
+        let level = reads(self.sda_mask, value);
         if takes_bit(&mut self.held, met, at, level) {
             return false;
         }
