@@ -12,5 +12,7 @@ pub mod LineLaws
 pub mod LineStanding
 pub mod LineAnswering
 pub mod LinePassing
+pub mod Repeating
+pub mod Words
 pub mod LinesLonger
 pub mod LinesCut

@@ -12,6 +12,11 @@ use Rattle.byte_feed.specs.declared.fault.FeedFault.TheVariants.{Read, TooLong, 
 abbrev pub AllIn : List ℕ → ℕ → Type 0
 AllIn bytes count = NoneEnds by_feeds bytes count
 
+-- a line of so many bytes is at the front, and its line feed behind it
+pub record LineAt (bytes : List ℕ) (len : ℕ) : Type 0 where
+  pub one : AllIn bytes len
+  pub feed : is_feed (slice_index bytes len) ≡ true
+
 -- one read: what came is held without its carriage returns
 pub record FillsKept (old new : Front) (was is : Bool) (left_old left_new : Option (List ℕ))
     (result : Result Bool FeedFault) : Type 0 where

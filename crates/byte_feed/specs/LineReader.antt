@@ -7,7 +7,7 @@ use Rattle.la_io.specs.Intake.{Front}
 use Rattle.byte_feed.specs.Feeding.{Onward, told_of}
 use Rattle.byte_feed.specs.Feeding as feeding
 use Rattle.byte_feed.specs.Parts.{behind}
-use Rattle.byte_feed.specs.Lines.{is_feed, kept, lines_behind, lines_of}
+use Rattle.byte_feed.specs.Lines.{is_feed, kept, lines_behind, lines_of, repeated}
 use Rattle.byte_feed.specs.declared.fault.FeedFault.{FeedFault}
 use Rattle.byte_feed.specs.declared.lines.Lines.{Lines}
 
@@ -73,6 +73,12 @@ abbrev pub GaveLine : Lines → Lines → ℕ → Type 0
 GaveLine old new number =
     (bytes : List ℕ) (told : Told) (given : List Placed) → Stands old bytes told given
     → Stands new bytes told (given ++ (number, text_of new) ∷ [])
+
+-- the line that was given last was given so many times more, and no byte was taken
+abbrev pub GaveAgain : Lines → Lines → ℕ → Type 0
+GaveAgain old new count =
+    (bytes : List ℕ) (told : Told) (given : List Placed) → Stands old bytes told given
+    → Stands new bytes told (given ++ repeated (number_of old) (text_of old) count)
 
 -- what an answer means, where these bytes were taken and these lines were given before it
 abbrev pub Answers : Lines → Option (List ℕ) → List ℕ → List Placed → Result (Option ℕ) FeedFault

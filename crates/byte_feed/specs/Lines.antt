@@ -1,7 +1,8 @@
 -- The lines of bytes, each with its number, counted from 1.
-use Rattle.std.specs.Prelude.{ℕ, ◌+◌, ◌^◌, ◌==◌, nat_eq, Bool, true, if◌then◌else◌, List, [], ◌∷◌}
-use Rattle.std.specs.Prelude.{length, take, drop}
+use Rattle.std.specs.Prelude.{ℕ, zero, suc, ◌+◌, ◌^◌, ◌==◌, nat_eq, Bool, true, if◌then◌else◌}
+use Rattle.std.specs.Prelude.{List, [], ◌∷◌, length, take, drop}
 use Rattle.std.specs.List.{starts_with}
+use Rattle.text_parts.specs.Places.{Placed}
 use Rattle.la_io.specs.Capture.{Told, Ending}
 use Rattle.la_io.specs.Intake.{without}
 use Rattle.byte_feed.specs.Parts.{Cutting, Fed, bytes_ending, parts_from}
@@ -40,3 +41,8 @@ lines_behind lines how bytes = lines_from (lines + 1) how (unmarked lines bytes)
 -- the lines of bytes
 abbrev pub lines_of : List ℕ → Told → Fed
 lines_of bytes told = lines_behind 0 (bytes_ending (length bytes) told) (kept (take (2 ^ 60) bytes))
+
+-- one text as so many lines, behind so many others
+abbrev pub repeated : ℕ → List ℕ → ℕ → List Placed
+repeated lines text zero = []
+repeated lines text (suc count) = (lines + 1, text) ∷ repeated (lines + 1) text count

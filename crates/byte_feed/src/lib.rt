@@ -9,6 +9,7 @@ mod filling;
 mod laws;
 mod line_ends;
 mod lines;
+mod repeats;
 mod tokens;
 
 pub use errors::error_of;

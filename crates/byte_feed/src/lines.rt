@@ -1,9 +1,11 @@
 // The reader of lines.
-ghost use Rattle.std.specs.Prelude.{◌+◌, ◌-◌, ◌^◌, ◌≤◌, length};
+ghost use Rattle.std.specs.Prelude.{◌≡◌, ◌+◌, ◌-◌, ◌^◌, ◌≤◌, length};
+ghost use Rattle.byte_feed.specs.LineMoves.{LineAt};
 
 use crate::FeedFault;
 use crate::filling::LONG;
 use crate::line_ends::{line_at, line_len, pass_mark};
+use crate::repeats::common;
 use la_base::NoMemory;
 use la_io::{Intake, Source};
 use std::alloc::Global;
@@ -25,6 +27,8 @@ pub struct Lines {
     ghost held: { over ≤ length intake.value.bytes },
     ghost few: { number + (length intake.value.bytes - over) ≤ intake.value.taken },
     ghost small: { number ≤ 2 ^ 60 },
+    ghost counted: { over ≡ len + 1 → 1 ≤ number },
+    ghost whole: { over ≡ len + 1 → LineAt intake.value.bytes len },
 }
 
 impl Lines {
@@ -34,6 +38,7 @@ impl Lines {
     ghost use Rattle.byte_feed.specs.Moving.{FeedCause};
     ghost use Rattle.byte_feed.specs.Feeding.{spent_by};
     ghost use Rattle.byte_feed.specs.LineReader.{Stands, Next, Numbers, Ahead, GaveLine, is_spent};
+    ghost use Rattle.byte_feed.specs.LineReader.{GaveAgain};
     ghost use Rattle.byte_feed.specs.LineReader.{ended_of, number_of, text_of, left_of, rest_of};
     ghost use Rattle.byte_feed.specs.LineReader.{taken_of};
     ghost use Rattle.byte_feed.specs.LineMoves.{AllIn};
@@ -164,6 +169,31 @@ impl Lines {
         self.over = len + 1;
         self.number += 1;
         self.number
+    }
+
+    /// Takes the lines behind the one that was given last that are held and have its bytes, and
+    /// answers how many it took. Nothing is read.
+    // The end of that line is compared as well: the last line of all, which may lack it, isn't
+    // taken.
+    #[inline(always)]
+    pub fn again(&mut self) -> u64
+        ensures gave { GaveAgain self.old self.new result }
+        ensures text { text_of self.new ≡ text_of self.old }
+        ensures ended { ended_of self.new ≡ ended_of self.old }
+        ensures spent { is_spent self.new ≡ is_spent self.old }
+        ensures taken { taken_of self.new ≡ taken_of self.old }
+        ensures counted { number_of self.new ≡ number_of self.old + result }
+        ensures left { left_of self.new ≤ left_of self.old }
+    {
+        let over = self.over;
+        if over - self.len != 1 {
+            return 0;
+        }
+        let bytes = self.intake.bytes();
+        let count = common(bytes, &bytes[over..]) / over;
+        self.intake.advance(count * over);
+        self.number += count as u64;
+        count as u64
     }
 
     /// The bytes of the line that was given last, without its end.

@@ -13,7 +13,7 @@ invariant_of-self g c =
     let passes = rw c.deref_mut-2.ensures.value at c.in-Err.ensures.passes in
     let old = c.args.self.now in
     let few = few_front old.intake.value c.advance.new.self c.pass_mark.new.intake old.over old.number passes.bytes old.few (gone old.over _ _ _ c.deref_mut.ensures.value c.advance.ensures.bytes) (c.advance.ensures.taken ∙ ap (λ (f : Front). f.taken) c.deref_mut.ensures.value) passes.few passes.moves.taken in
-    record { within = omega arith; held = omega arith; few = omega (arith, few); small = old.small }
+    record { within = omega arith; held = omega arith; few = omega (arith, few); small = old.small; counted = λ e. absurd (omega (arith, e)); whole = λ e. absurd (omega (arith, e)) }
 
 pub invariant_of-self-in-Err-line_len : goal.invariant_of-self-in-Err-line_len
 invariant_of-self-in-Err-line_len g c =
@@ -22,7 +22,7 @@ invariant_of-self-in-Err-line_len g c =
     let old = c.args.self.now in
     let few = few_line old.intake.value c.advance.new.self c.pass_mark.new.intake old.over old.number passes.bytes old.few (gone old.over _ _ _ c.deref_mut.ensures.value c.advance.ensures.bytes) (c.advance.ensures.taken ∙ ap (λ (f : Front). f.taken) c.deref_mut.ensures.value) passes.few passes.moves.taken
     c.line_len.new.intake reaches.bytes reaches.held reaches.moves.taken in
-    record { within = omega arith; held = omega arith; few = omega (arith, few); small = old.small }
+    record { within = omega arith; held = omega arith; few = omega (arith, few); small = old.small; counted = λ e. absurd (omega (arith, e)); whole = λ e. absurd (omega (arith, e)) }
 
 pub invariant_of-self-in-Ok-line_len : goal.invariant_of-self-in-Ok-line_len
 invariant_of-self-in-Ok-line_len g c =
@@ -41,6 +41,8 @@ invariant_of-self-in-Ok-line_len g c =
       held = omega (arith, min_is, ap length bytes);
       few = omega (arith, few, min_is, ap length bytes, c.if-held-eq0.false);
       small = omega (arith, few, held.few, taken, ap length bytes, c.if-held-eq0.false);
+      counted = λ e. omega arith;
+      whole = λ e. record { one = r.2; feed = r.3 (omega (arith, e, min_is, ap length bytes)) };
     }
 
 pub returns-in-Err-clause-next : goal.returns-in-Err-clause-next
