@@ -19,3 +19,4 @@ pub mod Making
 pub mod Giving
 pub mod HeldLines
 pub mod Holding
+pub mod Repeating

@@ -11,7 +11,7 @@ use Rattle.capture_csv.specs.Csv.{Taken, last_time, record_says, settled_by, tim
 use Rattle.text_parts.specs.Reading.{read_front}
 use Rattle.capture_csv.specs.Fields.{fields_in}
 use Rattle.capture_csv.specs.Plain.{NeedsCsv}
-use Rattle.capture_csv.specs.Records.{Record, trimmed}
+use Rattle.capture_csv.specs.Records.{Record, is_passed, trimmed}
 use Rattle.capture_csv.specs.Stretches.{TimesTo, levels_now}
 use Rattle.capture_csv.specs.Times.{time_in}
 use Rattle.capture_csv.specs.Values.{LevelsRead}
@@ -165,6 +165,14 @@ abbrev pub RecordSays : Body → Body → ℕ → List ℕ
     → Result (Result (Option Run) CaptureFault) NoMemory → Type 0
 RecordSays old new line text (Ok said) = LineSays old new line text said
 RecordSays old new line text (Err none) = (new ≡ old) × NeedsCsv text
+
+-- this text is a record that is a sample, and the levels and their word are what it says
+pub record IsRow (body : Body) (text : List ℕ) : Type 0 where
+  pub rows : body.mode ≡ Rows
+  pub some : is_passed text ≡ false
+  pub all : length (fields_in text) ≡ body.want
+  pub levels : LevelsRead 1 (map trimmed (fields_in text)) body.levels.items None
+  pub word : body.word ≡ word_of (pins_in body) body.levels.items
 
 -- how many bytes a line has of one digit a field, with quotes or none
 abbrev pub RowLen : Body → Bool → ℕ → Type 0

@@ -53,7 +53,8 @@ impl Body {
     ghost use Rattle.capture_csv.specs.Records.{Record, trimmed};
     ghost use Rattle.capture_csv.specs.Digits.{AreDigits, digits_of};
     ghost use Rattle.capture_csv.specs.Simple.{HasFields, IsSimpleLine};
-    ghost use Rattle.capture_csv.specs.Running.{BodyStands, EndSays, Flushes, FoundIs, LineSays};
+    ghost use Rattle.capture_csv.specs.Csv.{word_of};
+    ghost use Rattle.capture_csv.specs.Running.{BodyStands, EndSays, Flushes, FoundIs, IsRow, LineSays};
     ghost use Rattle.capture_csv.specs.Running.{NewBody, RecordSays, RowLen, SameBody};
     ghost use Rattle.capture_csv.specs.Running.{SameButLevels, SameStands, TakenCounts, TakenSays, at_in};
     ghost use Rattle.capture_csv.specs.Running.{held_in, mode_in, pins_in, rate_in, want_in};
@@ -182,6 +183,8 @@ impl Body {
         ensures says { (line : ℕ) (found : Found) → found.bad ≡ None
             → TakenSays self.old self.new line found (Ok None) }
         ensures held { held_in self.new ≡ true }
+        ensures word { self.new.word ≡ word_of (pins_in self.new) self.new.levels.items }
+        ensures levels { self.new.levels ≡ self.old.levels }
         ensures at { at_in self.new ≡ at_in self.old }
         ensures form { SameBody self.old self.new }
     {
@@ -380,6 +383,7 @@ impl Body {
             → LineSays self.old self.new line text.now (Ok None) }
         ensures digits { result ≡ true
             → (levels : List Bool) × (0 < length levels) × (text.now ≡ digits_of quoted levels) }
+        ensures row { result ≡ true → IsRow self.new text.now }
         ensures held { result ≡ true → held_in self.new ≡ true }
         ensures kept { result ≡ false → self.new ≡ self.old }
         ensures other { result ≡ false → AreDigits quoted text.now (want_in self.old) → ⊥ }
@@ -425,9 +429,11 @@ impl Body {
     pub fn flush(&mut self) -> Run
         requires { held_in self.old ≡ true }
         ensures flushes { Flushes self.old self.new (Some result) }
+        ensures row { (text : List ℕ) → IsRow self.old text → IsRow self.new text }
         ensures held { held_in self.new ≡ false }
         ensures len { result.len ≡ 1 }
         ensures value { result.value ≡ self.old.word }
+        ensures word { self.new.word ≡ self.old.word }
         ensures at { at_in self.new ≡ at_in self.old }
         ensures form { SameBody self.old self.new }
     {

@@ -1,6 +1,8 @@
 // The reader of CSV captures.
 ghost use Rattle.std.specs.Prelude.{◌≡◌, ◌≤◌, true, false};
-ghost use Rattle.byte_feed.specs.LineReader.{is_spent, number_of};
+ghost use Rattle.byte_feed.specs.LineReader.{is_spent, number_of, text_of};
+ghost use Rattle.capture_csv.specs.Records.{without_marks};
+ghost use Rattle.capture_csv.specs.Running.{IsRow};
 
 use crate::body::Body;
 use crate::fields::fields_of_line;
@@ -25,17 +27,20 @@ pub struct CsvReader {
     header: bool,
     phase: Phase,
     is_open: bool,
+    // whether the line that was given last is known to be a row, whose levels the body has
+    is_row: bool,
     ghost fresh: { is_open ≡ true → is_spent lines ≡ false },
     ghost counted: { body.held ≡ true → 1 ≤ number_of lines },
+    ghost row: { is_row ≡ true → IsRow body (without_marks (text_of lines)) },
 }
 
 impl CsvReader {
     ghost use Rattle.std.specs.Prelude.{◌≢◌, ◌<◌, ◌+◌, ◌^◌, ℕ, List, [], length, slice_index, Err};
-    ghost use Rattle.std.specs.Prelude.{IfOk, IfSome, None};
+    ghost use Rattle.std.specs.Prelude.{IfOk, IfSome, None, replicate};
     ghost use Rattle.la_io.specs.Capture.{Told};
-    ghost use Rattle.byte_feed.specs.LineReader.{left_of, text_of};
+    ghost use Rattle.byte_feed.specs.LineReader.{left_of};
     ghost use Rattle.capture_csv.specs.Opening.{IsNew, Makes, MakesEmpty, Opens};
-    ghost use Rattle.capture_csv.specs.Records.{is_passed, without_marks};
+    ghost use Rattle.capture_csv.specs.Records.{is_passed};
     ghost use Rattle.capture_csv.specs.Running.{held_in, run_len};
     ghost use Rattle.la_io.specs.Reading.{run_samples, CaptureCause, stays_open};
     ghost use Rattle.capture_csv.specs.Reader.{CsvStands, FlushedRun, GaveHeld, Gives, GoesHeld};
@@ -93,6 +98,7 @@ impl CsvReader {
                 header,
                 phase: Phase::Empty,
                 is_open: true,
+                is_row: false,
             }),
             Err(NoMemory) => Err(CaptureError::NoMemory),
         }
@@ -137,6 +143,7 @@ impl CsvReader {
                 header,
                 phase,
                 is_open: true,
+                is_row: false,
             }),
             Err(NoMemory) => Err(CaptureError::NoMemory),
         }
@@ -156,6 +163,7 @@ impl CsvReader {
         ensures rate { csv_rate self.new ≡ csv_rate self.old }
         ensures is_open { csv_open self.new ≡ csv_open self.old }
     {
+        self.is_row = false;
         self.body.select(pins);
     }
 
@@ -184,6 +192,7 @@ impl CsvReader {
     #[inline(always)]
     fn flush(&mut self) -> Option<Run>
         ensures flushed { FlushedRun self.old self.new result }
+        ensures value { IfSome result (λ run. run.value ≡ self.new.body.word) }
         ensures held { held_in self.new.body ≡ false }
         ensures form { SameReader self.old self.new }
         ensures phase { self.new.phase ≡ self.old.phase }
@@ -203,6 +212,7 @@ impl CsvReader {
         requires going { self.old.phase ≡ Running }
         requires held { held_in self.old.body ≡ false }
         requires counted { 1 ≤ number_of self.old.lines }
+        requires unknown { self.old.is_row ≡ false }
         requires last { number ≡ csv_lines self.old }
         ensures says { LineAnswers self.old self.new number result }
         ensures goes { LineGoes self.old self.new result }
@@ -242,6 +252,7 @@ impl CsvReader {
         ensures form { SameReader self.old self.new }
         ensures cause { CaptureCause (S.faults source.old) (S.faults source.new) result }
     {
+        self.is_row = false;
         match self.lines.next(source) {
             Ok(Some(number)) => self.line(number),
             Ok(None) => match self.body.end() {
@@ -324,6 +335,7 @@ impl CsvReader {
             return false;
         }
         self.lines.pass(len);
+        self.is_row = true;
         true
     }
 
@@ -353,6 +365,7 @@ impl CsvReader {
         requires going { self.old.phase ≡ Running }
         requires rows { csv_mode self.old ≡ Rows }
         ensures given { GoesHeld self.old self.new (run_samples result) }
+        ensures value { IfSome result (λ run. run.value ≡ self.new.body.word) }
         ensures held { held_in self.new.body ≡ false }
         ensures counts { csv_given self.old + run_len result ≤ csv_given self.new }
         ensures phase { self.new.phase ≡ self.old.phase }
@@ -391,6 +404,7 @@ impl CsvReader {
         ensures form { SameReader self.old self.new }
         ensures is_open { csv_open self.new ≡ csv_open self.old }
     {
+        self.is_row = false;
         let number = self.lines.number();
         let line = match self.lines.held() {
             Some(line) => line,
@@ -453,6 +467,24 @@ impl CsvReader {
         self.held_record()
     }
 
+    // Takes the rows that are held and repeat the one that was given last, and answers how many.
+    #[inline(always)]
+    fn again(&mut self) -> u64
+        requires held { held_in self.old.body ≡ false }
+        ensures given { GoesHeld self.old self.new (replicate result self.old.body.word) }
+        ensures body { self.new.body ≡ self.old.body }
+        ensures left { left_of self.new.lines ≤ left_of self.old.lines }
+        ensures counts { csv_given self.old + result ≤ csv_given self.new }
+        ensures phase { self.new.phase ≡ self.old.phase }
+        ensures form { SameReader self.old self.new }
+        ensures is_open { csv_open self.new ≡ csv_open self.old }
+    {
+        if !self.is_row {
+            return 0;
+        }
+        self.lines.again()
+    }
+
     /// The next run of what is held: equal samples of lines of digits alone, or what one record of
     /// another line gives; `None` where no record is held, or the next one has a fault or takes memory.
     /// Nothing is read.
@@ -472,13 +504,13 @@ impl CsvReader {
             None => return self.held_record(),
         };
         let value = first.value;
-        let mut len = first.len;
+        let mut len = first.len + self.again();
         'held: loop {
             if !self.row() || self.body.word() != value {
                 return Some(Run { value, len });
             }
             self.body.flush();
-            len += 1;
+            len += 1 + self.again();
         }
     }
 

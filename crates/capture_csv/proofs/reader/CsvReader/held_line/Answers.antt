@@ -21,7 +21,7 @@ pub returns-then-is_passed-clause-goes : goal.returns-then-is_passed-clause-goes
 returns-then-is_passed-clause-goes c =
     let s = c.args.self.now in
     let passed = c.pass.ensures in
-    let at : CsvReader = record { lines = c.pass.new.self; body = s.body; names = s.names; header = s.header; phase = s.phase; is_open = s.is_open; fresh = λ e. passed.spent ∙ s.fresh e; counted = λ held. absurd (let bad : true ≡ false = sym held ∙ c.requires.held in cc) } in
+    let at : CsvReader = record { lines = c.pass.new.self; body = s.body; names = s.names; header = s.header; phase = s.phase; is_open = s.is_open; is_row = false; row = λ e. cc; fresh = λ e. passed.spent ∙ s.fresh e; counted = λ held. absurd (let bad : true ≡ false = sym held ∙ c.requires.held in cc) } in
     let text : text_of c.pass.new.self ≡ c.in-Some.line.now = passed.text ∙ sym c.in-Some.ensures.2 in
     let over = ap (λ (l : List ℕ). is_passed (without_marks l)) text ∙ ap is_passed (sym c.without_marks-text.ensures) ∙ sym c.is_passed.ensures ∙ c.if-is_passed.true in (
       (λ bytes told given going.
@@ -36,7 +36,7 @@ returns-in-Some-None-clause-goes c =
     let s = c.args.self.now in
     let passed = c.pass-in-Some-None.ensures in
     let form = c.in-Some-None.ensures.form in
-    let at : CsvReader = record { lines = c.pass-in-Some-None.new.self; body = s.body; names = s.names; header = s.header; phase = s.phase; is_open = s.is_open; fresh = λ e. passed.spent ∙ s.fresh e; counted = λ held. absurd (let bad : true ≡ false = sym held ∙ c.requires.held in cc) } in
+    let at : CsvReader = record { lines = c.pass-in-Some-None.new.self; body = s.body; names = s.names; header = s.header; phase = s.phase; is_open = s.is_open; is_row = false; row = λ e. cc; fresh = λ e. passed.spent ∙ s.fresh e; counted = λ held. absurd (let bad : true ≡ false = sym held ∙ c.requires.held in cc) } in
     let text : text_of c.pass-in-Some-None.new.self ≡ c.in-Some.line.now = passed.text ∙ sym c.in-Some.ensures.2 in
     let other = ap (λ (l : List ℕ). is_passed (without_marks l)) text ∙ ap is_passed (sym c.without_marks-text.ensures) ∙ sym c.is_passed.ensures ∙ c.if-is_passed.false in
     let number : c.number-number.result + 1 ≡ c.pass-in-Some-None.result = ap (λ (n : ℕ). n + 1) c.number-number.ensures ∙ sym passed.number in
@@ -57,7 +57,7 @@ returns-in-Some-Some-clause-goes c =
     let passed = c.pass-in-Some-Some.ensures in
     let form = c.in-Some-Some.ensures.form in
     let run = c.in-Some-Some.run' in
-    let at : CsvReader = record { lines = c.pass-in-Some-Some.new.self; body = s.body; names = s.names; header = s.header; phase = s.phase; is_open = s.is_open; fresh = λ e. passed.spent ∙ s.fresh e; counted = λ held. absurd (let bad : true ≡ false = sym held ∙ c.requires.held in cc) } in
+    let at : CsvReader = record { lines = c.pass-in-Some-Some.new.self; body = s.body; names = s.names; header = s.header; phase = s.phase; is_open = s.is_open; is_row = false; row = λ e. cc; fresh = λ e. passed.spent ∙ s.fresh e; counted = λ held. absurd (let bad : true ≡ false = sym held ∙ c.requires.held in cc) } in
     let text : text_of c.pass-in-Some-Some.new.self ≡ c.in-Some.line.now = passed.text ∙ sym c.in-Some.ensures.2 in
     let other = ap (λ (l : List ℕ). is_passed (without_marks l)) text ∙ ap is_passed (sym c.without_marks-text.ensures) ∙ sym c.is_passed.ensures ∙ c.if-is_passed.false in
     let number : c.number-number.result + 1 ≡ c.pass-in-Some-Some.result = ap (λ (n : ℕ). n + 1) c.number-number.ensures ∙ sym passed.number in

@@ -50,7 +50,7 @@ returns-in-Ok-Err-clause-says c = λ bytes told given items first rest records h
     let text = c.without_marks-text.ensures ∙ ap without_marks c.text.ensures.text in
     let form = c.in-Ok-Err.ensures.form in
     let said = c.in-Ok-Err.ensures.says (body_of (csv_header s) first rest) given body c.requires.held in
-    let new : CsvReader = record { lines = s.lines; body = c.record.new.self; names = s.names; header = s.header; phase = s.phase; is_open = false; fresh = λ e. cc; counted = λ e. c.requires.counted } in
+    let new : CsvReader = record { lines = s.lines; body = c.record.new.self; names = s.names; header = s.header; phase = s.phase; is_open = false; is_row = false; row = λ e. cc; fresh = λ e. cc; counted = λ e. c.requires.counted } in
     line_faulty s new bytes told given items c.args.number first rest records head lines few c.in-Ok-Err.fault (sym (c.is_passed.ensures ∙ ap is_passed text) ∙ c.if-is_passed.false) form.mode refl form.rate form.want
     (subst (λ (l : List ℕ). BodyFaulty c.record.new.self (body_of (csv_header s) first rest ++ row_of c.args.number l ∷ []) given c.in-Ok-Err.fault) text
     (subst (λ (r : Result (Option Run) CaptureFault). FieldsAnswer c.record.new.self (body_of (csv_header s) first rest ++ row_of c.args.number c.without_marks-text.result.now ∷ []) given r) c.in-Ok-Err.field-0-is said))
@@ -60,5 +60,5 @@ returns-in-Err-clause-says c = λ bytes told given items first rest records head
     let s = c.args.self.now in
     let text = c.without_marks-text.ensures ∙ ap without_marks c.text.ensures.text in
     let says = c.in-Err.ensures.says in
-    let new : CsvReader = record { lines = s.lines; body = c.record.new.self; names = s.names; header = s.header; phase = s.phase; is_open = false; fresh = λ e. cc; counted = λ e. c.requires.counted } in
+    let new : CsvReader = record { lines = s.lines; body = c.record.new.self; names = s.names; header = s.header; phase = s.phase; is_open = false; is_row = false; row = λ e. cc; fresh = λ e. cc; counted = λ e. c.requires.counted } in
     line_wants s new bytes told given items c.args.number first rest records head lines few (subst (λ (l : List ℕ). NeedsCsv l) text says.1) c.requires.last refl says.0 refl body c.requires.held

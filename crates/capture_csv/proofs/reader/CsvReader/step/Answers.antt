@@ -78,7 +78,7 @@ returns-in-Err-clause-steps g c =
       consumed = next.consumed;
       answers = λ before early given at going.
           let ended = told_on s.lines next.bytes before early going.items going.lines in
-          let new : CsvReader = record { lines = c.next.new.self; body = s.body; names = s.names; header = s.header; phase = s.phase; is_open = false; fresh = λ e. cc; counted = λ held. absurd (let bad = sym c.requires.held ∙ held in cc) } in
+          let new : CsvReader = record { lines = c.next.new.self; body = s.body; names = s.names; header = s.header; phase = s.phase; is_open = false; is_row = false; row = λ e. cc; fresh = λ e. cc; counted = λ held. absurd (let bad = sym c.requires.held ∙ held in cc) } in
           stop_says new c.next.new.self _ early next.bytes before given going.items going.first going.rest c.in-Err.fault _ c.error_of.ensures.is going.records going.head going.body c.requires.held (λ e. next.none (ended e)) (λ e. next.stays (ended e))
           (next.answers before early going.items going.fresh at going.lines);
     }
