@@ -1,6 +1,6 @@
 // A buffer between a source and its reader.
 ghost use Rattle.std.specs.Prelude.{◌≡◌, ◌<◌, ◌≤◌, ◌+◌, ◌-◌, ◌^◌, ◌++◌, [], length, slice_range};
-ghost use Rattle.std.specs.Prelude.{take, drop};
+ghost use Rattle.std.specs.Prelude.{take, drop, false};
 ghost use Rattle.la_io.specs.Causes.{HasCause};
 ghost use Rattle.la_io.specs.Intake.{Front, Reads, ReadsWithout, without};
 
@@ -121,6 +121,42 @@ impl<const ROOM: usize> Intake<ROOM> {
     }
 }
 
+// How many bytes are looked at at once.
+const BLOCK: usize = 64;
+
+// Whether a byte is among some. It stops nowhere, so that many are compared at once.
+#[inline(always)]
+fn has(bytes: &[u8], byte: u8) -> bool
+    ensures { result ≡ false → without byte bytes.now ≡ bytes.now }
+{
+    let mut found = false;
+    let mut place = 0;
+    while place < bytes.len() {
+        found |= bytes[place] == byte;
+        place += 1;
+    }
+    found
+}
+
+// How far none of the bytes behind the first `from` is this one: they are looked at by whole
+// blocks.
+fn free_blocks(bytes: &[u8], from: usize, byte: u8) -> usize
+    requires { from ≤ length bytes.now }
+    ensures more { from ≤ result }
+    ensures within { result ≤ length bytes.now }
+    ensures none { without byte (drop from (take result bytes.now))
+        ≡ drop from (take result bytes.now) }
+{
+    let mut at = from;
+    while bytes.len() - at >= BLOCK {
+        if has(&bytes[at..at + BLOCK], byte) {
+            return at;
+        }
+        at += BLOCK;
+    }
+    at
+}
+
 // Takes a byte out of what stands behind the first `from` bytes, and answers how many bytes are
 // left in all. Nothing is moved before the first such byte.
 fn drop_behind(bytes: &mut [u8], from: usize, dropped: u8) -> usize
@@ -129,8 +165,8 @@ fn drop_behind(bytes: &mut [u8], from: usize, dropped: u8) -> usize
     ensures kept { take result bytes.new
         ≡ take from bytes.old ++ without dropped (drop from bytes.old) }
 {
-    let mut to = from;
-    let mut at = from;
+    let mut at = free_blocks(bytes, from, dropped);
+    let mut to = at;
     while at < bytes.len() {
         let byte = bytes[at];
         if byte != dropped {
