@@ -106,11 +106,20 @@ impl RunFeed for Listed {
     }
 }
 
-fn run_alone(alloc: Global) -> Result<Marks, Fail> {
+// A decoder of each line.
+fn opened_lines(alloc: Global) -> Result<Vec<Driver<Uart>>, Fail> {
     let mut machines = Vec::new(alloc);
-    machines.push(opened_line_on(LINES[0])?)?;
-    machines.push(opened_line_on(LINES[1])?)?;
-    machines.push(opened_line_on(LINES[2])?)?;
+    for line in LINES {
+        machines.push(opened_line_on(line)?)?;
+    }
+    Ok(machines)
+}
+
+fn run_alone(alloc: Global) -> Result<Marks, Fail> {
+    let mut machines = opened_lines(alloc)?;
+    if machines.len() != 3 {
+        return Err("three lines".into());
+    }
     let mut feed = Listed::new(alloc)?;
     let mut take = Marks::new(alloc, ALL);
     match run_direct(&mut machines, &[None, None, None], &mut feed, &mut take) {
@@ -120,10 +129,10 @@ fn run_alone(alloc: Global) -> Result<Marks, Fail> {
 }
 
 fn run_apart<R: Threads + Wait + Sync>(rt: &R, alloc: Global, slots: u32) -> Result<Marks, Fail> {
-    let mut machines = Vec::new(alloc);
-    machines.push(opened_line_on(LINES[0])?)?;
-    machines.push(opened_line_on(LINES[1])?)?;
-    machines.push(opened_line_on(LINES[2])?)?;
+    let machines = opened_lines(alloc)?;
+    if machines.len() != 3 {
+        return Err("three lines".into());
+    }
     let mut feed = Listed::new(alloc)?;
     let mut take = Marks::new(alloc, ALL);
     match run_stages(
