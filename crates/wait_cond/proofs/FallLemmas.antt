@@ -15,10 +15,8 @@ use Rattle.wait_cond.specs.declared.walk.Walk.{Walk}
 use Rattle.wait_cond.proofs.Masks.{all_in_yes, all_in_no, none_in_yes, none_in_no}
 use Rattle.wait_cond.proofs.Passing.{set_passed, set_stopped}
 use Rattle.wait_cond.proofs.Sets.{met_more, met_pass, none_yet}
+use Rattle.wait_cond.proofs.Timers.{no_bit_of}
 use Rattle.wait_cond.proofs.WatchLemmas.{never_met, watch_one}
-
-no_bit_of : {A : Type 0} (mask line : ℕ) → mask ≡ 0 → bit_at mask line ≡ 1 → A
-no_bit_of mask line none one = absurd (omega (arith, one, ap (λ (n : ℕ). bit_at n line) none, bit_at-zero line))
 
 or_nothing : (lines : ℕ) → bit_or (bit_or 0 lines) 0 ≡ lines
 or_nothing lines = same_from_bits (bit_or (bit_or 0 lines) 0) lines

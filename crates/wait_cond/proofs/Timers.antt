@@ -14,10 +14,10 @@ use Rattle.wait_cond.specs.Watching.{SkipMore}
 use Rattle.wait_cond.specs.declared.alt.Alt.{Alt}
 use Rattle.wait_cond.specs.declared.walk.Walk.{Walk}
 use Rattle.wait_cond.proofs.Passing.{none_so_far}
-use Rattle.wait_cond.proofs.Runs.{met_at, none_skipped, samples_are, through, whole_len}
+use Rattle.wait_cond.proofs.Runs.{met_at, none_skipped, samples_are, whole_len}
 use Rattle.wait_cond.proofs.Sets.{get_push, met_more, none_yet}
 
-no_bit_of : {A : Type 0} (mask line : ℕ) → mask ≡ 0 → bit_at mask line ≡ 1 → A
+pub no_bit_of : {A : Type 0} (mask line : ℕ) → mask ≡ 0 → bit_at mask line ≡ 1 → A
 no_bit_of mask line none one = absurd (omega (arith, one, ap (λ (n : ℕ). bit_at n line) none, bit_at-zero line))
 
 module _ (alts : List Alt) (skip : ℕ) (timer : IsTimer alts skip) where
@@ -50,10 +50,6 @@ module _ (alts : List Alt) (skip : ℕ) (timer : IsTimer alts skip) where
     early : (n : ℕ) → consumed + n < from + skip → NoneMet (list ++ samples run) alts from (length list + n)
     early n before = none_skipped list (samples run) run.value run.len (samples_are run) alts from (length list + n) (skip - 1)
         (skips_all (skip - 1) (omega (arith, some_skip))) (omega (arith, before, w.count, some_skip))
-
-    -- a run that ends before is passed
-    pub timer_passed : consumed + run.len < from + skip → WaitsAt alts (consumed + run.len) from run.value (list ++ samples run)
-    timer_passed before = through list (samples run) run.value run.len (samples_are run) alts consumed from last run.not_empty w (early run.len before)
 
     module _ (place : ℕ) (is : place ≡ max 1 (from + skip - consumed) - 1) where
       none_before : NoneMet (list ++ samples run) alts from (length list + place)

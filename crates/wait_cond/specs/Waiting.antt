@@ -36,11 +36,6 @@ pub record WaitsAt (alts : List Alt) (consumed from last : ℕ) (list : List ℕ
 abbrev pub Waits : Waiter → List ℕ → Type 0
 Waits w list = WaitsAt w.cond w.consumed w.from w.last list
 
--- a waiter may go on by so many samples, the last of which is then this one
-abbrev pub GoesOn : Waiter → ℕ → ℕ → List ℕ → Type 0
-GoesOn w count last more =
-    (list : List ℕ) → Waits w list → WaitsAt w.cond (w.consumed + count) w.from last (list ++ more)
-
 -- the sample behind a last stop; the first of all where there was none
 abbrev pub behind_stop : Option ℕ → ℕ
 behind_stop None = 0

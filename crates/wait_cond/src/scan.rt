@@ -1,5 +1,5 @@
 // The wait itself.
-ghost use Rattle.std.specs.Prelude.{◌≡◌, ◌+◌, ◌-◌, ◌≤◌, ◌^◌, length, min, max};
+ghost use Rattle.std.specs.Prelude.{◌≡◌, ◌≤◌, ◌^◌};
 
 use crate::behind::behind;
 use crate::met::met_set;
@@ -49,7 +49,7 @@ impl Waiter {
     ghost use Rattle.wait_cond.specs.Stops.{MetSet, NoneMet};
     ghost use Rattle.wait_cond.specs.Walks.{Walks, walked, walk_from};
     ghost use Rattle.wait_cond.specs.Waiting.{Waits, MadeOf, Scanned, Counts, ThroughCounts};
-    ghost use Rattle.wait_cond.specs.Waiting.{FindsIn, GoesOn, alts_of, behind_stop, wait_from};
+    ghost use Rattle.wait_cond.specs.Waiting.{FindsIn, alts_of, behind_stop, wait_from};
     ghost use Rattle.wait_cond.specs.Waiting.{consumed_by, last_of};
 
     /// A waiter that has consumed no sample yet.
@@ -214,10 +214,6 @@ impl Waiter {
         ensures from { wait_from self.new ≡ wait_from self.old }
         ensures alts { alts_of self.new ≡ alts_of self.old }
     {
-        // Most runs of a serial line lie within the time up to its next bit.
-        if let Some(skip) = self.cond.only_skip() {
-            return self.pass_early(skip, runs);
-        }
         for (place, run) in runs.iter().enumerate() {
             if run.len > MOST_SAMPLES - self.consumed || !self.passes(*run) {
                 return place;
@@ -225,48 +221,6 @@ impl Waiter {
             self.pass(*run);
         }
         runs.len()
-    }
-
-    // The same of a wait for a time alone: its numbers are stored once, behind all runs.
-    #[inline(always)]
-    fn pass_early(&mut self, skip: u64, runs: &[Run]) -> usize
-        requires { IsTimer (alts_of self.old) skip }
-        ensures within { result ≤ length runs.now }
-        ensures waits { (list : List ℕ) → Waits self.old list
-            → Waits self.new (list ++ samples_of (take result runs.now)) }
-        ensures count { consumed_by self.new
-            ≡ consumed_by self.old + length (samples_of (take result runs.now)) }
-        ensures from { wait_from self.new ≡ wait_from self.old }
-        ensures alts { alts_of self.new ≡ alts_of self.old }
-    {
-        let (count, passed, last) = self.early(skip, runs);
-        self.consumed += passed;
-        self.last = last;
-        count
-    }
-
-    // How many runs end before the time has passed, how many samples they have, and the last sample
-    // then.
-    #[inline(always)]
-    fn early(&self, skip: u64, runs: &[Run]) -> (usize, u64, Word)
-        requires { IsTimer (alts_of self.now) skip }
-        ensures within { result.0 ≤ length runs.now }
-        ensures passed { result.1 ≡ length (samples_of (take result.0 runs.now)) }
-        ensures few { consumed_by self.now + result.1 ≤ 2 ^ 60 }
-        ensures unseen { consumed_by self.now + result.1 ≡ 0 → result.2 ≡ 0 }
-        ensures waits { GoesOn self.now result.1 result.2 (samples_of (take result.0 runs.now)) }
-    {
-        let room = early_room(self.from, skip, self.consumed);
-        let mut left = room;
-        let mut last = self.last;
-        for (place, run) in runs.iter().enumerate() {
-            if run.len > left {
-                return (place, room - left, last);
-            }
-            left -= run.len;
-            last = run.value;
-        }
-        (runs.len(), room - left, last)
     }
 
     /// Whether it waits for one or two alternatives of which masks say all, and has consumed a
@@ -447,16 +401,4 @@ impl Waiter {
             }
         }
     }
-}
-
-// How many samples come before the first one at which so many were skipped, of those that there is
-// room for.
-fn early_room(from: u64, skip: u64, consumed: u64) -> u64
-    requires { consumed ≤ 2 ^ 60 }
-    ensures { result ≡ min (from + skip - 1 - consumed) (2 ^ 60 - consumed) }
-{
-    from.saturating_add(skip)
-        .saturating_sub(1)
-        .saturating_sub(consumed)
-        .min(MOST_SAMPLES - consumed)
 }
