@@ -3,16 +3,6 @@ use Rattle.std.specs.Prelude.{ℕ, ◌≤◌, List, [], ◌∷◌}
 use Rattle.la_base.specs.declared.wires.Mark.{Mark}
 use Rattle.la_base.specs.declared.wires.Mark.TheVariants.{Note as NoteMark, Piece as PieceMark}
 use Rattle.la_base.specs.declared.wires.Mark.TheVariants.{Floor as FloorMark, End as EndMark}
-use Rattle.la_base.specs.declared.wires.Out.{Out}
-use Rattle.la_base.specs.declared.wires.Out.TheVariants.{Note as NoteOut, Piece as PieceOut}
-use Rattle.la_base.specs.declared.wires.Out.TheVariants.{Packet as PacketOut}
-
--- the notes and pieces among outputs
-abbrev pub marks_of : List Out → List Mark
-marks_of [] = []
-marks_of (NoteOut note ∷ outs) = NoteMark note ∷ marks_of outs
-marks_of (PieceOut piece ∷ outs) = PieceMark piece ∷ marks_of outs
-marks_of (PacketOut packet ∷ outs) = marks_of outs
 
 -- the notes and pieces among marks
 abbrev pub shown : List Mark → List Mark

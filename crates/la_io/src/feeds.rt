@@ -1,12 +1,14 @@
 // What a tree of decoders reads from, and what takes its marks.
-ghost use Rattle.std.specs.Prelude.{◌≡◌, ◌<◌, ◌≤◌, ◌^◌, List, ℕ, Bool, true, false};
+ghost use Rattle.std.specs.Prelude.{◌≡◌, ◌≢◌, ◌<◌, ◌≤◌, ◌^◌, ◌∷◌, [], List, ℕ, Bool, true, false};
+ghost use Rattle.std.specs.Prelude.{OnErr};
 ghost use Rattle.std.specs.Result.{is_ok};
 ghost use Rattle.la_base.specs.declared.samples.Run.{Run};
 ghost use Rattle.la_base.specs.declared.wires.Mark.{Mark};
 ghost use Rattle.la_io.specs.Causes.{HasCause};
-ghost use Rattle.la_io.specs.Feeds.{Counts, GivesHeld, GivesRuns, TakesMark, TellsMore};
+ghost use Rattle.la_io.specs.Feeds.{Counts, GivesHeld, GivesRuns, TakesFront, TakesMark, TakesMarks};
+ghost use Rattle.la_io.specs.Feeds.{TellsMore, marks_of, real};
 
-use la_base::{Mark, Run};
+use la_base::{Mark, Out, Run};
 
 /// Gives the runs that are to be decoded: at most 2^60 samples, so that every feed ends.
 pub trait RunFeed {
@@ -102,6 +104,82 @@ pub trait MarkTake {
         ensures cause { HasCause (stops self.old) (stops self.new) result }
         ensures going { going self.old true → going self.new (is_ok result) }
         ensures origin { origin self.new ≡ origin self.old };
+
+    /// Takes an output of an instance as its next mark, where it is a note or a piece.
+    fn take_out(&mut self, instance: u32, out: &Out) -> Result<(), Stopped>
+        requires { instance < instances self.old }
+        ensures adds { TakesMarks (took self.old) (took self.new) instance
+            (marks_of (out.now ∷ [])) }
+        ensures some { OnErr result (marks_of (out.now ∷ []) ≢ []) }
+        ensures instances { instances self.new ≡ instances self.old }
+        ensures cause { HasCause (stops self.old) (stops self.new) result }
+        ensures going { going self.old true → going self.new (is_ok result) }
+        ensures origin { origin self.new ≡ origin self.old }
+    {
+        match out {
+            Out::Note(note) => self.take(instance, Mark::Note(*note)),
+            Out::Piece(piece) => self.take(instance, Mark::Piece(*piece)),
+            Out::Packet(_) => Ok(()),
+        }
+    }
+
+    /// Takes a mark of an instance as its next, unless it is an end.
+    fn take_real(&mut self, instance: u32, mark: Mark) -> Result<(), Stopped>
+        requires { instance < instances self.old }
+        ensures adds { TakesMarks (took self.old) (took self.new) instance (real (mark ∷ [])) }
+        ensures some { OnErr result (real (mark ∷ []) ≢ []) }
+        ensures instances { instances self.new ≡ instances self.old }
+        ensures cause { HasCause (stops self.old) (stops self.new) result }
+        ensures going { going self.old true → going self.new (is_ok result) }
+        ensures origin { origin self.new ≡ origin self.old }
+    {
+        match mark {
+            Mark::Note(note) => self.take(instance, Mark::Note(note)),
+            Mark::Piece(piece) => self.take(instance, Mark::Piece(piece)),
+            Mark::Floor(start) => self.take(instance, Mark::Floor(start)),
+            Mark::End => Ok(()),
+        }
+    }
+
+    /// Takes the notes and the pieces among these outputs of an instance as its next marks. Where it
+    /// answers `Stopped`, it took them up to that at which it stopped, or further.
+    fn take_outs(&mut self, instance: u32, outs: &[Out]) -> Result<(), Stopped>
+        requires { instance < instances self.old }
+        ensures adds { TakesFront (is_ok result) (took self.old) (took self.new) instance
+            (marks_of outs.now) }
+        ensures instances { instances self.new ≡ instances self.old }
+        ensures cause { HasCause (stops self.old) (stops self.new) result }
+        ensures going { going self.old true → going self.new (is_ok result) }
+        ensures origin { origin self.new ≡ origin self.old }
+    {
+        for out in outs {
+            match self.take_out(instance, out) {
+                Ok(()) => {}
+                Err(Stopped) => return Err(Stopped),
+            }
+        }
+        Ok(())
+    }
+
+    /// Takes the next marks of an instance; an end among them isn't taken. Where it answers
+    /// `Stopped`, it took them up to that at which it stopped, or further.
+    fn take_marks(&mut self, instance: u32, marks: &[Mark]) -> Result<(), Stopped>
+        requires { instance < instances self.old }
+        ensures adds { TakesFront (is_ok result) (took self.old) (took self.new) instance
+            (real marks.now) }
+        ensures instances { instances self.new ≡ instances self.old }
+        ensures cause { HasCause (stops self.old) (stops self.new) result }
+        ensures going { going self.old true → going self.new (is_ok result) }
+        ensures origin { origin self.new ≡ origin self.old }
+    {
+        for mark in marks {
+            match self.take_real(instance, *mark) {
+                Ok(()) => {}
+                Err(Stopped) => return Err(Stopped),
+            }
+        }
+        Ok(())
+    }
 
     /// It may be long until the next mark comes: hands on what it keeps back, where it keeps
     /// anything back. `Stopped` comes where that failed.

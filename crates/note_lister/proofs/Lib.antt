@@ -1,3 +1,4 @@
 pub mod Settling
 pub mod Seeing
+mod PushLemmas
 pub mod TakingLemmas

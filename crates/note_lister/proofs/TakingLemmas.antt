@@ -11,9 +11,10 @@ use Rattle.std.proofs.lemmas.List.Elements.{All-nil}
 use Rattle.la_base.specs.declared.wires.Mark.{Mark}
 use Rattle.la_base.specs.declared.wires.Mark.TheVariants.{Note as NoteMark, Piece as PieceMark, Floor as FloorMark, End as EndMark}
 use Rattle.la_io.specs.Causes.{AppendsFront, Rose}
-use Rattle.la_io.specs.Feeds.{AddsMark}
+use Rattle.la_io.specs.Feeds.{AddsMark, AddsMarks}
 use Rattle.la_io.specs.Grown.{appends_nothing, appends_on}
 use Rattle.la_io.proofs.Fronts.{front_on, front_whole}
+use Rattle.la_io.proofs.Taking.{adds_behind, adds_first, middle, same_after, takes_nothing}
 use Rattle.note_order.specs.declared.entry.Entry.{Entry}
 use Rattle.stack_spec.specs.Accepting.{Accepted}
 use Rattle.annot_merge.specs.Bounds.{IsAllowed}
@@ -23,6 +24,7 @@ use Rattle.annot_merge.specs.declared.merge.Merge.{Merge}
 use Rattle.note_lister.specs.Data.{bytes_in, wanted_by, wanted_of}
 use Rattle.note_lister.specs.Lines.{shown_entries, shown_lines}
 use Rattle.note_lister.specs.Prompt.{Prompts}
+use Rattle.note_lister.specs.Pushing.{PushesMarks}
 use Rattle.note_lister.specs.Ready.{ListsReady, StopCause}
 use Rattle.note_lister.specs.Taking.{Writes, WritesAll, WritesFront, WritesFrontOf, WritesLines}
 use Rattle.note_lister.specs.Watching.{SeesNone}
@@ -33,6 +35,12 @@ use Rattle.note_lister.proofs.Settling.{Settles, one_more, settles}
 
 pub as_pushed : (before after : ℕ → List Mark) (instance : ℕ) (mark : Mark) → AddsMark before after instance mark → Pushes before after instance mark
 as_pushed before after instance mark adds = record { here = adds.here; others = adds.others }
+
+pub one_pushed : (merge last : Merge) (instance : ℕ) (mark : Mark) → Takes merge last instance mark → PushesMarks merge last instance (mark ∷ [])
+one_pushed merge last instance mark takes = λ given before after stands adds. takes before after given stands (as_pushed before after instance mark adds)
+
+pub none_pushed : (merge last : Merge) (instance : ℕ) → StandsStill merge last → PushesMarks merge last instance []
+none_pushed merge last instance still = λ given before after stands adds. still after given (subst (λ (had : ℕ → List Mark). Stands merge had given) (same_after adds) stands)
 
 pub begins_itself : {X : Type 0} (list : List X) → Begins list list
 begins_itself list = ([], append-nil list)
@@ -166,13 +174,13 @@ module _ (accepted : Accepted) where
   paused_again merge (Some Write) stops more saw old new failed_old failed_new marks some again w = w
   paused_again merge (Some NoMemory) stops more saw old new failed_old failed_new marks some again w = (again, w.1, w.2)
 
-  module _ (before after : ℕ → List Mark) (instance : ℕ) (mark : Mark) (adds : AddsMark before after instance mark) where
+  module _ (before after : ℕ → List Mark) (instance : ℕ) (added : List Mark) (adds : AddsMarks before after instance added) where
     -- it was stopped before
     front_later : (count : ℕ) (saw : List Entry → Type 0) (old new : Option (List ℕ)) → WritesFront accepted count saw old new before → WritesFront accepted count saw old new after
     front_later count saw old new w = record {
       first = w.first;
       begins = λ j. elim (cases_eq j instance) [
-        | inl same ↦ subst (λ (k : ℕ). Begins (w.first k) (after k)) (sym same) ((w.begins instance).0 ++ mark ∷ [], sym (append_assoc (w.first instance) (w.begins instance).0 (mark ∷ [])) ∙ (ap (λ (l : List Mark). l ++ mark ∷ []) (w.begins instance).1 ∙ sym adds.here))
+        | inl same ↦ subst (λ (k : ℕ). Begins (w.first k) (after k)) (sym same) ((w.begins instance).0 ++ added, sym (append_assoc (w.first instance) (w.begins instance).0 added) ∙ (ap (λ (l : List Mark). l ++ added) (w.begins instance).1 ∙ sym adds.here))
         | inr differ ↦ subst (Begins (w.first j)) (sym (adds.others j differ)) (w.begins j)
       ];
       out = w.out;
@@ -188,32 +196,11 @@ module _ (accepted : Accepted) where
     stopped_again merge (Some Write) stops more saw old new failed_old failed_new some again w = (w.0, w.1, front_later (count_of merge) saw old new w.2)
     stopped_again merge (Some NoMemory) stops more saw old new failed_old failed_new some again w = (again, w.1, front_later (count_of merge) saw old new w.2)
 
-    -- binary data is wanted
-    data_on : (binary : Option (ℕ × ℕ)) → IsSome binary → (merge : Merge) (saw : List Entry → Type 0) (old mid new : Option (List ℕ)) → WritesAll accepted binary merge saw old mid before → Appends mid new (wanted_by binary instance mark) → WritesAll accepted binary merge saw old new after
-    data_on None some merge saw old mid new had more = absurd cc
-    data_on (Some wanted) some merge saw old mid new had more = (
-      appends_on old mid new (bytes_in wanted.1 (before wanted.0)) (wanted_of wanted instance mark) (bytes_in wanted.1 (after wanted.0)) had.0 more (sym (bytes_after wanted before after instance mark adds)),
-      had.1,
-    )
-
-    data_front : (binary : Option (ℕ × ℕ)) → IsSome binary → accepted.binary ≡ binary → (merge : Merge) (saw : List Entry → Type 0) (old mid new : Option (List ℕ)) → WritesAll accepted binary merge saw old mid before → AppendsFront mid new (wanted_by binary instance mark)
-        → WritesFrontOf accepted (count_of merge) saw old new after
-    data_front None some is merge saw old mid new had more = absurd cc
-    data_front (Some wanted) some is merge saw old mid new had more =
-        let front : AppendsFront old new (bytes_in wanted.1 (after wanted.0)) = subst (AppendsFront old new) (sym (bytes_after wanted before after instance mark adds)) (front_on old mid new (bytes_in wanted.1 (before wanted.0)) (wanted_of wanted instance mark) had.0 more) in
-        record {
-          out = bytes_in wanted.1 (after wanted.0);
-          notes = [];
-          prompts = subst (λ b. Prompts accepted b (count_of merge) after (bytes_in wanted.1 (after wanted.0)) []) (sym is) (refl, refl);
-          front = front;
-          seen = saw_none accepted saw old new (bytes_in wanted.1 (after wanted.0)) front had.1;
-        }
-
     -- notes are listed
-    lines_on : (merge mid_merge last : Merge) (saw_mid saw : List Entry → Type 0) (old mid new : Option (List ℕ)) (done : Unit {0}) → WritesLines accepted merge saw_mid old mid before → Takes merge mid_merge instance mark
+    lines_on : (merge mid_merge last : Merge) (saw_mid saw : List Entry → Type 0) (old mid new : Option (List ℕ)) (done : Unit {0}) → WritesLines accepted merge saw_mid old mid before → PushesMarks merge mid_merge instance added
         → ((marks : ℕ → List Mark) (given : List Entry) → Stands mid_merge marks given → ListsReady accepted last saw_mid saw mid new marks given (Ok done)) → WritesLines accepted last saw old new after
     lines_on merge mid_merge last saw_mid saw old mid new done w takes lists =
-        let r = lists after w.given (takes before after w.given w.stands (as_pushed before after instance mark adds)) in
+        let r = lists after w.given (takes w.given before after w.stands adds) in
         record {
           given = w.given ++ r.0.more;
           stands = r.0.stands;
@@ -241,22 +228,12 @@ module _ (accepted : Accepted) where
             seen = shown_saw accepted saw old new (given ++ s.more) longer;
           }
 
-      lines_front : (merge mid_merge last : Merge) (saw_mid saw : List Entry → Type 0) (old mid new : Option (List ℕ)) (why : ListStop) → WritesLines accepted merge saw_mid old mid before → Takes merge mid_merge instance mark
+      lines_front : (merge mid_merge last : Merge) (saw_mid saw : List Entry → Type 0) (old mid new : Option (List ℕ)) (why : ListStop) → WritesLines accepted merge saw_mid old mid before → PushesMarks merge mid_merge instance added
           → ((marks : ℕ → List Mark) (given : List Entry) → Stands mid_merge marks given → ListsReady accepted last saw_mid saw mid new marks given (Err why)) → WritesFrontOf accepted (count_of last) saw old new after
       lines_front merge mid_merge last saw_mid saw old mid new why w takes lists =
-          let r = lists after w.given (takes before after w.given w.stands (as_pushed before after instance mark adds)) in
+          let r = lists after w.given (takes w.given before after w.stands adds) in
           front_of (count_of last) saw old new (w.given ++ r.more) (settles (count_of last) after (w.given ++ r.more) (held_in last) r.stands.merges)
           (shown_behind accepted saw saw_mid old mid new w.given r.more w.lines w.seen r.front)
-
-      lines_cut : (merge last : Merge) (saw : List Entry → Type 0) (old new : Option (List ℕ)) → instance < count_of last → WritesLines accepted merge saw old new before → StandsStill merge last → WritesFrontOf accepted (count_of last) saw old new after
-      lines_cut merge last saw old new within w still =
-          front_of (count_of last) saw old new w.given (one_more (count_of last) before after w.given (held_in last) instance mark within (still before w.given w.stands).merges (as_pushed before after instance mark adds))
-          (shown_whole accepted saw old new w.given w.lines w.seen)
-
-    -- nothing is written of it
-    pub cut_first : (binary : Option (ℕ × ℕ)) → accepted.binary ≡ binary → (merge : Merge) (saw : List Entry → Type 0) (old new : Option (List ℕ)) → instance < count_of merge → WritesAll accepted binary merge saw old new before → WritesFrontOf accepted (count_of merge) saw old new after
-    cut_first None is merge saw old new within w = lines_cut is merge merge saw old new within w (λ marks given s. s)
-    cut_first (Some wanted) is merge saw old new within w = data_front (Some wanted) refl is merge saw old new new w (nothing_front new (wanted_of wanted instance mark))
 
     -- what was written and seen before, and how often the sink had failed
     module _ (merge : Merge) (cause : Option ListStop) (stops : ℕ) (saw_mid saw : List Entry → Type 0) (old mid new : Option (List ℕ)) (failed_old failed_mid failed_new : ℕ) (never : cause ≡ None) (w : Writes accepted merge cause stops saw_mid old mid failed_old failed_mid before) where
@@ -276,31 +253,71 @@ module _ (accepted : Accepted) where
           → Writes accepted last now more saw_now old new failed_old failed_new after × WritesFrontOf accepted (count_of last) saw_now old new after
       fails last saw_now why now more is again cause front = (subst (λ c. Writes accepted last c more saw_now old new failed_old failed_new after) (sym is) (stopped_for last saw_now why more again cause front), front)
 
-      -- of binary data
-      pub data_writes : IsSome accepted.binary → failed_new ≡ failed_mid → Appends mid new (wanted_by accepted.binary instance mark) → Writes accepted merge cause stops saw_mid old new failed_old failed_new after
-      data_writes some kept more = goes_well merge saw_mid kept (data_on accepted.binary some merge saw_mid old mid new had.2 more)
-
-      pub data_fails : IsSome accepted.binary → (now : Option ListStop) (more : ℕ) → now ≡ Some Write → more ≢ 0 → failed_mid ≤ failed_new → Rose failed_mid failed_new → AppendsFront mid new (wanted_by accepted.binary instance mark)
-          → Writes accepted merge now more saw_mid old new failed_old failed_new after × WritesFrontOf accepted (count_of merge) saw_mid old new after
-      data_fails some now more is again later rose front = fails merge saw_mid Write now more is again (later, rose) (data_front accepted.binary some refl merge saw_mid old mid new had.2 front)
-
       -- of notes
       module _ (notes : accepted.binary ≡ None) (mid_merge last : Merge) where
         lines : WritesLines accepted merge saw_mid old mid before
         lines = subst (λ b. WritesAll accepted b merge saw_mid old mid before) notes had.2
 
-        pub mark_writes : (done : Unit {0}) → failed_new ≡ failed_mid → Takes merge mid_merge instance mark
+        pub marks_write : (done : Unit {0}) → failed_new ≡ failed_mid → PushesMarks merge mid_merge instance added
             → ((marks : ℕ → List Mark) (given : List Entry) → Stands mid_merge marks given → ListsReady accepted last saw_mid saw mid new marks given (Ok done)) → Writes accepted last cause stops saw old new failed_old failed_new after
-        mark_writes done kept takes lists = goes_well last saw kept (subst (λ b. WritesAll accepted b last saw old new after) (sym notes) (lines_on merge mid_merge last saw_mid saw old mid new done lines takes lists))
+        marks_write done kept takes lists = goes_well last saw kept (subst (λ b. WritesAll accepted b last saw old new after) (sym notes) (lines_on merge mid_merge last saw_mid saw old mid new done lines takes lists))
 
-        pub mark_fails : (why : ListStop) (now : Option ListStop) (more : ℕ) → now ≡ Some why → more ≢ 0 → StopCause why failed_mid failed_new → Takes merge mid_merge instance mark
+        pub marks_fail : (why : ListStop) (now : Option ListStop) (more : ℕ) → now ≡ Some why → more ≢ 0 → StopCause why failed_mid failed_new → PushesMarks merge mid_merge instance added
             → ((marks : ℕ → List Mark) (given : List Entry) → Stands mid_merge marks given → ListsReady accepted last saw_mid saw mid new marks given (Err why)) → Writes accepted last now more saw old new failed_old failed_new after × WritesFrontOf accepted (count_of last) saw old new after
-        mark_fails why now more is again cause takes lists = fails last saw why now more is again cause (lines_front notes merge mid_merge last saw_mid saw old mid new why lines takes lists)
+        marks_fail why now more is again cause takes lists = fails last saw why now more is again cause (lines_front notes merge mid_merge last saw_mid saw old mid new why lines takes lists)
 
-    -- there was no memory for it
-    pub mark_cut : (merge : Merge) (cause : Option ListStop) (stops : ℕ) (saw : List Entry → Type 0) (old new : Option (List ℕ)) (failed_old failed_new : ℕ) (never : cause ≡ None) → Writes accepted merge cause stops saw old new failed_old failed_new before → accepted.binary ≡ None
-        → (last : Merge) (now : Option ListStop) (more : ℕ) → now ≡ Some NoMemory → more ≢ 0 → instance < count_of last → StandsStill merge last → Writes accepted last now more saw old new failed_old failed_new after × WritesFrontOf accepted (count_of last) saw old new after
-    mark_cut merge cause stops saw old new failed_old failed_new never w notes last now more is again within still =
+  -- there was no memory for the last of them
+  module _ (before after : ℕ → List Mark) (instance : ℕ) (first : List Mark) (refused : Mark) (adds : AddsMarks before after instance (first ++ refused ∷ [])) where
+    pub lines_cut : accepted.binary ≡ None → (merge last : Merge) (saw : List Entry → Type 0) (old new : Option (List ℕ)) → instance < count_of last → WritesLines accepted merge saw old new before → PushesMarks merge last instance first → WritesFrontOf accepted (count_of last) saw old new after
+    lines_cut is merge last saw old new within w pushes =
+        let mid = middle before instance first in
+        let stands = pushes w.given before mid w.stands (adds_first before instance first) in
+        let behind = adds_behind before after instance first (refused ∷ []) adds in
+        front_of before after instance (first ++ refused ∷ []) adds is (count_of last) saw old new w.given (one_more (count_of last) mid after w.given (held_in last) instance refused within stands.merges (as_pushed mid after instance refused behind))
+        (shown_whole accepted saw old new w.given w.lines w.seen)
+
+    pub marks_cut : (merge : Merge) (cause : Option ListStop) (stops : ℕ) (saw : List Entry → Type 0) (old new : Option (List ℕ)) (failed_old failed_new : ℕ) (never : cause ≡ None) → Writes accepted merge cause stops saw old new failed_old failed_new before → accepted.binary ≡ None
+        → (last : Merge) (now : Option ListStop) (more : ℕ) → now ≡ Some NoMemory → more ≢ 0 → instance < count_of last → PushesMarks merge last instance first → Writes accepted last now more saw old new failed_old failed_new after × WritesFrontOf accepted (count_of last) saw old new after
+    marks_cut merge cause stops saw old new failed_old failed_new never w notes last now more is again within pushes =
         let h = never_stopped merge cause stops saw old new failed_old failed_new before never w in
-        fails merge cause stops saw saw old new new failed_old failed_new failed_new never w last saw NoMemory now more is again refl
-        (lines_cut notes merge last saw old new within (subst (λ b. WritesAll accepted b merge saw old new before) notes h.2) still)
+        fails before after instance (first ++ refused ∷ []) adds merge cause stops saw saw old new new failed_old failed_new failed_new never w last saw NoMemory now more is again refl
+        (lines_cut notes merge last saw old new within (subst (λ b. WritesAll accepted b merge saw old new before) notes h.2) pushes)
+
+  -- one mark, where not all go to the merge
+  module _ (before after : ℕ → List Mark) (instance : ℕ) (mark : Mark) (adds : AddsMark before after instance mark) where
+    -- binary data is wanted
+    data_on : (binary : Option (ℕ × ℕ)) → IsSome binary → (merge : Merge) (saw : List Entry → Type 0) (old mid new : Option (List ℕ)) → WritesAll accepted binary merge saw old mid before → Appends mid new (wanted_by binary instance mark) → WritesAll accepted binary merge saw old new after
+    data_on None some merge saw old mid new had more = absurd cc
+    data_on (Some wanted) some merge saw old mid new had more = (
+      appends_on old mid new (bytes_in wanted.1 (before wanted.0)) (wanted_of wanted instance mark) (bytes_in wanted.1 (after wanted.0)) had.0 more (sym (bytes_after wanted before after instance mark adds)),
+      had.1,
+    )
+
+    data_front : (binary : Option (ℕ × ℕ)) → IsSome binary → accepted.binary ≡ binary → (merge : Merge) (saw : List Entry → Type 0) (old mid new : Option (List ℕ)) → WritesAll accepted binary merge saw old mid before → AppendsFront mid new (wanted_by binary instance mark)
+        → WritesFrontOf accepted (count_of merge) saw old new after
+    data_front None some is merge saw old mid new had more = absurd cc
+    data_front (Some wanted) some is merge saw old mid new had more =
+        let front : AppendsFront old new (bytes_in wanted.1 (after wanted.0)) = subst (AppendsFront old new) (sym (bytes_after wanted before after instance mark adds)) (front_on old mid new (bytes_in wanted.1 (before wanted.0)) (wanted_of wanted instance mark) had.0 more) in
+        record {
+          out = bytes_in wanted.1 (after wanted.0);
+          notes = [];
+          prompts = subst (λ b. Prompts accepted b (count_of merge) after (bytes_in wanted.1 (after wanted.0)) []) (sym is) (refl, refl);
+          front = front;
+          seen = saw_none accepted saw old new (bytes_in wanted.1 (after wanted.0)) front had.1;
+        }
+
+    -- nothing is written of it
+    pub cut_first : (binary : Option (ℕ × ℕ)) → accepted.binary ≡ binary → (merge : Merge) (saw : List Entry → Type 0) (old new : Option (List ℕ)) → instance < count_of merge → WritesAll accepted binary merge saw old new before → WritesFrontOf accepted (count_of merge) saw old new after
+    cut_first None is merge saw old new within w = lines_cut before after instance [] mark adds is merge merge saw old new within w (λ given. takes_nothing (λ had. Stands merge had given) instance)
+    cut_first (Some wanted) is merge saw old new within w = data_front (Some wanted) refl is merge saw old new new w (nothing_front new (wanted_of wanted instance mark))
+
+    module _ (merge : Merge) (cause : Option ListStop) (stops : ℕ) (saw_mid saw : List Entry → Type 0) (old mid new : Option (List ℕ)) (failed_old failed_mid failed_new : ℕ) (never : cause ≡ None) (w : Writes accepted merge cause stops saw_mid old mid failed_old failed_mid before) where
+      before_it : WritesAll accepted accepted.binary merge saw_mid old mid before
+      before_it = (never_stopped merge cause stops saw_mid old mid failed_old failed_mid before never w).2
+
+      pub data_writes : IsSome accepted.binary → failed_new ≡ failed_mid → Appends mid new (wanted_by accepted.binary instance mark) → Writes accepted merge cause stops saw_mid old new failed_old failed_new after
+      data_writes some kept more = goes_well before after instance (mark ∷ []) adds merge cause stops saw_mid saw old mid new failed_old failed_mid failed_new never w merge saw_mid kept (data_on accepted.binary some merge saw_mid old mid new before_it more)
+
+      pub data_fails : IsSome accepted.binary → (now : Option ListStop) (more : ℕ) → now ≡ Some Write → more ≢ 0 → failed_mid ≤ failed_new → Rose failed_mid failed_new → AppendsFront mid new (wanted_by accepted.binary instance mark)
+          → Writes accepted merge now more saw_mid old new failed_old failed_new after × WritesFrontOf accepted (count_of merge) saw_mid old new after
+      data_fails some now more is again later rose front = fails before after instance (mark ∷ []) adds merge cause stops saw_mid saw old mid new failed_old failed_mid failed_new never w merge saw_mid Write now more is again (later, rose) (data_front accepted.binary some refl merge saw_mid old mid new before_it front)

@@ -5,6 +5,7 @@
 mod laws;
 mod lines;
 mod lister;
+mod pushing;
 mod stop;
 mod take;
 mod watch;

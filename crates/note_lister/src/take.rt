@@ -1,25 +1,27 @@
 // Taking marks.
-ghost use Rattle.std.specs.Prelude.{◌≡◌, ◌≢◌, ◌<◌, [], ℕ, List, IfOk, IsErr, IsSome, None, OnErr, OnOk};
+ghost use Rattle.std.specs.Prelude.{◌≡◌, ◌≢◌, ◌<◌, ◌∷◌, [], ℕ, List, IfOk, IsErr, IsSome, None, OnErr, OnOk};
 ghost use Rattle.std.specs.Prelude.{Some, false, length, true};
 ghost use Rattle.annot_merge.specs.Held.{Stands, count_of, held_in};
 ghost use Rattle.std.specs.Result.{is_ok};
 ghost use Rattle.std.specs.Io.KnownBytes.{Appends};
 ghost use Rattle.la_base.specs.declared.wires.Mark.{Mark as MarkIs};
 ghost use Rattle.la_io.specs.Causes.{AppendsFront, HasCause, Rose};
-ghost use Rattle.la_io.specs.Feeds.{TakesMark};
+ghost use Rattle.la_io.specs.Feeds.{TakesFront, TakesMark, TakesMarks, marks_of, real};
 ghost use Rattle.stack_spec.specs.Stacks.{instances_in, stack_meaning};
 ghost use Rattle.note_lister.specs.Data.{wanted_by};
 ghost use Rattle.note_lister.specs.Taking.{Goes, SameOrigin, StaysStopped, StopsFor, Took};
 ghost use Rattle.note_lister.specs.Taking.{cause_of, first_of, first_sink, held_by, instances_of};
+ghost use Rattle.note_lister.specs.Pushing.{list_of};
 ghost use Rattle.note_lister.specs.Taking.{merges_in};
 ghost use Rattle.note_lister.specs.Taking.{sink_of, stack_of, stops_of, watch_of};
 
 use crate::lines::list_ready;
 use crate::lister::Lister;
+use crate::pushing::{mark_of, push_marks, push_outs, real_of};
 use crate::stop::ListStop;
 use crate::watch::Watch;
 use annot_merge::Merge;
-use la_base::{Mark, NoMemory};
+use la_base::{Mark, NoMemory, Out};
 use la_io::{Failed, MarkTake, Sink, Stopped};
 use listing_out::{NoteLine, write_piece};
 use stack_spec::Stack;
@@ -160,6 +162,90 @@ impl<'a, 'b, K: Sink, W: Watch> Lister<'a, 'b, K, W> {
         }
     }
 
+    // Takes the notes and the pieces among outputs where notes are listed.
+    #[inline(never)]
+    fn list_outs(&mut self, instance: u32, outs: &[Out]) -> Result<(), Stopped>
+        requires within { instance < instances_of self.old }
+        requires merges { merges_in self.old ≡ true }
+        ensures adds { TakesFront (is_ok result)
+            (Took K.written K.faults K.goes_on W.saw self.old)
+            (Took K.written K.faults K.goes_on W.saw self.new) instance (marks_of outs.now) }
+        ensures instances { instances_of self.new ≡ instances_of self.old }
+        ensures cause { HasCause (stops_of self.old) (stops_of self.new) result }
+        ensures going { Goes true self.old → Goes (is_ok result) self.new }
+        ensures origin { SameOrigin W.origin self.old self.new }
+    {
+        match push_outs(&mut self.merge, instance, outs) {
+            Ok(some) => {
+                if !some {
+                    return Ok(());
+                }
+                if !self.merge.is_ready() {
+                    return Ok(());
+                }
+                let listed = list_ready(
+                    &mut self.merge,
+                    self.stack,
+                    &mut self.line,
+                    self.sink,
+                    &mut self.watch,
+                );
+                match listed {
+                    Ok(()) => Ok(()),
+                    Err(why) => stop(&mut self.cause, &mut self.stops, &mut self.merges, why),
+                }
+            }
+            Err(NoMemory) => stop(
+                &mut self.cause,
+                &mut self.stops,
+                &mut self.merges,
+                ListStop::NoMemory,
+            ),
+        }
+    }
+
+    // Takes marks, but for ends, where notes are listed.
+    #[inline(never)]
+    fn list_marks(&mut self, instance: u32, marks: &[Mark]) -> Result<(), Stopped>
+        requires within { instance < instances_of self.old }
+        requires merges { merges_in self.old ≡ true }
+        ensures adds { TakesFront (is_ok result)
+            (Took K.written K.faults K.goes_on W.saw self.old)
+            (Took K.written K.faults K.goes_on W.saw self.new) instance (real marks.now) }
+        ensures instances { instances_of self.new ≡ instances_of self.old }
+        ensures cause { HasCause (stops_of self.old) (stops_of self.new) result }
+        ensures going { Goes true self.old → Goes (is_ok result) self.new }
+        ensures origin { SameOrigin W.origin self.old self.new }
+    {
+        match push_marks(&mut self.merge, instance, marks) {
+            Ok(some) => {
+                if !some {
+                    return Ok(());
+                }
+                if !self.merge.is_ready() {
+                    return Ok(());
+                }
+                let listed = list_ready(
+                    &mut self.merge,
+                    self.stack,
+                    &mut self.line,
+                    self.sink,
+                    &mut self.watch,
+                );
+                match listed {
+                    Ok(()) => Ok(()),
+                    Err(why) => stop(&mut self.cause, &mut self.stops, &mut self.merges, why),
+                }
+            }
+            Err(NoMemory) => stop(
+                &mut self.cause,
+                &mut self.stops,
+                &mut self.merges,
+                ListStop::NoMemory,
+            ),
+        }
+    }
+
     // Takes a mark where binary data is wanted.
     fn take_data(&mut self, instance: u32, mark: Mark) -> Result<(), Stopped>
         requires never { cause_of self.old ≡ None }
@@ -170,6 +256,7 @@ impl<'a, 'b, K: Sink, W: Watch> Lister<'a, 'b, K, W> {
         ensures cause { HasCause (stops_of self.old) (stops_of self.new) result }
         ensures going { Goes true self.old → Goes (is_ok result) self.new }
         ensures origin { SameOrigin W.origin self.old self.new }
+        ensures merges { OnOk result (merges_in self.new ≡ merges_in self.old) }
         ensures ok { OnOk result (cause_of self.new ≡ None) }
         ensures why { OnErr result (StopsFor (cause_of self.new)
             (K.faults (sink_of self.old)) (K.faults (sink_of self.new))) }
@@ -196,6 +283,7 @@ impl<'a, 'b, K: Sink, W: Watch> Lister<'a, 'b, K, W> {
         ensures cause { HasCause (stops_of self.old) (stops_of self.new) result }
         ensures going { Goes true self.old → Goes (is_ok result) self.new }
         ensures origin { SameOrigin W.origin self.old self.new }
+        ensures still { OnOk result (merges_in self.new ≡ false) }
         ensures ok { OnOk result (cause_of self.new ≡ None) }
         ensures why { cause_of self.old ≡ None → OnErr result (StopsFor (cause_of self.new)
             (K.faults (sink_of self.old)) (K.faults (sink_of self.new))) }
@@ -205,6 +293,70 @@ impl<'a, 'b, K: Sink, W: Watch> Lister<'a, 'b, K, W> {
             return stop_again(&mut self.stops);
         }
         self.take_data(instance, mark)
+    }
+
+    // The same, where there is a mark.
+    #[inline(always)]
+    fn some_apart(&mut self, instance: u32, mark: Option<Mark>) -> Result<(), Stopped>
+        requires within { instance < instances_of self.old }
+        requires apart { merges_in self.old ≡ false }
+        ensures adds { TakesMarks (Took K.written K.faults K.goes_on W.saw self.old)
+            (Took K.written K.faults K.goes_on W.saw self.new) instance (list_of mark) }
+        ensures some { OnErr result (list_of mark ≢ []) }
+        ensures apart { OnOk result (merges_in self.new ≡ false) }
+        ensures instances { instances_of self.new ≡ instances_of self.old }
+        ensures cause { HasCause (stops_of self.old) (stops_of self.new) result }
+        ensures going { Goes true self.old → Goes (is_ok result) self.new }
+        ensures origin { SameOrigin W.origin self.old self.new }
+    {
+        match mark {
+            Some(mark) => self.take_apart(instance, mark),
+            None => Ok(()),
+        }
+    }
+
+    // Takes the notes and the pieces among outputs where they don't go to the merge.
+    #[inline(never)]
+    fn outs_apart(&mut self, instance: u32, outs: &[Out]) -> Result<(), Stopped>
+        requires within { instance < instances_of self.old }
+        requires apart { merges_in self.old ≡ false }
+        ensures adds { TakesFront (is_ok result)
+            (Took K.written K.faults K.goes_on W.saw self.old)
+            (Took K.written K.faults K.goes_on W.saw self.new) instance (marks_of outs.now) }
+        ensures instances { instances_of self.new ≡ instances_of self.old }
+        ensures cause { HasCause (stops_of self.old) (stops_of self.new) result }
+        ensures going { Goes true self.old → Goes (is_ok result) self.new }
+        ensures origin { SameOrigin W.origin self.old self.new }
+    {
+        for out in outs {
+            match self.some_apart(instance, mark_of(out)) {
+                Ok(()) => {}
+                Err(Stopped) => return Err(Stopped),
+            }
+        }
+        Ok(())
+    }
+
+    // Takes marks, but for ends, where they don't go to the merge.
+    #[inline(never)]
+    fn marks_apart(&mut self, instance: u32, marks: &[Mark]) -> Result<(), Stopped>
+        requires within { instance < instances_of self.old }
+        requires apart { merges_in self.old ≡ false }
+        ensures adds { TakesFront (is_ok result)
+            (Took K.written K.faults K.goes_on W.saw self.old)
+            (Took K.written K.faults K.goes_on W.saw self.new) instance (real marks.now) }
+        ensures instances { instances_of self.new ≡ instances_of self.old }
+        ensures cause { HasCause (stops_of self.old) (stops_of self.new) result }
+        ensures going { Goes true self.old → Goes (is_ok result) self.new }
+        ensures origin { SameOrigin W.origin self.old self.new }
+    {
+        for mark in marks {
+            match self.some_apart(instance, real_of(*mark)) {
+                Ok(()) => {}
+                Err(Stopped) => return Err(Stopped),
+            }
+        }
+        Ok(())
     }
 
     /// How many notes were taken and not yet given.
@@ -287,6 +439,27 @@ impl<'a, 'b, K: Sink, W: Watch> MarkTake for Lister<'a, 'b, K, W> {
             self.take_mark(instance, mark)
         } else {
             self.take_apart(instance, mark)
+        }
+    }
+
+    /// The same of the notes and the pieces among outputs: all lines that may be written then are
+    /// written together.
+    #[inline(always)]
+    fn take_outs(&mut self, instance: u32, outs: &[Out]) -> Result<(), Stopped> {
+        if self.merges {
+            self.list_outs(instance, outs)
+        } else {
+            self.outs_apart(instance, outs)
+        }
+    }
+
+    /// The same of marks, but for ends.
+    #[inline(always)]
+    fn take_marks(&mut self, instance: u32, marks: &[Mark]) -> Result<(), Stopped> {
+        if self.merges {
+            self.list_marks(instance, marks)
+        } else {
+            self.marks_apart(instance, marks)
         }
     }
 

@@ -2,3 +2,4 @@ pub mod Places
 mod Going
 mod Feeding
 mod Trees
+mod Handing

@@ -5,6 +5,8 @@ use Rattle.std.specs.Result.{is_ok}
 use Rattle.la_base.specs.declared.samples.Run.{Run}
 use Rattle.la_base.specs.declared.wires.Mark.{Mark}
 use Rattle.la_base.specs.declared.wires.Out.{Out}
+use Rattle.la_base.specs.declared.wires.Out.TheVariants.{Note as NoteOut, Piece as PieceOut}
+use Rattle.la_base.specs.declared.wires.Out.TheVariants.{Packet as PacketOut}
 use Rattle.la_io.specs.declared.feeds.MarkTake.{Ghosts as TakeGhosts}
 use Rattle.decoder_core.specs.declared.machine.Machine.{Ghosts as MachineGhosts}
 use Rattle.decoder_core.specs.Inputs.{Item}
@@ -16,6 +18,13 @@ use Rattle.tree_runs.specs.Taking.{GoesOn, KeepsOn}
 use Rattle.stack_direct.specs.declared.run.Halt.{Halt}
 use Rattle.stack_direct.specs.declared.run.Halt.TheVariants.{AtMark, InPause}
 use Rattle.stack_direct.specs.declared.tree.Tree.{Tree}
+
+-- the packets among outputs
+abbrev pub handed_of : List Out → List Out
+handed_of [] = []
+handed_of (NoteOut note ∷ outs) = handed_of outs
+handed_of (PieceOut piece ∷ outs) = handed_of outs
+handed_of (PacketOut packet ∷ outs) = PacketOut packet ∷ handed_of outs
 
 abbrev pub machines_of : {M : Type 0} → Tree M → List M
 machines_of tree = tree.machines.now

@@ -2,9 +2,9 @@
 ghost use Rattle.std.specs.Prelude.{◌≡◌, ◌≢◌, ◌<◌, ◌≤◌, ◌∷◌, [], ℕ, List, length};
 ghost use Rattle.decoder_core.specs.Inputs.{Item, Pack};
 ghost use Rattle.stack_direct.specs.Trees.{SameTree, TakesAll, TakesOn, TreeFeeds, TreeGives};
-ghost use Rattle.stack_direct.specs.Trees.{TreeHands, parents_of};
+ghost use Rattle.stack_direct.specs.Trees.{TreeHands, handed_of, parents_of};
 
-use crate::parts::{mark, same_place, step_packet_at};
+use crate::parts::{has_child, mark, same_place, step_packet_at, tell};
 use crate::tree::Tree;
 use decoder_core::{Machine, Outs};
 use la_base::{Mark, Out, Packet};
@@ -135,8 +135,36 @@ impl<M: Machine> Tree<'_, '_, M> {
             instance outs.now }
         ensures takes { TakesOn G.MarkTake take.old take.new result }
     {
+        match tell(take, instance, outs) {
+            Ok(()) => {
+                if !has_child(self.parents, instance) {
+                    return Ok(());
+                }
+                self.hand_each(instance, outs, rooms, take)
+            }
+            Err(Stopped) => Err(Stopped),
+        }
+    }
+
+    /// Hands the packets among outputs of a machine to those that stand on it.
+    #[cycle(tree)]
+    #[inline(always)]
+    pub fn hand_each<G: MarkTake>(
+        &mut self,
+        instance: u32,
+        outs: &[Out],
+        rooms: &mut [Outs],
+        take: &mut G,
+    ) -> Result<(), Stopped>
+        requires all { TakesAll G.MarkTake self.old take.old }
+        requires within { instance < length (parents_of self.old) }
+        ensures same { SameTree M.Machine self.old self.new }
+        ensures gives { TreeGives M.Machine G.MarkTake self.old self.new take.old take.new result
+            instance (handed_of outs.now) }
+        ensures takes { TakesOn G.MarkTake take.old take.new result }
+    {
         for out in outs {
-            match self.give_one(instance, out, rooms, take) {
+            match self.hand_one(instance, out, rooms, take) {
                 Ok(()) => {}
                 Err(Stopped) => return Err(Stopped),
             }
@@ -144,10 +172,10 @@ impl<M: Machine> Tree<'_, '_, M> {
         Ok(())
     }
 
-    /// Gives one output of a machine.
+    /// Hands an output of a machine, where it is a packet, to those that stand on it.
     #[cycle(tree)]
     #[inline(always)]
-    pub fn give_one<G: MarkTake>(
+    pub fn hand_one<G: MarkTake>(
         &mut self,
         instance: u32,
         out: &Out,
@@ -158,12 +186,12 @@ impl<M: Machine> Tree<'_, '_, M> {
         requires within { instance < length (parents_of self.old) }
         ensures same { SameTree M.Machine self.old self.new }
         ensures gives { TreeGives M.Machine G.MarkTake self.old self.new take.old take.new result
-            instance (out.now ∷ []) }
+            instance (handed_of (out.now ∷ [])) }
         ensures takes { TakesOn G.MarkTake take.old take.new result }
     {
         match out {
-            Out::Note(note) => mark(take, instance, Mark::Note(*note)),
-            Out::Piece(piece) => mark(take, instance, Mark::Piece(*piece)),
+            Out::Note(_) => Ok(()),
+            Out::Piece(_) => Ok(()),
             Out::Packet(packet) => self.hand(Some(instance), packet, rooms, take),
         }
     }

@@ -1,13 +1,16 @@
 // One machine of a tree, and one mark.
-ghost use Rattle.std.specs.Prelude.{◌≡◌, ◌<◌, ◌≤◌, ◌∷◌, [], ℕ, List, length, map, take};
+ghost use Rattle.std.specs.Prelude.{◌≡◌, ◌<◌, ◌≤◌, ◌∷◌, [], ℕ, List, MatchBool, Some, length, map};
+ghost use Rattle.std.specs.Prelude.{slice_get, take};
 ghost use Rattle.la_base.specs.Runs.{samples_of};
 ghost use Rattle.decoder_core.specs.Inputs.{left_feed};
-ghost use Rattle.tree_runs.specs.Passing.{Took, only, same_place};
+ghost use Rattle.std.specs.Result.{is_ok};
+ghost use Rattle.la_io.specs.Feeds.{marks_of};
+ghost use Rattle.tree_runs.specs.Passing.{Took, TookFront, only, same_place};
 ghost use Rattle.tree_runs.specs.Taking.{GoesOn};
 ghost use Rattle.tree_runs.specs.Machines.{Stand, StepsAt, StepsRunsAt, whole_of};
 
 use decoder_core::{Machine, Outs, Taken};
-use la_base::{Feed, Mark, Packet, Run};
+use la_base::{Feed, Mark, Out, Packet, Run};
 use la_io::{MarkTake, Stopped};
 
 /// Steps of one machine over runs, past stops that put out nothing.
@@ -77,6 +80,31 @@ pub fn mark<G: MarkTake>(take: &mut G, instance: u32, mark: Mark) -> Result<(), 
     ensures takes { GoesOn G.instances G.origin G.stops G.going take.old take.new result }
 {
     take.take(instance, mark)
+}
+
+/// The notes and the pieces among outputs of an instance, as its next marks.
+#[inline(always)]
+pub fn tell<G: MarkTake>(take: &mut G, instance: u32, outs: &[Out]) -> Result<(), Stopped>
+    requires { instance < G.instances take.old }
+    ensures took { TookFront (is_ok result) (G.took take.old) (G.took take.new) instance
+        (marks_of outs.now) }
+    ensures takes { GoesOn G.instances G.origin G.stops G.going take.old take.new result }
+{
+    take.take_outs(instance, outs)
+}
+
+/// Whether a machine stands on another.
+#[inline(always)]
+pub fn has_child(parents: &[Option<u32>], instance: u32) -> bool
+    ensures { MatchBool result (Unit {0})
+        ((j : ℕ) → slice_get parents.now j ≡ Some (Some instance) → ⊥) }
+{
+    for parent in parents {
+        if same_place(*parent, Some(instance)) {
+            return true;
+        }
+    }
+    false
 }
 
 /// Whether two places are the same; None is the outside of the tree.

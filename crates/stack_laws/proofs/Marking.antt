@@ -7,12 +7,14 @@ use Rattle.la_base.specs.declared.wires.Out.{Out}
 use Rattle.la_io.specs.Feeds.{together}
 use Rattle.la_io.proofs.Together.{together-last}
 use Rattle.decoder_core.specs.Inputs.{Item}
-use Rattle.decoder_core.specs.Marks.{marks_of, shown, FloorsHold}
+use Rattle.decoder_core.specs.Marks.{shown, FloorsHold}
+use Rattle.la_io.specs.Feeds.{marks_of}
 use Rattle.decoder_core.specs.Promises.{GivesNothing, KeepsFront}
 use Rattle.decoder_core.specs.declared.end.RunEnd.{RunEnd}
 use Rattle.decoder_core.specs.declared.end.RunEnd.TheVariants.{Ended}
 use Rattle.tree_runs.proofs.Batches.{with_none}
-use Rattle.tree_runs.proofs.Lists.{marks-append, shown-append}
+use Rattle.la_io.proofs.Taking.{marks-append}
+use Rattle.tree_runs.proofs.Lists.{shown-append}
 use Rattle.tree_runs.specs.Floors.{FrontOfFloored}
 use Rattle.tree_runs.specs.Passing.{NoEnd}
 use Rattle.stack_laws.specs.Links.{IsFront, EndsLast, some}

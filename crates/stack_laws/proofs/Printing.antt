@@ -10,9 +10,11 @@ use Rattle.note_order.specs.declared.entry.Entry.{Entry}
 use Rattle.annot_merge.specs.Bounds.{Allows, bound_of}
 use Rattle.annot_merge.specs.Marks.{notes_in}
 use Rattle.decoder_core.specs.Inputs.{Item}
-use Rattle.decoder_core.specs.Marks.{marks_of, shown, FloorsHold, MarksFrom}
+use Rattle.decoder_core.specs.Marks.{shown, FloorsHold, MarksFrom}
+use Rattle.la_io.specs.Feeds.{marks_of}
 use Rattle.decoder_core.specs.Promises.{KeepsFront}
-use Rattle.tree_runs.proofs.Lists.{marks-append, shown-append}
+use Rattle.la_io.proofs.Taking.{marks-append}
+use Rattle.tree_runs.proofs.Lists.{shown-append}
 use Rattle.tree_runs.specs.Listings.{notes_of}
 use Rattle.tree_runs.specs.Machines.{Definitions}
 use Rattle.tree_runs.specs.Passing.{IsForest, only}

@@ -13,7 +13,7 @@ use Rattle.la_base.specs.declared.wires.Mark.TheVariants.{End as EndMark}
 use Rattle.la_base.specs.declared.wires.Out.{Out}
 use Rattle.la_io.specs.Feeds.{together}
 use Rattle.decoder_core.specs.Inputs.{Item}
-use Rattle.decoder_core.specs.Marks.{marks_of}
+use Rattle.la_io.specs.Feeds.{marks_of}
 use Rattle.decoder_core.specs.Promises.{GivesNothing}
 use Rattle.decoder_core.specs.declared.end.RunEnd.{RunEnd}
 use Rattle.decoder_core.specs.declared.machine.Machine.{Ghosts as MachineGhosts}
@@ -44,7 +44,8 @@ use Rattle.stage_run.specs.declared.input.Input.{Input}
 use Rattle.stage_run.specs.declared.input.Input.TheVariants.{Samples, Packets}
 use Rattle.stage_run.specs.declared.input.Stretch.{Stretch}
 use Rattle.stage_run.specs.declared.stage.Parts.{Parts}
-use Rattle.stage_crew.specs.Driving.{Drove, EndsWith, real}
+use Rattle.stage_crew.specs.Driving.{Drove, EndsWith}
+use Rattle.la_io.specs.Feeds.{real}
 use Rattle.stack_threads.specs.Ties.{KnowsPackets, KnowsSamples, Tied, given_by, got_on, heard_by, heard_on, sent_on}
 use Rattle.stack_threads.specs.Trees.{on_place, place_of}
 use Rattle.stack_threads.proofs.Counting.{same_children, same_place_among}

@@ -18,7 +18,8 @@ use Rattle.tree_runs.proofs.Joining.{took_then, took_nothing}
 use Rattle.stage_ring.specs.Link.{received, sent}
 use Rattle.stage_run.specs.Inputs.{feeds_in, telling}
 use Rattle.stage_run.proofs.Telling.{end_feeds}
-use Rattle.stage_crew.specs.Driving.{Drove, real}
+use Rattle.stage_crew.specs.Driving.{Drove}
+use Rattle.la_io.specs.Feeds.{real}
 use Rattle.stage_crew.specs.Gathering.{Fronts, Gathers, TakesUntil}
 use Rattle.stage_crew.specs.Keeping.{Collects, Kept}
 use Rattle.stage_crew.specs.Pumping.{end_if, is_sent}

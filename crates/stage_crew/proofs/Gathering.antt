@@ -14,18 +14,13 @@ use Rattle.tree_runs.specs.Reaching.{Reaches}
 use Rattle.tree_runs.proofs.Lists.{reaches-append, reaches_weaker}
 use Rattle.tree_runs.proofs.Joining.{took_then, took_nothing}
 use Rattle.tree_runs.proofs.Running.{took_same}
-use Rattle.stage_crew.specs.Driving.{EndsWith, real}
+use Rattle.stage_crew.specs.Driving.{EndsWith}
+use Rattle.la_io.specs.Feeds.{real}
+use Rattle.la_io.proofs.Taking.{real-append}
 use Rattle.stage_crew.specs.Gathering.{Fronts, Gathers, Overs, TakesOne, TakesUntil}
 use Rattle.stage_crew.specs.declared.gatherer.Gatherer.{Gatherer}
 use Rattle.stage_crew.proofs.Handing.{get_set}
 use Rattle.stage_crew.proofs.Taking.{takes_none, takes_one, takes_then}
-
-real-append : (xs ys : List Mark) → real (xs ++ ys) ≡ real xs ++ real ys
-real-append [] ys = refl
-real-append (NoteMark n ∷ xs) ys = ap (λ (l : List Mark). NoteMark n ∷ l) (real-append xs ys)
-real-append (PieceMark n ∷ xs) ys = ap (λ (l : List Mark). PieceMark n ∷ l) (real-append xs ys)
-real-append (FloorMark n ∷ xs) ys = ap (λ (l : List Mark). FloorMark n ∷ l) (real-append xs ys)
-real-append (EndMark ∷ xs) ys = real-append xs ys
 
 only_here : {X : Type 0} (i : ℕ) (xs : List X) → only i xs i ≡ xs
 only_here i xs = let same : nat_eq i i ≡ true = grind (arith, nat_tests) in ap (λ (b : Bool). if b then xs else []) same
@@ -54,9 +49,6 @@ took_more old mid new i xs ys zs p q is = took_same old new (λ j. only i xs j +
         by : (b : Bool) → (if b then xs else []) ++ (if b then ys else []) ≡ (if b then zs else [])
         by true = is
         by false = refl
-
-pub real_next : (marks : List Mark) (i : ℕ) (mark : Mark) → i < length marks → mark ≡ get_or marks i mark → real (take i marks) ++ real (mark ∷ []) ≡ real (take (i + 1) marks)
-real_next marks i mark within is = sym (ap real (take_more marks i mark within ∙ ap (λ (m : Mark). take i marks ++ m ∷ []) (sym is)) ∙ real-append (take i marks) (mark ∷ []))
 
 front_of : {X : Type 0} (xs ys : List X) (zs : List X) → Reaches false xs ys → Reaches false xs (ys ++ zs)
 front_of xs ys zs front = (front.0 ++ zs, sym (append_assoc xs front.0 zs) ∙ ap (λ l. l ++ zs) front.1)
@@ -115,9 +107,6 @@ taken_one old new i mark takes before after had is =
     })
 
 -- a front of marks was taken, up to the one at which it was stopped
-pub stopped_front : (marks : List Mark) (n : ℕ) → Reaches false (real (take n marks)) (real marks)
-stopped_front marks n = (real (drop n marks), sym (real-append (take n marks) (drop n marks)) ∙ ap real (take-append-drop n marks))
-
 module _ {A O : Type 0} (g : TakeGhosts A O) where
   pub gathers_none : (now : A) (state : Gatherer) (gathered : List (List Mark)) → Gathers g now now state state gathered gathered
   gathers_none now state gathered = record {

@@ -6,6 +6,7 @@ use Rattle.la_base.specs.declared.wires.Feed.TheVariants.{Run as RunFeed, End as
 use Rattle.la_base.specs.declared.wires.Mark.{Mark}
 use Rattle.la_base.specs.declared.wires.Mark.TheVariants.{Note as NoteMark, Piece as PieceMark}
 use Rattle.la_base.specs.declared.wires.Mark.TheVariants.{Floor as FloorMark, End as EndMark}
+use Rattle.la_io.specs.Feeds.{real}
 use Rattle.la_io.specs.Feeds.{together}
 use Rattle.decoder_core.specs.declared.end.RunEnd.{RunEnd}
 use Rattle.decoder_core.specs.declared.end.RunEnd.TheVariants.{Ended}
@@ -20,14 +21,6 @@ use Rattle.stage_run.specs.declared.input.Stretch.{Stretch}
 -- this is the last of a list
 abbrev pub EndsWith : {X : Type 0} → X → List X → Type 0
 EndsWith {X} last xs = (front : List X) × (xs ≡ front ++ last ∷ [])
-
--- marks but for ends
-abbrev pub real : List Mark → List Mark
-real [] = []
-real (NoteMark note ∷ marks) = NoteMark note ∷ real marks
-real (PieceMark piece ∷ marks) = PieceMark piece ∷ real marks
-real (FloorMark start ∷ marks) = FloorMark start ∷ real marks
-real (EndMark ∷ marks) = real marks
 
 -- the lists of runs that the feed gave were sent to each root, and then the end; each instance's
 -- marks were gathered up to an end, and those that were taken are these, or a front of them where

@@ -11,7 +11,8 @@ use Rattle.tree_runs.specs.Passing.{Took}
 use Rattle.tree_runs.specs.Reaching.{Reaches}
 use Rattle.tree_runs.specs.Runs.{is_ended}
 use Rattle.tree_runs.specs.Taking.{GoesOn}
-use Rattle.stage_crew.specs.Driving.{EndsWith, real}
+use Rattle.stage_crew.specs.Driving.{EndsWith}
+use Rattle.la_io.specs.Feeds.{real}
 use Rattle.stage_crew.specs.declared.gatherer.Gatherer.{Gatherer}
 
 -- what was taken of each instance is what was gathered of it, or a front of that where it was

@@ -1,5 +1,5 @@
 // Marks of one instance, handed to what takes them.
-ghost use Rattle.std.specs.Prelude.{◌≡◌, ◌≤◌, ◌<◌, ◌∷◌, [], ℕ, List, not, true, false, OnOk};
+ghost use Rattle.std.specs.Prelude.{◌≡◌, ◌≤◌, ◌<◌, [], ℕ, List, not, true, false, OnOk};
 ghost use Rattle.std.specs.Result.{is_ok};
 ghost use Rattle.la_base.specs.declared.wires.Mark.{Mark as MarkIs};
 ghost use Rattle.la_base.specs.declared.wires.Mark.TheVariants.{End as EndMark};
@@ -7,27 +7,13 @@ ghost use Rattle.decoder_core.specs.declared.end.RunEnd.TheVariants.{Ended};
 ghost use Rattle.tree_runs.specs.Passing.{Took, only};
 ghost use Rattle.tree_runs.specs.Reaching.{Reaches};
 ghost use Rattle.tree_runs.specs.Runs.{TookEnds, is_ended};
-ghost use Rattle.stage_crew.specs.Driving.{EndsWith, real};
-ghost use Rattle.stage_crew.specs.Gathering.{TakesOne, TakesUntil};
+ghost use Rattle.stage_crew.specs.Driving.{EndsWith};
+ghost use Rattle.la_io.specs.Feeds.{real};
+ghost use Rattle.stage_crew.specs.Gathering.{TakesUntil};
 
 use decoder_core::RunEnd;
 use la_base::Mark;
 use la_io::{MarkTake, Stopped};
-
-// Has a mark taken. An end is left out: ends are taken behind all other marks.
-#[inline]
-fn take_one<G: MarkTake>(take: &mut G, number: u32, mark: Mark) -> Result<(), Stopped>
-    requires { number < G.instances take.old }
-    ensures took { Took (G.took take.old) (G.took take.new) (only number (real (mark ∷ []))) }
-    ensures takes { TakesOne G.MarkTake take.old take.new result }
-{
-    match mark {
-        Mark::Note(note) => take.take(number, Mark::Note(note)),
-        Mark::Piece(piece) => take.take(number, Mark::Piece(piece)),
-        Mark::Floor(start) => take.take(number, Mark::Floor(start)),
-        Mark::End => Ok(()),
-    }
-}
 
 /// Has marks taken, until it is stopped, and answers whether it was. Once it was stopped none is
 /// taken any more.
@@ -46,13 +32,10 @@ pub(crate) fn take_marks<G: MarkTake>(
     if stopped {
         return true;
     }
-    for mark in marks {
-        match take_one(take, number, *mark) {
-            Ok(()) => {}
-            Err(Stopped) => return true,
-        }
+    match take.take_marks(number, marks) {
+        Ok(()) => false,
+        Err(Stopped) => true,
     }
-    false
 }
 
 fn is_end(mark: Mark) -> bool

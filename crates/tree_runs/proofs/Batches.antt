@@ -6,7 +6,8 @@ use Rattle.la_base.specs.declared.wires.Mark.TheVariants.{Note as NoteMark, Piec
 use Rattle.la_base.specs.declared.wires.Out.{Out}
 use Rattle.la_io.specs.Feeds.{together}
 use Rattle.decoder_core.specs.Inputs.{Item}
-use Rattle.decoder_core.specs.Marks.{FloorsHold, marks_of, shown}
+use Rattle.decoder_core.specs.Marks.{FloorsHold, shown}
+use Rattle.la_io.specs.Feeds.{marks_of}
 use Rattle.tree_runs.specs.Floors.{Floored, WithFloors}
 use Rattle.tree_runs.specs.Lows.{AreLow}
 use Rattle.tree_runs.specs.Machines.{near_of, whole_of}
@@ -14,7 +15,8 @@ use Rattle.tree_runs.specs.Passing.{NoEnd}
 use Rattle.tree_runs.specs.Reaching.{Reaches}
 use Rattle.tree_runs.specs.Runs.{ToldOf, input_on}
 use Rattle.tree_runs.proofs.Flooring.{floored-append}
-use Rattle.tree_runs.proofs.Lists.{floors-append, marks-append, marks_from, no_end-append, reaches-append, reaches_weaker, shown-append}
+use Rattle.la_io.proofs.Taking.{marks-append}
+use Rattle.tree_runs.proofs.Lists.{floors-append, marks_from, no_end-append, reaches-append, reaches_weaker, shown-append}
 
 -- floors among marks
 pub with_append : (a b c d : List Mark) → WithFloors a b → WithFloors c d → WithFloors (a ++ c) (b ++ d)

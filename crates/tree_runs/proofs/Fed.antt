@@ -4,7 +4,8 @@ use Rattle.std.specs.Prelude.{nat_lt}
 use Rattle.std.proofs.lemmas.Bool.{true≢false}
 use Rattle.std.proofs.lemmas.Bool.Decides.{nat_tests}
 use Rattle.la_base.specs.declared.wires.Mark.TheVariants.{Floor as FloorMark}
-use Rattle.decoder_core.specs.Marks.{marks_of, shown}
+use Rattle.decoder_core.specs.Marks.{shown}
+use Rattle.la_io.specs.Feeds.{marks_of}
 use Rattle.tree_runs.specs.Reaching.{Reaches}
 use Rattle.std.proofs.lemmas.List.{append-nil}
 use Rattle.std.proofs.lemmas.Option.{slice_get-get_or}

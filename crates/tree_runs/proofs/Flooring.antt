@@ -7,12 +7,13 @@ use Rattle.la_base.specs.declared.wires.Out.{Out}
 use Rattle.la_io.specs.Feeds.{together}
 use Rattle.la_io.proofs.Together.{together-append}
 use Rattle.decoder_core.specs.Inputs.{Item}
-use Rattle.decoder_core.specs.Marks.{marks_of}
+use Rattle.la_io.specs.Feeds.{marks_of}
 use Rattle.decoder_core.specs.Promises.{KeepsFront}
 use Rattle.tree_runs.specs.Floors.{Floored, FrontOfFloored, Handed, alone}
 use Rattle.tree_runs.specs.Passing.{Passes}
 use Rattle.tree_runs.specs.Reaching.{Reaches}
-use Rattle.tree_runs.proofs.Lists.{marks-append, reaches-append, reaches_weaker}
+use Rattle.la_io.proofs.Taking.{marks-append}
+use Rattle.tree_runs.proofs.Lists.{reaches-append, reaches_weaker}
 
 -- items one by one
 pub alone-append : (xs ys : List Item) → alone (xs ++ ys) ≡ alone xs ++ alone ys

@@ -12,14 +12,16 @@ use Rattle.la_base.specs.declared.wires.Out.{Out}
 use Rattle.decoder_core.specs.Inputs.{Item}
 use Rattle.decoder_core.specs.Promises.{IsFloor, KeepsFront}
 use Rattle.decoder_core.specs.Trees.{packets_of}
-use Rattle.decoder_core.specs.Marks.{marks_of, shown, FloorsHold}
+use Rattle.decoder_core.specs.Marks.{shown, FloorsHold}
+use Rattle.la_io.specs.Feeds.{TakesFront, marks_of}
 use Rattle.la_base.specs.declared.samples.Run.{Run}
 use Rattle.tree_runs.specs.Machines.{Definitions, MovesAt, StepsAt, StepsRunsAt}
 use Rattle.tree_runs.specs.Floors.{Handed, alone}
-use Rattle.tree_runs.specs.Passing.{Passes, Change, joined, only, up_to, Took, same_place, first_on, from_parent, comes, comes_in, Down, Into, IsForest, Hands, Feeds, Consumes, Gives, SomeMark}
+use Rattle.tree_runs.specs.Passing.{Passes, Change, joined, only, up_to, Took, TookFront, same_place, first_on, from_parent, comes, comes_in, Down, Into, IsForest, Hands, Feeds, Consumes, Gives, SomeMark}
 use Rattle.tree_runs.specs.Reaching.{Reaches}
 use Rattle.tree_runs.proofs.Flooring.{alone-append, handed_cut, handed_nothing, handed_then, handed_weaker, handed_whole, reaches_alone, some_behind}
-use Rattle.tree_runs.proofs.Lists.{packets-append, marks-append, shown-append, no_end-append, shown_front, floors-append, marks_from, reaches_all, reaches_weaker, reaches-append, reaches_trans, reaches_packets, reaches_marks}
+use Rattle.la_io.proofs.Taking.{marks-append}
+use Rattle.tree_runs.proofs.Lists.{packets-append, shown-append, no_end-append, shown_front, floors-append, marks_from, reaches_all, reaches_weaker, reaches-append, reaches_trans, reaches_packets, reaches_marks}
 
 -- one instance
 pub passes_then : {done : Bool} {whole : List Item → List Out} {before mid after : List Item → Type 0} {g1 g2 : List Item} {a1 a2 : List Out} {m1 m2 : List Mark}
@@ -80,6 +82,22 @@ at_here i xs f = let same : nat_eq i i ≡ true = grind (arith, nat_tests) in ap
 
 at_other : {X : Type 0} (i : ℕ) (xs : List X) (f : ℕ → List X) (j : ℕ) → j ≢ i → at_place i xs f j ≡ f j
 at_other i xs f j other = let different : nat_eq j i ≡ false = grind (arith, nat_tests) in ap (λ (b : Bool). if b then xs else f j) different
+
+-- marks of an instance, by the marks of all
+pub took_front : {done : Bool} {old new : (ℕ → List Mark) → Type 0} {i : ℕ} {marks : List Mark} → TakesFront done old new i marks → TookFront done old new i marks
+took_front {done} {old} {new} {i} {marks} f = record {
+  taken = f.taken;
+  reaches = reach done f.whole;
+  some = f.some;
+  took = λ before after had adds. f.takes before after had (record {
+    here = adds i ∙ ap (λ (l : List Mark). before i ++ l) (only_here i f.taken);
+    others = λ j other. adds j ∙ ap (λ (l : List Mark). before j ++ l) (only_elsewhere i f.taken j other) ∙ append-nil (before j);
+  });
+}
+  where
+    reach : (b : Bool) → (b ≡ true → f.rest ≡ []) → Reaches b f.taken marks
+    reach true whole = sym (append-nil f.taken) ∙ ap (λ (l : List Mark). f.taken ++ l) (sym (whole refl)) ∙ f.front
+    reach false whole = (f.rest, f.front)
 
 same_places : (one other : Option ℕ) → same_place one other ≡ true → one ≡ other
 same_places None None is = refl
@@ -279,6 +297,20 @@ module _ {done : Bool} {by : Definitions} {before after : ℕ → List Item → 
     took = p.took;
   }
 
+  -- outputs with the same packets and the same marks
+  pub gives_as : {i : ℕ} {xs : List Out} (ys : List Out) → packets_of xs ≡ packets_of ys → marks_of xs ≡ marks_of ys → Gives done by before after parents old new i xs → Gives done by before after parents old new i ys
+  gives_as {i} {xs} ys packets marks p = record {
+    change = p.change;
+    others = p.others;
+    handed = p.handed;
+    down = down_reach (λ _. packets_of ys) (λ _. alone (packets_of ys)) (λ j parent at same. reaches_weaker done (packets_of xs) (packets_of ys) packets) (λ j parent at same. reaches_weaker done (alone (packets_of xs)) (alone (packets_of ys)) (ap alone packets)) p.down;
+    own = subst (λ (l : List Mark). Reaches done (p.change.marks i) l) marks p.own;
+    stays = p.stays;
+    unmarked = p.unmarked;
+    some = p.some;
+    took = p.took;
+  }
+
   -- what one instance that stands on `above` was given
   pub feeds_are_hands : {i : ℕ} {items : List Item} (above parent : Option ℕ) → IsForest parents → slice_get parents i ≡ Some parent → same_place parent above ≡ true
       → Feeds done by before after parents old new i items → Hands done by before after parents old new above (only i items) (only i (items ∷ []))
@@ -416,29 +448,22 @@ module _ (by : Definitions) (now : ℕ → List Item → Type 0) (parents : List
     took = took_nothing old;
   }
 
-  -- a mark of instance i, a note or a piece, which it has put out
-  pub gives_mark : (done : Bool) (new : (ℕ → List Mark) → Type 0) (i : ℕ) (mark : Mark) → Took old new (only i (mark ∷ [])) → (out : Out) → mark ∷ [] ≡ marks_of (out ∷ []) → packets_of (out ∷ []) ≡ []
-      → Gives done by now now parents old new i (out ∷ [])
-  gives_mark done new i mark took out is no_packet = gives_weaker done gave (i, some)
+  -- notes and pieces of instance i, which it has put out, and packets only where nothing stands on it
+  pub gives_marks : {done : Bool} {new : (ℕ → List Mark) → Type 0} (i : ℕ) (outs : List Out) → TookFront done old new i (marks_of outs) → ((j : ℕ) → slice_get parents j ≡ Some (Some i) → packets_of outs ≡ []) → Gives done by now now parents old new i outs
+  gives_marks {done} {new} i outs front no_packet = record {
+    change = marks_alone (only i front.taken);
+    others = λ j other. passes_weaker done (subst (λ (l : List Mark). Passes true (by.whole j) (now j) (now j) [] [] l) (sym (only_elsewhere i front.taken j other)) (nothing_at j));
+    handed = λ j other. handed_weaker (by.whole j) (by.near j) done (subst (λ (l : List Mark). Handed true (by.whole j) (by.near j) (now j) [] [] l) (sym (only_elsewhere i front.taken j other)) (handed_nothing (by.whole j) (by.near j)));
+    down = down_weaker done (down_reach (λ _. packets_of outs) (λ _. alone (packets_of outs)) (λ j parent at same. sym (none_at j parent at same)) (λ j parent at same. sym (ap alone (none_at j parent at same))) (down_nothing (Some i) parents (only i front.taken)));
+    own = subst (λ (l : List Mark). Reaches done l (marks_of outs)) (sym (only_here i front.taken)) front.reaches;
+    stays = λ is input b. b;
+    unmarked = λ j low. let other : j ≢ i = omega (arith, low) in only_elsewhere i front.taken j other;
+    some = λ stopped. (i, subst (λ (l : List Mark). l ≢ []) (sym (only_here i front.taken)) (front.some stopped));
+    took = front.took;
+  }
     where
-      gave : Gives true by now now parents old new i (out ∷ [])
-      gave = record {
-        change = marks_alone (only i (mark ∷ []));
-        others = λ j other. subst (λ (l : List Mark). Passes true (by.whole j) (now j) (now j) [] [] l) (sym (only_elsewhere i (mark ∷ []) j other)) (nothing_at j);
-        handed = λ j other. subst (λ (l : List Mark). Handed true (by.whole j) (by.near j) (now j) [] [] l) (sym (only_elsewhere i (mark ∷ []) j other)) (handed_nothing (by.whole j) (by.near j));
-        down = down_reach (λ _. packets_of (out ∷ [])) (λ _. alone (packets_of (out ∷ []))) (λ j parent at same. sym no_packet) (λ j parent at same. sym (ap alone no_packet)) (down_nothing (Some i) parents (only i (mark ∷ [])));
-        own = only_here i (mark ∷ []) ∙ is;
-        stays = λ is input b. b;
-        unmarked = λ j low. let other : j ≢ i = omega (arith, low) in only_elsewhere i (mark ∷ []) j other;
-        some = λ stopped. absurd cc;
-        took = took;
-      }
-
-      one : (x : Mark) → x ∷ [] ≢ []
-      one x e = cc
-
-      some : only i (mark ∷ []) i ≢ []
-      some = subst (λ (l : List Mark). l ≢ []) (sym (only_here i (mark ∷ []))) (one mark)
+      none_at : (j : ℕ) (parent : Option ℕ) → slice_get parents j ≡ Some parent → same_place parent (Some i) ≡ true → packets_of outs ≡ []
+      none_at j parent at same = no_packet j (at ∙ ap (λ (p : Option ℕ). Some p) (same_places parent (Some i) same))
 
 -- what was consumed, and a floor behind it
 module _ {by : Definitions} {before now : ℕ → List Item → Type 0} {parents : List (Option ℕ)} {t0 t1 : (ℕ → List Mark) → Type 0} {i : ℕ} {items : List Item} (done : Bool) (t2 : (ℕ → List Mark) → Type 0) (floor : ℕ)

@@ -8,7 +8,9 @@ use Rattle.la_base.specs.declared.wires.Out.TheVariants.{Note as NoteOut, Piece 
 use Rattle.decoder_core.specs.Inputs.{Item, Pack}
 use Rattle.decoder_core.specs.Promises.{NotesFrom}
 use Rattle.decoder_core.specs.Trees.{packets_of}
-use Rattle.decoder_core.specs.Marks.{marks_of, shown, MarksFrom, FloorsHold}
+use Rattle.decoder_core.specs.Marks.{shown, MarksFrom, FloorsHold}
+use Rattle.la_io.specs.Feeds.{marks_of}
+use Rattle.la_io.proofs.Taking.{marks-append}
 use Rattle.tree_runs.specs.Passing.{NoEnd}
 use Rattle.tree_runs.specs.Reaching.{Reaches}
 
@@ -17,12 +19,6 @@ packets-append [] ys = refl
 packets-append (NoteOut note ∷ xs) ys = packets-append xs ys
 packets-append (PieceOut piece ∷ xs) ys = packets-append xs ys
 packets-append (PacketOut packet ∷ xs) ys = ap (λ (l : List Item). Pack packet ∷ l) (packets-append xs ys)
-
-pub marks-append : (xs ys : List Out) → marks_of (xs ++ ys) ≡ marks_of xs ++ marks_of ys
-marks-append [] ys = refl
-marks-append (NoteOut note ∷ xs) ys = ap (λ (l : List Mark). NoteMark note ∷ l) (marks-append xs ys)
-marks-append (PieceOut piece ∷ xs) ys = ap (λ (l : List Mark). PieceMark piece ∷ l) (marks-append xs ys)
-marks-append (PacketOut packet ∷ xs) ys = marks-append xs ys
 
 pub shown-append : (xs ys : List Mark) → shown (xs ++ ys) ≡ shown xs ++ shown ys
 shown-append [] ys = refl

@@ -7,7 +7,8 @@ use Rattle.la_base.specs.declared.wires.Mark.TheVariants.{Floor as FloorMark, En
 use Rattle.la_base.specs.declared.wires.Out.{Out}
 use Rattle.decoder_core.specs.Inputs.{Item}
 use Rattle.decoder_core.specs.Trees.{packets_of}
-use Rattle.decoder_core.specs.Marks.{marks_of, shown, FloorsHold}
+use Rattle.decoder_core.specs.Marks.{shown, FloorsHold}
+use Rattle.la_io.specs.Feeds.{marks_of}
 use Rattle.tree_runs.specs.Floors.{Handed, alone}
 use Rattle.tree_runs.specs.Machines.{Definitions}
 use Rattle.tree_runs.specs.Reaching.{Reaches}
@@ -62,6 +63,14 @@ abbrev pub Took : ((ℕ → List Mark) → Type 0) → ((ℕ → List Mark) → 
 Took old new marks =
     (before after : ℕ → List Mark) → old before → ((j : ℕ) → after j ≡ before j ++ marks j)
     → new after
+
+-- marks of an instance were taken: all of these, or a front of them where it was stopped
+pub record TookFront (done : Bool) (old new : (ℕ → List Mark) → Type 0) (instance : ℕ)
+    (marks : List Mark) : Type 0 where
+  pub taken : List Mark
+  pub reaches : Reaches done taken marks
+  pub some : done ≡ false → taken ≢ []
+  pub took : Took old new (only instance taken)
 
 -- two places are the same; none is the outside of the tree
 abbrev pub same_place : Option ℕ → Option ℕ → Bool

@@ -11,7 +11,8 @@ use Rattle.la_base.specs.declared.wires.Out.{Out}
 use Rattle.la_io.specs.Feeds.{together}
 use Rattle.decoder_core.specs.Inputs.{Item, Sample}
 use Rattle.decoder_core.specs.Trees.{Node, given, input_of}
-use Rattle.decoder_core.specs.Marks.{marks_of, shown, FloorsHold}
+use Rattle.decoder_core.specs.Marks.{shown, FloorsHold}
+use Rattle.la_io.specs.Feeds.{marks_of}
 use Rattle.decoder_core.specs.declared.end.RunEnd.{RunEnd}
 use Rattle.decoder_core.specs.declared.end.RunEnd.TheVariants.{Ended, Stopped}
 use Rattle.tree_runs.specs.Floors.{Floored, FrontOfFloored, WithFloors, alone}

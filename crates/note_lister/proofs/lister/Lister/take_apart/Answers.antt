@@ -1,4 +1,4 @@
-use Rattle.std.proofs.Common.{◌≡◌, ◌≢◌, ◌<◌, inl, inr, refl, sym, arith}
+use Rattle.std.proofs.Common.{◌≡◌, ◌≢◌, ◌<◌, inl, inr, [], ◌∷◌, refl, sym, arith}
 use Rattle.std.specs.Prelude.{IsSome}
 use Rattle.std.proofs.lemmas.Bool.{cases_eq}
 use Rattle.stack_spec.specs.Stacks.{stack_meaning}
@@ -20,7 +20,7 @@ returns-then-is_some-clause-adds g c = λ before after took adds.
     record {
       same_sink = took.same_sink;
       goes_on_is = took.goes_on_is;
-      writes = stopped_again accepted before after c.args.instance c.args.mark adds old.merge old.cause old.stops c.stop_again.new.stops saw (k.written (first_sink old)) (k.written (sink_of old))
+      writes = stopped_again accepted before after c.args.instance (c.args.mark ∷ []) adds old.merge old.cause old.stops c.stop_again.new.stops saw (k.written (first_sink old)) (k.written (sink_of old))
           (k.faults (first_sink old)) (k.faults (sink_of old)) some rises took.writes;
       at_pause = λ is. absurd (rises is);
       at_stop = λ is. cut_first accepted before after c.args.instance c.args.mark adds accepted.binary refl old.merge saw (k.written (first_sink old)) (k.written (sink_of old)) c.requires.within (took.at_pause (elim (cases_eq old.stops 0) [ inl none ↦ none | inr more ↦ (let two : 1 < c.stop_again.new.stops = a more in absurd (omega (arith, is, two))) ]));

@@ -1,55 +1,58 @@
 use Rattle.std.proofs.Common.{◌≤◌, ◌≡◌, ◌++◌, ◌∷◌, ◌+◌, ◌<◌, [], List, true, false, refl, sym, ◌∙◌, ap, subst, take, drop, map, length, arith, take-append-drop}
 use Rattle.std.specs.Result.{is_ok}
-use Rattle.std.proofs.lemmas.List.{take_more}
-use Rattle.la_base.specs.declared.wires.Mark.TheVariants.{Note as NoteMark, Piece as PieceMark}
+use Rattle.std.proofs.lemmas.List.{take_all}
 use Rattle.la_base.specs.declared.wires.Out.{Out}
-use Rattle.la_base.specs.declared.wires.Out.TheVariants.{Note as NoteOut, Piece as PieceOut, Packet as PacketOut}
+use Rattle.la_base.specs.declared.wires.Out.TheVariants.{Packet as PacketOut}
 use Rattle.decoder_core.specs.Inputs.{Pack}
 use Rattle.decoder_core.specs.Promises.{IsFloor}
 use Rattle.tree_runs.specs.Passing.{Gives}
 use Rattle.tree_runs.specs.Reaching.{Reaches}
 use Rattle.tree_runs.specs.Machines.{Stand, whole_of, defined, near_of}
-use Rattle.stack_direct.specs.Trees.{defined_in, parents_of, stand_in}
-use Rattle.tree_runs.proofs.Joining.{gives_nothing, gives_then, gives_reach, gives_mark, gives_packet, consumes_reach, step_moves, stepped, hands_none, hands_front, hands_all, floored, cut_off}
+use Rattle.stack_direct.specs.Trees.{defined_in, handed_of, parents_of, stand_in}
+use Rattle.tree_runs.proofs.Joining.{gives_nothing, gives_then, gives_as, gives_marks, gives_reach, gives_packet, consumes_reach, step_moves, stepped, hands_none, hands_front, hands_all, floored, cut_off}
 use Rattle.tree_runs.proofs.Lists.{reaches_weaker}
 use Rattle.stack_direct.proofs.Feeding.{whole_packet}
+use Rattle.stack_direct.proofs.Going.{goes_then}
+use Rattle.stack_direct.proofs.Handing.{handed_front, handed_next, marks_both, packets_both, packets_told, told_front, told_of}
 use Rattle.stack_direct.proofs.Trees.{behind_above, gives_of, gives_stepped, hands_more, hands_past, same_count, same_still, same_then, still, still_then, takes_all}
 use Rattle.tree_runs.proofs.Ending.{keeps_at}
 use Rattle.stack_direct.proofs.tree.Tree.+tree.Goals as goal
 
-pub give_one-returns-in-Note-clause-gives : goal.give_one-returns-in-Note-clause-gives
-give_one-returns-in-Note-clause-gives g t c =
+pub hand_one-returns-in-Note-clause-gives : goal.hand_one-returns-in-Note-clause-gives
+hand_one-returns-in-Note-clause-gives g t c =
     let m = g.M.Machine in
-    let k = g.G.MarkTake in
     let by = defined_in m c.args.self.now in
     let now = stand_in m c.args.self.now in
     let places = parents_of c.args.self.now in
-    let note = c.in-Note.note in
-    subst (λ (o : Out). Gives (is_ok c.mark.result) by now now places (k.took c.args.take.now) (k.took c.mark.new.take) c.args.instance (o ∷ [])) (sym c.in-Note.is)
-    (gives_mark by now places (k.took c.args.take.now) (is_ok c.mark.result) (k.took c.mark.new.take) c.args.instance (NoteMark note) c.mark.ensures.took (NoteOut note) refl refl)
+    let took = g.G.MarkTake.took c.args.take.now in
+    subst (λ (o : Out). Gives true by now now places took took c.args.instance (handed_of (o ∷ []))) (sym c.in-Note.is) (gives_nothing by now places took c.args.instance)
 
-pub give_one-returns-in-Piece-clause-gives : goal.give_one-returns-in-Piece-clause-gives
-give_one-returns-in-Piece-clause-gives g t c =
+pub hand_one-returns-in-Note-clause-takes : goal.hand_one-returns-in-Note-clause-takes
+hand_one-returns-in-Note-clause-takes g t c = still g.G.MarkTake c.args.take.now
+
+pub hand_one-returns-in-Piece-clause-gives : goal.hand_one-returns-in-Piece-clause-gives
+hand_one-returns-in-Piece-clause-gives g t c =
     let m = g.M.Machine in
-    let k = g.G.MarkTake in
     let by = defined_in m c.args.self.now in
     let now = stand_in m c.args.self.now in
     let places = parents_of c.args.self.now in
-    let piece = c.in-Piece.piece in
-    subst (λ (o : Out). Gives (is_ok c.mark-in-Piece.result) by now now places (k.took c.args.take.now) (k.took c.mark-in-Piece.new.take) c.args.instance (o ∷ [])) (sym c.in-Piece.is)
-    (gives_mark by now places (k.took c.args.take.now) (is_ok c.mark-in-Piece.result) (k.took c.mark-in-Piece.new.take) c.args.instance (PieceMark piece) c.mark-in-Piece.ensures.took (PieceOut piece) refl refl)
+    let took = g.G.MarkTake.took c.args.take.now in
+    subst (λ (o : Out). Gives true by now now places took took c.args.instance (handed_of (o ∷ []))) (sym c.in-Piece.is) (gives_nothing by now places took c.args.instance)
 
-pub give_one-returns-in-Packet-clause-gives : goal.give_one-returns-in-Packet-clause-gives
-give_one-returns-in-Packet-clause-gives g t c =
+pub hand_one-returns-in-Piece-clause-takes : goal.hand_one-returns-in-Piece-clause-takes
+hand_one-returns-in-Piece-clause-takes g t c = still g.G.MarkTake c.args.take.now
+
+pub hand_one-returns-in-Packet-clause-gives : goal.hand_one-returns-in-Packet-clause-gives
+hand_one-returns-in-Packet-clause-gives g t c =
     let m = g.M.Machine in
     let k = g.G.MarkTake in
     let tree = c.args.self.now in
     let packet = c.in-Packet.packet in
-    subst (λ (o : Out). Gives (is_ok c.hand.result) (defined_in m tree) (stand_in m tree) (stand_in m c.hand.new.self) (parents_of tree) (k.took c.args.take.now) (k.took c.hand.new.take) c.args.instance (o ∷ [])) (sym c.in-Packet.is)
+    subst (λ (o : Out). Gives (is_ok c.hand.result) (defined_in m tree) (stand_in m tree) (stand_in m c.hand.new.self) (parents_of tree) (k.took c.args.take.now) (k.took c.hand.new.take) c.args.instance (handed_of (o ∷ []))) (sym c.in-Packet.is)
     (gives_packet c.args.instance (PacketOut packet) (λ j. refl) (λ j. refl) refl c.hand.ensures.hands)
 
-pub give-loop-out-init : goal.give-loop-out-init
-give-loop-out-init g t c =
+pub hand_each-loop-out-init : goal.hand_each-loop-out-init
+hand_each-loop-out-init g t c =
     let m = g.M.Machine in
     let k = g.G.MarkTake in
     let tree = c.args.self.now in
@@ -61,40 +64,70 @@ give-loop-out-init g t c =
       takes = still k c.args.take.now;
     }
 
-pub give-loop-out-preserved : goal.give-loop-out-preserved
-give-loop-out-preserved g t c =
+pub hand_each-loop-out-preserved : goal.hand_each-loop-out-preserved
+hand_each-loop-out-preserved g t c =
     let m = g.M.Machine in
     let k = g.G.MarkTake in
     let i = c.loop-out.invariant in
     let e = c.in-Ok.ensures in
-    let within : c.loop-out.out-index < length c.args.outs.now = omega arith in
-    let next : take c.loop-out.out-index c.args.outs.now ++ c.out-item.result ∷ [] ≡ take (c.loop-out.out-index + 1) c.args.outs.now =
-    sym (take_more c.args.outs.now c.loop-out.out-index c.out-item.result within ∙ ap (λ (o : Out). take c.loop-out.out-index c.args.outs.now ++ o ∷ []) (sym c.out-item.is)) in
+    let n = c.loop-out.out-index in
     record {
       all = takes_all k m i.all e.same e.takes;
       count = same_count m e.same ∙ i.count;
       same = same_then m i.same e.same;
-      gives = gives_reach (take (c.loop-out.out-index + 1) c.args.outs.now) next (gives_then i.gives (gives_of m i.same e.gives));
+      gives = gives_reach (handed_of (take (n + 1) c.args.outs.now)) (handed_next c.args.outs.now n c.out-item.result c.loop-out-test.true c.out-item.is) (gives_then i.gives (gives_of m i.same e.gives));
       takes = still_then k i.takes e.takes;
     }
 
-pub give-returns-in-Err-clause-same : goal.give-returns-in-Err-clause-same
-give-returns-in-Err-clause-same g t c = same_then g.M.Machine c.loop-out.invariant.same c.in-Err.ensures.same
+pub hand_each-returns-in-Err-clause-same : goal.hand_each-returns-in-Err-clause-same
+hand_each-returns-in-Err-clause-same g t c = same_then g.M.Machine c.loop-out.invariant.same c.in-Err.ensures.same
+
+pub hand_each-returns-in-Err-clause-gives : goal.hand_each-returns-in-Err-clause-gives
+hand_each-returns-in-Err-clause-gives g t c =
+    let m = g.M.Machine in
+    let i = c.loop-out.invariant in
+    let n = c.loop-out.out-index in
+    gives_reach (handed_of c.args.outs.now) (handed_front c.args.outs.now n c.out-item.result c.loop-out-test.true c.out-item.is) (gives_then i.gives (gives_of m i.same c.in-Err.ensures.gives))
+
+pub hand_each-returns-in-Err-clause-takes : goal.hand_each-returns-in-Err-clause-takes
+hand_each-returns-in-Err-clause-takes g t c = still_then g.G.MarkTake c.loop-out.invariant.takes c.in-Err.ensures.takes
+
+pub hand_each-returns-clause-gives : goal.hand_each-returns-clause-gives
+hand_each-returns-clause-gives g t c =
+    let m = g.M.Machine in
+    let k = g.G.MarkTake in
+    let tree = c.args.self.now in
+    let l = c.loop-out in
+    subst (λ (outs : List Out). Gives true (defined_in m tree) (stand_in m tree) (stand_in m l.self) (parents_of tree) (k.took c.args.take.now) (k.took l.take) c.args.instance (handed_of outs)) (take_all l.out-index c.args.outs.now c.loop-out-test.false) l.invariant.gives
+
+pub give-returns-else-not-has_child-clause-gives : goal.give-returns-else-not-has_child-clause-gives
+give-returns-else-not-has_child-clause-gives g t c =
+    let m = g.M.Machine in
+    let k = g.G.MarkTake in
+    let tree = c.args.self.now in
+    let outs = c.args.outs.now in
+    gives_as outs (packets_both outs) (marks_both outs)
+    (gives_then (gives_marks (defined_in m tree) (stand_in m tree) (parents_of tree) (k.took c.args.take.now) c.args.instance (told_of outs) (told_front outs c.in-Ok.ensures.took) (λ j at. packets_told outs)) c.hand_each.ensures.gives)
+
+pub give-returns-else-not-has_child-clause-takes : goal.give-returns-else-not-has_child-clause-takes
+give-returns-else-not-has_child-clause-takes g t c = goes_then g.G.MarkTake.instances g.G.MarkTake.origin g.G.MarkTake.stops g.G.MarkTake.going c.in-Ok.ensures.takes c.hand_each.ensures.takes
+
+pub give-returns-then-not-has_child-clause-gives : goal.give-returns-then-not-has_child-clause-gives
+give-returns-then-not-has_child-clause-gives g t c =
+    let m = g.M.Machine in
+    let k = g.G.MarkTake in
+    let tree = c.args.self.now in
+    let outs = c.args.outs.now in
+    gives_marks (defined_in m tree) (stand_in m tree) (parents_of tree) (k.took c.args.take.now) c.args.instance outs c.in-Ok.ensures.took (λ j at. absurd (c.if-not-has_child.ensures j at))
 
 pub give-returns-in-Err-clause-gives : goal.give-returns-in-Err-clause-gives
 give-returns-in-Err-clause-gives g t c =
     let m = g.M.Machine in
-    let i = c.loop-out.invariant in
-    let e = c.in-Err.ensures in
-    let within : c.loop-out.out-index < length c.args.outs.now = omega arith in
-    let next : take c.loop-out.out-index c.args.outs.now ++ c.out-item.result ∷ [] ≡ take (c.loop-out.out-index + 1) c.args.outs.now =
-    sym (take_more c.args.outs.now c.loop-out.out-index c.out-item.result within ∙ ap (λ (o : Out). take c.loop-out.out-index c.args.outs.now ++ o ∷ []) (sym c.out-item.is)) in
-    let front : Reaches false (take c.loop-out.out-index c.args.outs.now ++ c.out-item.result ∷ []) c.args.outs.now =
-    (drop (c.loop-out.out-index + 1) c.args.outs.now, ap (λ (l : List Out). l ++ drop (c.loop-out.out-index + 1) c.args.outs.now) next ∙ take-append-drop (c.loop-out.out-index + 1) c.args.outs.now) in
-    gives_reach c.args.outs.now front (gives_then i.gives (gives_of m i.same e.gives))
-
-pub give-returns-in-Err-clause-takes : goal.give-returns-in-Err-clause-takes
-give-returns-in-Err-clause-takes g t c = still_then g.G.MarkTake c.loop-out.invariant.takes c.in-Err.ensures.takes
+    let k = g.G.MarkTake in
+    let tree = c.args.self.now in
+    let outs = c.args.outs.now in
+    gives_as outs (packets_both outs) (marks_both outs)
+    (gives_reach (told_of outs ++ handed_of outs) (handed_of outs, refl) (gives_marks (defined_in m tree) (stand_in m tree) (parents_of tree) (k.took c.args.take.now) c.args.instance (told_of outs) (told_front outs c.in-Err.ensures.took) (λ j at. packets_told outs)))
 
 pub pass_in-returns-in-Err-clause-feeds : goal.pass_in-returns-in-Err-clause-feeds
 pass_in-returns-in-Err-clause-feeds g t c =
