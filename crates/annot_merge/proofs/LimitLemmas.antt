@@ -6,7 +6,7 @@ use Rattle.std.proofs.lemmas.Option.{none-some, same_Some}
 use Rattle.std.proofs.lemmas.List.{length-set}
 use Rattle.note_order.specs.declared.entry.Entry.{Entry}
 use Rattle.annot_merge.specs.Bounds.{Allows}
-use Rattle.annot_merge.specs.Limits.{IsBefore, IsBelow, IsLimit, IsNone, Leads, NoOther}
+use Rattle.annot_merge.specs.Limits.{IsBefore, IsBelow, IsLimit, IsNext, IsNone, IsOneOf, Leads, NoOther}
 use Rattle.annot_merge.specs.declared.limit.Lead.{Lead}
 use Rattle.annot_merge.specs.declared.limit.Limit.{Limit}
 
@@ -170,37 +170,94 @@ was_there : (before now : List (Option ℕ)) (i : ℕ) (bound : Option ℕ) → 
 was_there before now i bound is j one differ at = sym (get_set_other before i bound j differ) ∙ (ap (λ l. slice_get l j) (sym is) ∙ at)
 
 -- behind the least of all, the next instance
-pub others_behind : (bounds : List (Option ℕ)) (limit : Limit) (next : ℕ) → next ≤ limit.instance + 1 → IsLimit bounds limit → NoOther bounds limit.instance (record { start = limit.start; instance = next })
+others_behind : (bounds : List (Option ℕ)) (limit : Limit) (next : ℕ) → next ≤ limit.instance + 1 → IsLimit bounds limit → NoOther bounds limit.instance (record { start = limit.start; instance = next })
 others_behind bounds limit next few is other None differ at = tt
 others_behind bounds limit next few is other (Some floor) differ at =
     let below = is.within other (Some floor) at in
     let b = below.1 in
     (below.0, λ same. omega (arith, few, differ, b, same))
 
-pub others_by : (before now : List (Option ℕ)) (i : ℕ) (bound : Option ℕ) (limit : Limit) → now ≡ set before i bound → IsLimit before limit → NoOther now i limit
+others_by : (before now : List (Option ℕ)) (i : ℕ) (bound : Option ℕ) (limit : Limit) → now ≡ set before i bound → IsLimit before limit → NoOther now i limit
 others_by before now i bound limit is was other one differ at = was.within other one (was_there before now i bound is other one differ at)
 
 -- one more bound, or one that changes
-pub others_push : (bounds : List (Option ℕ)) (bound : Option ℕ) (but : ℕ) (limit moved : Limit) → ((j : ℕ) (one : Option ℕ) → IsBelow limit one j → IsBelow moved one j) → (length bounds ≢ but → IsBelow moved bound (length bounds))
+others_push : (bounds : List (Option ℕ)) (bound : Option ℕ) (but : ℕ) (limit moved : Limit) → ((j : ℕ) (one : Option ℕ) → IsBelow limit one j → IsBelow moved one j) → (length bounds ≢ but → IsBelow moved bound (length bounds))
     → NoOther bounds but limit → NoOther (bounds ++ bound ∷ []) but moved
 others_push bounds bound but limit moved still here was other one differ at = elim (get_push_cases bounds bound other one at) [
   | inl before ↦ still other one (was other one differ before)
   | inr last ↦ subst (λ b. IsBelow moved b other) last.1 (subst (λ (k : ℕ). IsBelow moved bound k) (sym last.0) (here (λ same. differ (last.0 ∙ same))))
 ]
 
-pub others_set : (before now : List (Option ℕ)) (i : ℕ) (bound : Option ℕ) (but : ℕ) (limit moved : Limit) → now ≡ set before i bound → i < length now → ((j : ℕ) (one : Option ℕ) → IsBelow limit one j → IsBelow moved one j) → IsBelow moved bound i
+others_set : (before now : List (Option ℕ)) (i : ℕ) (bound : Option ℕ) (but : ℕ) (limit moved : Limit) → now ≡ set before i bound → i < length now → ((j : ℕ) (one : Option ℕ) → IsBelow limit one j → IsBelow moved one j) → IsBelow moved bound i
     → NoOther before but limit → NoOther now but moved
 others_set before now i bound but limit moved is within still here was other one differ at = elim (cases_eq other i) [
   | inl same ↦ subst (λ b. IsBelow moved b other) (same_Some bound one (sym (now_here before now i bound is within) ∙ (ap (slice_get now) (sym same) ∙ at))) (subst (λ (k : ℕ). IsBelow moved bound k) (sym same) here)
   | inr d ↦ still other one (was other one differ (was_there before now i bound is other one d at))
 ]
 
+-- an element that isn't written stays
+stays_there : (before now : List (Option ℕ)) (i : ℕ) (bound : Option ℕ) → now ≡ set before i bound → (j : ℕ) (one : Option ℕ) → j ≢ i → slice_get before j ≡ Some one → slice_get now j ≡ Some one
+stays_there before now i bound is j one differ at = ap (λ l. slice_get l j) is ∙ (get_set_other before i bound j differ ∙ at)
+
+-- the least of the others, with one more bound
+pub next_push : (bounds : List (Option ℕ)) (bound : Option ℕ) (but : ℕ) (limit moved : Limit) → ((j : ℕ) (one : Option ℕ) → IsBelow limit one j → IsBelow moved one j) → (length bounds ≢ but → IsBelow moved bound (length bounds))
+    → (moved ≡ limit) ⊎ ((length bounds ≢ but) × (moved.instance ≡ length bounds) × (bound ≡ Some moved.start)) → IsNext bounds but limit → IsNext (bounds ++ bound ∷ []) but moved
+next_push bounds bound but limit moved still here one was = record {
+  below = others_push bounds bound but limit moved still here was.below;
+  reached = elim one [
+    | inl same ↦ subst (λ (l : Limit). ((l.instance ≢ but) × (slice_get (bounds ++ bound ∷ []) l.instance ≡ Some (Some l.start))) ⊎ IsNone l) (sym same)
+        (elim was.reached [
+          | inl at ↦ inl (at.0, get_front bounds bound limit.instance (Some limit.start) at.1)
+          | inr none ↦ inr none
+        ])
+    | inr last ↦ inl (λ same. last.0 (sym last.1 ∙ same), get_last bounds bound moved.instance (sym last.1) ∙ ap (λ b. Some b) last.2)
+  ];
+}
+
+-- the least of the others, where the bound of one changes that wasn't the least of them
+pub next_set : (before now : List (Option ℕ)) (i : ℕ) (bound : Option ℕ) (but : ℕ) (limit moved : Limit) → now ≡ set before i bound → i < length now → i ≢ but → i ≢ limit.instance → ((j : ℕ) (one : Option ℕ) → IsBelow limit one j → IsBelow moved one j) → IsBelow moved bound i
+    → IsOneOf moved limit i bound → IsNext before but limit → IsNext now but moved
+next_set before now i bound but limit moved is within differ apart still here one was = record {
+  below = others_set before now i bound but limit moved is within still here was.below;
+  reached = elim one [
+    | inl same ↦ subst (λ (l : Limit). ((l.instance ≢ but) × (slice_get now l.instance ≡ Some (Some l.start))) ⊎ IsNone l) (sym same)
+        (elim was.reached [
+          | inl at ↦ inl (at.0, stays_there before now i bound is limit.instance (Some limit.start) (λ e. apart (sym e)) at.1)
+          | inr none ↦ inr none
+        ])
+    | inr new ↦ inl (λ same. differ (sym new.0 ∙ same), subst (λ (k : ℕ). slice_get now k ≡ Some (Some moved.start)) (sym new.0) (now_here before now i bound is within ∙ ap (λ b. Some b) new.1))
+  ];
+}
+
+-- a bound comes before all others: the first is then the least of the others
+pub next_first : (before now : List (Option ℕ)) (i : ℕ) (bound : Option ℕ) (limit : Limit) → now ≡ set before i bound → i ≢ limit.instance → IsLimit before limit → IsNext now i limit
+next_first before now i bound limit is differ was = record {
+  below = others_by before now i bound limit is was;
+  reached = elim was.reached [
+    | inl at ↦ inl (λ e. differ (sym e), stays_there before now i bound is limit.instance (Some limit.start) (λ e. differ (sym e)) at)
+    | inr none ↦ inr none
+  ];
+}
+
+-- the instance after the least of all has the same bound
+pub next_same : (bounds : List (Option ℕ)) (limit : Limit) (next : ℕ) → next ≡ limit.instance + 1 → slice_get bounds next ≡ Some (Some limit.start) → IsLimit bounds limit → IsNext bounds limit.instance (record { start = limit.start; instance = next })
+next_same bounds limit next few at is = record {
+  below = others_behind bounds limit next (omega (arith, few)) is;
+  reached = inl (λ same. omega (arith, few, same), at);
+}
+
 -- the first one's bound changes, and stays before the others
 pub leads_on : (before now : List (Option ℕ)) (start : ℕ) (lead : Lead) → now ≡ set before lead.least.instance (Some start) → lead.least.instance < length now → IsBefore start lead.least.instance lead.others → Leads before lead
     → Leads now (record { least = record { start = start; instance = lead.least.instance }; others = lead.others })
 leads_on before now start lead is within first was = record {
   least_is = record { within = by; reached = inl here };
-  others_are = others;
+  others_are = record {
+    below = others;
+    reached = elim was.others_are.reached [
+      | inl at ↦ inl (at.0, stays_there before now i (Some start) is lead.others.instance (Some lead.others.start) at.0 at.1)
+      | inr none ↦ inr none
+    ];
+  };
 }
   where
     i : ℕ
@@ -210,7 +267,7 @@ leads_on before now start lead is within first was = record {
     here = now_here before now i (Some start) is within
 
     others : NoOther now i lead.others
-    others j one differ at = was.others_are j one differ (was_there before now i (Some start) is j one differ at)
+    others j one differ at = was.others_are.below j one differ (was_there before now i (Some start) is j one differ at)
 
     by : (j : ℕ) (one : Option ℕ) → slice_get now j ≡ Some one → IsBelow (record { start = start; instance = i }) one j
     by j None at = tt
@@ -225,15 +282,19 @@ leads_on before now start lead is within first was = record {
           (omega (arith, below.0, first.0), λ e. omega (arith, e, below.0, first.0, b, k))
     ]
 
--- it goes, and no other has one
-pub leads_none : (before now : List (Option ℕ)) (lead : Lead) → now ≡ set before lead.least.instance None → lead.least.instance < length now → IsNone lead.others → Leads before lead → Leads now (record { least = lead.others; others = lead.others })
-leads_none before now lead is within none was = record {
-  least_is = record { within = by; reached = inr none };
-  others_are = λ j one differ at. by j one at;
+-- it isn't before the others any more: the least of the others is the first
+pub first_gone : (before now : List (Option ℕ)) (bound : Option ℕ) (lead : Lead) → now ≡ set before lead.least.instance bound → ((one : Option ℕ) → slice_get now lead.least.instance ≡ Some one → IsBelow lead.others one lead.least.instance) → Leads before lead → IsLimit now lead.others
+first_gone before now bound lead is past was = record {
+  within = λ j one at. elim (cases_eq j lead.least.instance) [
+    | inl same ↦ subst (λ (k : ℕ). IsBelow lead.others one k) (sym same) (past one (ap (slice_get now) (sym same) ∙ at))
+    | inr differ ↦ was.others_are.below j one differ (was_there before now lead.least.instance bound is j one differ at)
+  ];
+  reached = elim was.others_are.reached [
+    | inl at ↦ inl (stays_there before now lead.least.instance bound is lead.others.instance (Some lead.others.start) at.0 at.1)
+    | inr none ↦ inr none
+  ];
 }
-  where
-    by : (j : ℕ) (one : Option ℕ) → slice_get now j ≡ Some one → IsBelow lead.others one j
-    by j one at = elim (cases_eq j lead.least.instance) [
-      | inl same ↦ subst (λ b. IsBelow lead.others b j) (same_Some None one (sym (now_here before now lead.least.instance None is within) ∙ (ap (slice_get now) (sym same) ∙ at))) tt
-      | inr differ ↦ was.others_are j one differ (was_there before now lead.least.instance None is j one differ at)
-    ]
+
+-- where there is no first, there is no other
+pub next_none : (bounds : List (Option ℕ)) (limit : Limit) → IsNone limit → IsLimit bounds limit → IsNext bounds limit.instance limit
+next_none bounds limit none is = record { below = λ j one differ at. is.within j one at; reached = inr none }

@@ -38,7 +38,18 @@ NoOther bounds instance limit =
     (other : ℕ) (bound : Option ℕ) → other ≢ instance → slice_get bounds other ≡ Some bound
     → IsBelow limit bound other
 
--- the least of the bounds, and a place before which none of the others stands
+-- the least of the bounds but for that of one instance; where there is none, it is behind all places
+pub record IsNext (bounds : List (Option ℕ)) (but : ℕ) (limit : Limit) : Type 0 where
+  pub below : NoOther bounds but limit
+  pub reached : ((limit.instance ≢ but) × (slice_get bounds limit.instance ≡ Some (Some limit.start)))
+      ⊎ IsNone limit
+
+-- the least of the bounds, and the least of the others
 pub record Leads (bounds : List (Option ℕ)) (lead : Lead) : Type 0 where
   pub least_is : IsLimit bounds lead.least
-  pub others_are : NoOther bounds lead.least.instance lead.others
+  pub others_are : IsNext bounds lead.least.instance lead.others
+
+-- a limit is as it was, or the bound of this instance
+abbrev pub IsOneOf : Limit → Limit → ℕ → Option ℕ → Type 0
+IsOneOf result limit instance bound =
+    (result ≡ limit) ⊎ ((result.instance ≡ instance) × (bound ≡ Some result.start))

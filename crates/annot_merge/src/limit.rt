@@ -8,7 +8,7 @@ pub struct Limit {
     pub instance: u32,
 }
 
-/// Which of all instances is the first, and a place before which no other one is.
+/// Which of all instances is the first, and which of the others.
 #[derive(Clone, Copy, PartialEq, Eq)]
 pub struct Lead {
     pub least: Limit,

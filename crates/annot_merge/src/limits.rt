@@ -1,9 +1,9 @@
 // The limit that the bounds of all instances set.
 ghost use Rattle.std.specs.Prelude.{◌≡◌, ◌≢◌, ◌≤◌, ◌<◌, ◌^◌, ◌∷◌, ◌++◌, [], ℕ, List, MatchBool};
-ghost use Rattle.std.specs.Prelude.{Option, Some, length, slice_set};
+ghost use Rattle.std.specs.Prelude.{Option, Some, length, slice_get, slice_set};
 ghost use Rattle.annot_merge.specs.Bounds.{AllowsAt};
-ghost use Rattle.annot_merge.specs.Limits.{IsBefore, IsBelow, IsLimit, IsNearer, IsNone, Leads};
-ghost use Rattle.annot_merge.specs.Limits.{NoOther};
+ghost use Rattle.annot_merge.specs.Limits.{IsBefore, IsBelow, IsLimit, IsNearer, IsNext, IsNone};
+ghost use Rattle.annot_merge.specs.Limits.{IsOneOf, Leads};
 
 use crate::limit::{Lead, Limit};
 
@@ -38,7 +38,7 @@ fn nearer(limit: Limit, instance: u32, bound: Option<u64>) -> Limit
     ensures here { IsBelow result bound instance }
     ensures still { (other : ℕ) (one : Option ℕ) → IsBelow limit one other
         → IsBelow result one other }
-    ensures same { result.instance ≢ instance → result ≡ limit }
+    ensures one { IsOneOf result limit instance bound }
     ensures sets { (before now : List (Option ℕ)) → now ≡ slice_set before instance bound
         → instance < length now → instance ≢ limit.instance
         → IsLimit before limit → IsLimit now result }
@@ -75,8 +75,8 @@ pub fn limit_of(bounds: &[Option<u64>]) -> Limit
 
 // The nearer of a limit and the bound of one more instance, unless it is that of one.
 fn nearer_but(limit: Limit, instance: u32, bound: Option<u64>, but: u32) -> Limit
-    ensures { (bounds : List (Option ℕ)) → length bounds ≡ instance → NoOther bounds but limit
-        → NoOther (bounds ++ bound ∷ []) but result }
+    ensures { (bounds : List (Option ℕ)) → length bounds ≡ instance → IsNext bounds but limit
+        → IsNext (bounds ++ bound ∷ []) but result }
 {
     if instance == but {
         return limit;
@@ -87,7 +87,7 @@ fn nearer_but(limit: Limit, instance: u32, bound: Option<u64>, but: u32) -> Limi
 // The least of the bounds, but for that of one instance.
 fn limit_but(bounds: &[Option<u64>], but: u32) -> Limit
     requires { length bounds.now < 2 ^ 32 }
-    ensures { NoOther bounds.now but result }
+    ensures { IsNext bounds.now but result }
 {
     let mut limit = Limit {
         start: u64::MAX,
@@ -118,37 +118,47 @@ fn is_none(limit: &Limit) -> bool
     limit.start == u64::MAX && limit.instance == u32::MAX
 }
 
-// A place.
-fn placed(start: u64, instance: u32) -> Limit
-    ensures is { result ≡ record { start = start; instance = instance } }
-    ensures low { start < 2 ^ 64 }
+// The least of the bounds, but for that of the first. Often the next instance has the same bound.
+#[inline(always)]
+fn next_of(first: Limit, bounds: &[Option<u64>]) -> Limit
+    requires { length bounds.now < 2 ^ 32 }
+    ensures { IsLimit bounds.now first → IsNext bounds.now first.instance result }
 {
-    Limit { start, instance }
+    let next = first.instance as usize + 1;
+    if next < bounds.len() {
+        if is_at(bounds[next], first.start) {
+            return Limit {
+                start: first.start,
+                instance: next as u32,
+            };
+        }
+    }
+    limit_but(bounds, first.instance)
 }
 
-// The same behind a change of the bound of the first, where no other one has a bound.
-fn lead_alone(lead: Lead, bounds: &[Option<u64>]) -> Lead
-    requires within { lead.least.instance < length bounds.now }
+// The same after a change of the bound of the first, which isn't before the others any more.
+#[inline(always)]
+fn lead_gone(lead: Lead, bounds: &[Option<u64>]) -> Lead
     requires few { length bounds.now < 2 ^ 32 }
-    requires alone { IsNone lead.others }
+    requires past { (bound : Option ℕ) → slice_get bounds.now lead.least.instance ≡ Some bound
+        → IsBelow lead.others bound lead.least.instance }
     ensures { (before : List (Option ℕ)) (bound : Option ℕ)
         → bounds.now ≡ slice_set before lead.least.instance bound
         → Leads before lead → Leads bounds.now result }
 {
-    let place = lead.least.instance as usize;
-    match bounds[place] {
-        Some(start) => Lead {
-            least: placed(start, lead.least.instance),
-            others: lead.others,
-        },
-        None => Lead {
+    if is_none(&lead.others) {
+        return Lead {
             least: lead.others,
             others: lead.others,
-        },
+        };
+    }
+    Lead {
+        least: lead.others,
+        others: next_of(lead.others, bounds),
     }
 }
 
-/// The same behind a change of the bound of the first. Often many instances have the same bounds.
+/// The first and the next after a change of the bound of the first.
 #[inline(always)]
 pub fn lead_past(lead: Lead, bounds: &[Option<u64>]) -> Lead
     requires within { lead.least.instance < length bounds.now }
@@ -157,26 +167,24 @@ pub fn lead_past(lead: Lead, bounds: &[Option<u64>]) -> Lead
         → bounds.now ≡ slice_set before lead.least.instance bound
         → Leads before lead → Leads bounds.now result }
 {
-    if is_none(&lead.others) {
-        return lead_alone(lead, bounds);
-    }
-    let least = limit_past(lead.least, bounds);
-    if least.start == lead.least.start {
-        return Lead {
-            least,
-            others: Limit {
-                start: least.start,
-                instance: least.instance.saturating_add(1),
-            },
-        };
-    }
-    Lead {
-        least,
-        others: limit_but(bounds, least.instance),
+    match bounds[lead.least.instance as usize] {
+        Some(start) => {
+            if is_lower(start, lead.least.instance, &lead.others) {
+                return Lead {
+                    least: Limit {
+                        start,
+                        instance: lead.least.instance,
+                    },
+                    others: lead.others,
+                };
+            }
+            lead_gone(lead, bounds)
+        }
+        None => lead_gone(lead, bounds),
     }
 }
 
-/// The same behind a change of one bound.
+/// The first and the next after a change of one bound.
 pub fn lead_behind(lead: Lead, bounds: &[Option<u64>], instance: u32, bound: Option<u64>) -> Lead
     requires within { instance < length bounds.now }
     requires few { length bounds.now < 2 ^ 32 }
@@ -191,6 +199,12 @@ pub fn lead_behind(lead: Lead, bounds: &[Option<u64>], instance: u32, bound: Opt
         return Lead {
             least,
             others: lead.least,
+        };
+    }
+    if instance == lead.others.instance {
+        return Lead {
+            least,
+            others: limit_but(bounds, least.instance),
         };
     }
     Lead {

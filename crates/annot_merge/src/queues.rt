@@ -11,7 +11,7 @@ ghost use Rattle.annot_merge.specs.Queues.{listing_of, live};
 
 use crate::bounds::same_bounds;
 use crate::limit::{Lead, Limit};
-use crate::limits::{is_lower, lead_behind, lead_of, lead_past};
+use crate::limits::{lead_behind, lead_of, lead_past};
 use crate::queue::Queue;
 use la_base::{NoMemory, Note};
 use note_order::Entry;
@@ -181,12 +181,6 @@ impl Queues {
         let head = self.queues[place].head();
         self.heads[place] = head;
         self.many -= count as u64;
-        if let Some(start) = head {
-            if is_lower(start, self.lead.least.instance, &self.lead.others) {
-                self.lead.least.start = start;
-                return;
-            }
-        }
         self.lead = lead_past(self.lead, &self.heads);
     }
 }

@@ -1,4 +1,4 @@
-use Rattle.std.proofs.Common.{refl, sym, subst, arith}
+use Rattle.std.proofs.Common.{refl, sym, subst, arith, inl, inr}
 use Rattle.annot_merge.specs.Limits.{IsBelow}
 use Rattle.annot_merge.proofs.LimitLemmas.{below_lower, limit_left, limit_lowered, nearer_lower, nearer_same}
 use Rattle.annot_merge.proofs.limits.nearer.Goals as goal
@@ -8,7 +8,7 @@ returns-then-is_lower c = record {
   next = nearer_lower c.args.limit _ c.args.bound c.in-Some.is c.if-is_lower.ensures.0 c.if-is_lower.ensures.1;
   here = subst (λ b. IsBelow (record { start = c.in-Some.floor; instance = c.args.instance }) b c.args.instance) (sym c.in-Some.is) (omega arith, λ _. omega arith);
   still = λ other one below. below_lower c.args.limit _ one other c.if-is_lower.ensures.0 c.if-is_lower.ensures.1 below;
-  same = λ differ. absurd (differ refl);
+  one = inr (refl, c.in-Some.is);
   sets = λ before now is within differ was. limit_lowered c.args.limit _ c.args.bound c.in-Some.is c.if-is_lower.ensures.0 c.if-is_lower.ensures.1 before now is within was;
 }
 
@@ -19,7 +19,7 @@ returns-else-is_lower c =
       next = nearer_same c.args.limit c.args.bound c.args.instance below;
       here = below;
       still = λ other one was. was;
-      same = λ differ. refl;
+      one = inl refl;
       sets = λ before now is within differ was. limit_left c.args.limit before now c.args.instance c.args.bound within is differ below was;
     }
 
@@ -30,6 +30,6 @@ returns-in-None c =
       next = nearer_same c.args.limit c.args.bound c.args.instance below;
       here = below;
       still = λ other one was. was;
-      same = λ differ. refl;
+      one = inl refl;
       sets = λ before now is within differ was. limit_left c.args.limit before now c.args.instance c.args.bound within is differ below was;
     }
