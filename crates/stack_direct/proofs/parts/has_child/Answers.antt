@@ -1,4 +1,4 @@
-use Rattle.std.proofs.Common.{◌≡◌, ◌<◌, ◌+◌, ◌∙◌, inl, inr, ℕ, Bool, true, false, Option, Some, None, get_or, slice_get, sym, ap, subst, arith}
+use Rattle.std.proofs.Common.{◌≡◌, ◌<◌, ◌+◌, ◌∙◌, inl, inr, ℕ, true, false, Option, Some, None, get_or, slice_get, sym, ap, subst, arith}
 use Rattle.std.proofs.lemmas.Bool.{cases_eq}
 use Rattle.std.proofs.lemmas.Bool.Decides.{nat_tests}
 use Rattle.std.proofs.lemmas.Option.{same_Some, slice_get-get_or, slice_get_within}
@@ -11,12 +11,8 @@ loop-parent-init c = λ j low at. absurd (omega (arith, low))
 same_itself : (i : ℕ) → same_place (Some i) (Some i) ≡ true
 same_itself i = grind (arith, nat_tests)
 
-not_both : (b : Bool) → b ≡ true → b ≡ false → ⊥
-not_both true yes no = cc
-not_both false yes no = cc
-
 is_other : (parent : Option ℕ) (i : ℕ) → same_place parent (Some i) ≡ false → parent ≡ Some i → ⊥
-is_other parent i off is = not_both (same_place parent (Some i)) (ap (λ (p : Option ℕ). same_place p (Some i)) is ∙ same_itself i) off
+is_other parent i off is = let no : false ≡ true = sym off ∙ (ap (λ (p : Option ℕ). same_place p (Some i)) is ∙ same_itself i) in absurd cc
 
 pub loop-parent-preserved : goal.loop-parent-preserved
 loop-parent-preserved c = λ j low at. elim (cases_eq j c.loop-parent.parent-index) [
