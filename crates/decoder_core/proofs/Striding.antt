@@ -12,7 +12,7 @@ use Rattle.wait_cond.specs.declared.walk.Walk.{Walk}
 use Rattle.wait_cond.proofs.Runs.{now_is}
 use Rattle.decoder_core.specs.Promises.{IsLoud, IsQuiet, StandsThere}
 use Rattle.decoder_core.specs.Treading.{OnWalk}
-use Rattle.decoder_core.specs.Striding.{Awaits, Strides, Timed}
+use Rattle.decoder_core.specs.Striding.{Awaits, PassesOver, Strides, Timed}
 use Rattle.decoder_core.proofs.Counting.{samples_are}
 use Rattle.decoder_core.proofs.Treading.{tread_anew, tread_pass}
 
@@ -23,7 +23,7 @@ further run value k n same count =
     ∙ replicate-append-replicate k run.len value ∙ ap (λ (i : ℕ). replicate i value) count
 
 -- what is waited for behind a run that ends before the stop
-timed_pass : (alts : List Alt) (walk next : Walk) (left len : ℕ) → Timed alts walk left → 0 < len → len ≤ left → walked next ≡ walked walk + len → walk_from next ≡ walk_from walk → Timed alts next (left - len)
+pub timed_pass : (alts : List Alt) (walk next : Walk) (left len : ℕ) → Timed alts walk left → 0 < len → len ≤ left → walked next ≡ walked walk + len → walk_from next ≡ walk_from walk → Timed alts next (left - len)
 timed_pass alts walk next left len t some short count from = record {
   skip = t.skip;
   timer = t.timer;
@@ -84,3 +84,29 @@ module _ {L : Type 0} (outs : List ℕ → List Out) (stands : L → List ℕ �
       → Strides outs stands alts middle new walk next earlier into more → Strides outs stands alts old new walk_old next given into (before ++ more)
   strides_then old middle new walk_old walk next given earlier into before more first then list all on =
       subst (λ (l : List ℕ). OnWalk outs stands (alts new) new next list l into) (append_assoc all before more) (then list (all ++ before) (first list all on))
+
+  -- a walk that has passed nothing yet
+  pub passes_begin : (machine : L) (walk : Walk) (before : List ℕ) → PassesOver outs stands alts machine walk walk before before
+  passes_begin machine walk before = record {
+    more = [];
+    split = sym (append-nil before);
+    strides = λ given. strides_begin machine walk given;
+  }
+
+  -- and one that passes samples after its strides
+  pub strides_pass : (old machine : L) (walk_old walk next : Walk) (given earlier : List Out) (before after : List ℕ) → Strides outs stands alts old machine walk_old walk given earlier before
+      → PassesOver outs stands alts machine walk next before after → Strides outs stands alts old machine walk_old next given earlier after
+  strides_pass old machine walk_old walk next given earlier before after first p =
+      subst (λ (l : List ℕ). Strides outs stands alts old machine walk_old next given earlier l) (sym p.split)
+      (strides_then old machine machine walk_old walk next given earlier earlier before p.more first (p.strides earlier))
+
+-- a walk passes one more run that ends before the stop
+pub passes_more : {L S : Type 0} (setup : L → S) (outs : S → List ℕ → List Out) (stands : L → List ℕ → Type 0) (alts : L → List Alt) (quiet : (machine : L) → IsQuiet (outs (setup machine)) (stands machine) (alts machine))
+    (machine : L) (walk_old walk next : Walk) (before after longer : List ℕ) (run : Run) (left : ℕ) → PassesOver (outs (setup machine)) stands alts machine walk_old walk before after → StopsBehind (alts machine) walk run.value left → longer ≡ after ++ samples run → run.len ≤ left
+    → ((asked : List Alt) (list : List ℕ) → Walks asked walk list → NoneMet (list ++ samples run) asked (walk_from walk) (length list + run.len) → Walks asked next (list ++ samples run))
+    → walk_from next ≡ walk_from walk → PassesOver (outs (setup machine)) stands alts machine walk_old next before longer
+passes_more setup outs stands alts quiet machine walk_old walk next before after longer run left p behind is short waits from = record {
+  more = p.more ++ samples run;
+  split = is ∙ ap (λ (l : List ℕ). l ++ samples run) p.split ∙ append_assoc before p.more (samples run);
+  strides = λ given. stride_pass setup outs stands alts quiet (setup machine) machine machine walk_old walk next given given p.more (p.more ++ samples run) run left (p.strides given) refl behind refl short waits from;
+}

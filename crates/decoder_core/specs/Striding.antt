@@ -34,3 +34,12 @@ pub record StridesOver {L : Type 0} (outs : List ℕ → List Out) (stands : L �
   pub more : List ℕ
   pub split : samples ≡ more ++ rest
   pub strides : Strides outs stands alts old new walk_old walk_new [] into more
+
+-- a walk goes on from the end of `before` to the end of `after`, which begins with it: the machine
+-- stands there as it is, and gives nothing
+pub record PassesOver {L : Type 0} (outs : List ℕ → List Out) (stands : L → List ℕ → Type 0)
+    (alts : L → List Alt) (machine : L) (walk_old walk_new : Walk) (before after : List ℕ) : Type 0 where
+  pub more : List ℕ
+  pub split : after ≡ before ++ more
+  pub strides : (given : List Out)
+      → Strides outs stands alts machine machine walk_old walk_new given given more

@@ -6,7 +6,7 @@ ghost use Rattle.wait_cond.specs.Conds.{IsFall, IsTimer};
 ghost use Rattle.wait_cond.specs.Waiting.{rest_len, rest_samples};
 ghost use Rattle.wait_cond.specs.Walks.{StopsBehind, walk_from, walked};
 ghost use Rattle.wait_cond.specs.declared.alt.Alt.{Alt};
-ghost use Rattle.decoder_core.specs.Striding.{Awaits, Strides, StridesOver};
+ghost use Rattle.decoder_core.specs.Striding.{Awaits, PassesOver, Strides, StridesOver, Timed};
 
 use crate::{LogicMachine, Outs};
 use la_base::{Run, Word};
@@ -189,6 +189,77 @@ pub fn stride<L: LogicMachine>(
     }
 }
 
+// How far a walk came before a time: the run at which it is over, and how many samples come before it
+// there.
+#[derive(Clone, Copy, PartialEq, Eq)]
+struct Passed {
+    place: usize,
+    left: u64,
+}
+
+// Passes runs that end before a time is over. It has a loop of its own, since most runs are such ones.
+#[inline(always)]
+fn pass_timed<L: LogicMachine>(
+    machine: &L,
+    walk: &mut Walk,
+    first: u64,
+    runs: &[Run],
+    from: usize,
+) -> Passed
+    requires from { from ≤ length runs.now }
+    requires some { walked walk.old ≢ 0 }
+    requires timed { Timed (L.alts machine.now) walk.old first }
+    ensures from { from ≤ result.place }
+    ensures within { result.place ≤ length runs.now }
+    ensures some { walked walk.new ≢ 0 }
+    ensures timed { Timed (L.alts machine.now) walk.new result.left }
+    ensures passes { PassesOver (L.outs (L.setup machine.now)) L.stands L.alts machine.now
+        walk.old walk.new (samples_of (take from runs.now))
+        (samples_of (take result.place runs.now)) }
+{
+    let mut place = from;
+    let mut left = first;
+    while place < runs.len() {
+        let run = runs[place];
+        if run.len > left {
+            return Passed { place, left };
+        }
+        walk.pass(run);
+        left -= run.len;
+        place += 1;
+    }
+    Passed { place, left }
+}
+
+// Passes runs that end before a time is over, where a time alone is waited for.
+#[inline(always)]
+fn pass_before<L: LogicMachine>(
+    machine: &L,
+    walk: &mut Walk,
+    next: Next,
+    runs: &[Run],
+    from: usize,
+) -> Passed
+    requires from { from ≤ length runs.now }
+    requires some { walked walk.old ≢ 0 }
+    requires awaits { Awaits (L.alts machine.now) walk.old next.falls next.left }
+    ensures from { from ≤ result.place }
+    ensures within { result.place ≤ length runs.now }
+    ensures some { walked walk.new ≢ 0 }
+    ensures awaits { Awaits (L.alts machine.now) walk.new next.falls result.left }
+    ensures passes { PassesOver (L.outs (L.setup machine.now)) L.stands L.alts machine.now
+        walk.old walk.new (samples_of (take from runs.now))
+        (samples_of (take result.place runs.now)) }
+{
+    if next.falls != 0 {
+        return Passed {
+            place: from,
+            left: next.left,
+        };
+    }
+    pass_timed(machine, walk, next.left, runs, from)
+}
+
 /// Takes a machine through runs while it waits for a time alone or for the fall of lines alone, over
 /// those without a stop and over stops. It ends behind a stop behind which it waits for something
 /// else, or where there may be no room for what one more gives.
@@ -214,30 +285,41 @@ pub fn walk_stops<L: LogicMachine>(
         (samples_of (take result.count runs.now)) (rest_samples result.rest) }
 {
     let mut next = first;
-    for (place, run) in runs.iter().enumerate() {
-        let left = ahead(walk, next, run.value);
-        if run.len <= left {
-            walk.pass(*run);
-            next = Next {
-                left: left - run.len,
-                ..next
+    let mut place = 0;
+    while place < runs.len() {
+        let passed = pass_before(machine, walk, next, runs, place);
+        if passed.place >= runs.len() {
+            return Strode {
+                count: runs.len(),
+                rest: None,
             };
+        }
+        let run = runs[passed.place];
+        let waits = Next {
+            left: passed.left,
+            ..next
+        };
+        let left = ahead(walk, waits, run.value);
+        if run.len <= left {
+            walk.pass(run);
+            next.left = left - run.len;
         } else {
-            if !walk.has_room(*run) {
+            if !walk.has_room(run) {
                 return Strode {
-                    count: place,
+                    count: passed.place,
                     rest: None,
                 };
             }
-            let came = stride(machine, walk, Next { left, ..next }, *run, into);
+            let came = stride(machine, walk, Next { left, ..next }, run, into);
             if came.next.ended {
                 return Strode {
-                    count: place + 1,
+                    count: passed.place + 1,
                     rest: rest_of(run.value, came.rest),
                 };
             }
             next = came.next;
         }
+        place = passed.place + 1;
     }
     Strode {
         count: runs.len(),
