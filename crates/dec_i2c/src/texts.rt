@@ -12,9 +12,9 @@ fn command(byte: u64, buf: &mut LineBuf)
     ensures short { length buf.new ≤ length buf.old + 32 }
 {
     if byte == 6 {
-        buf.push_bytes(b"reset and write address");
+        buf.push_label(b"reset and write address");
     } else if byte == 4 {
-        buf.push_bytes(b"write address");
+        buf.push_label(b"write address");
     } else if byte % 2 == 0 {
         buf.push_labelled(b"", byte, 2);
     } else {
@@ -28,7 +28,7 @@ fn general_command(byte: u64, buf: &mut LineBuf)
     ensures text { buf.new ≡ buf.old ++ (codes "General call command: " ++ command_name byte) }
     ensures short { length buf.new ≤ length buf.old + 64 }
 {
-    buf.push_bytes(b"General call command: ");
+    buf.push_label(b"General call command: ");
     command(byte, buf);
 }
 
@@ -44,16 +44,16 @@ pub fn text(note: Note, buf: &mut LineBuf)
     ensures short { length buf.new ≤ length buf.old + 64 }
 {
     match note.class {
-        0 => buf.push_bytes(b"Start"),
-        1 => buf.push_bytes(b"Start repeat"),
-        2 => buf.push_bytes(b"Stop"),
+        0 => buf.push_label(b"Start"),
+        1 => buf.push_label(b"Start repeat"),
+        2 => buf.push_label(b"Stop"),
         3 => buf.push_labelled(b"Address write: ", note.a, 2),
         4 => buf.push_labelled(b"Address read: ", note.a, 2),
         5 => buf.push_labelled(b"Data write: ", note.a, 2),
         6 => buf.push_labelled(b"Data read: ", note.a, 2),
-        7 => buf.push_bytes(b"ACK"),
-        8 => buf.push_bytes(b"NACK"),
-        9 => buf.push_bytes(b"General call"),
+        7 => buf.push_label(b"ACK"),
+        8 => buf.push_label(b"NACK"),
+        9 => buf.push_label(b"General call"),
         10 => buf.push_labelled(b"Prefix write: ", note.a, 2),
         11 => buf.push_labelled(b"Address 10-bit write: ", note.a, 4),
         12 => buf.push_labelled(b"Address 10-bit read: ", note.a, 4),

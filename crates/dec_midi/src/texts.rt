@@ -60,7 +60,7 @@ fn channel(name: &[u8], a: u64, buf: &mut LineBuf)
 {
     buf.push_bytes(name);
     short(b" channel ", a / 65536 % 16 + 1, buf);
-    buf.push_bytes(b": ");
+    buf.push_label(b": ");
 }
 
 // A channel message with one data byte, with two, and with a number of both.
@@ -105,12 +105,12 @@ fn real_time(byte: u64, buf: &mut LineBuf)
     ensures short { length buf.new ≤ length buf.old + 32 }
 {
     match byte {
-        0xF8 => buf.push_bytes(b"clock"),
-        0xFA => buf.push_bytes(b"start"),
-        0xFB => buf.push_bytes(b"continue"),
-        0xFC => buf.push_bytes(b"stop"),
-        0xFE => buf.push_bytes(b"active sensing"),
-        0xFF => buf.push_bytes(b"reset"),
+        0xF8 => buf.push_label(b"clock"),
+        0xFA => buf.push_label(b"start"),
+        0xFB => buf.push_label(b"continue"),
+        0xFC => buf.push_label(b"stop"),
+        0xFE => buf.push_label(b"active sensing"),
+        0xFF => buf.push_label(b"reset"),
         _ => buf.push_labelled(b"", byte, 2),
     }
 }
@@ -121,7 +121,7 @@ fn named_real_time(byte: u64, buf: &mut LineBuf)
     ensures text { buf.new ≡ buf.old ++ (codes "Realtime: " ++ real_time_name byte) }
     ensures short { length buf.new ≤ length buf.old + 64 }
 {
-    buf.push_bytes(b"Realtime: ");
+    buf.push_label(b"Realtime: ");
     real_time(byte, buf);
 }
 
@@ -134,7 +134,7 @@ fn counted(label: &[u8], count: u64, buf: &mut LineBuf)
     ensures short { length buf.new ≤ length buf.old + 64 }
 {
     labelled(label, count, buf);
-    buf.push_bytes(b" bytes");
+    buf.push_label(b" bytes");
 }
 
 /// Appends the text of a note, and nothing for a class that MIDI doesn't have. A channel message is
@@ -159,7 +159,7 @@ pub fn text(note: Note, buf: &mut LineBuf)
         7 => labelled(b"Quarter frame: ", one_of(note.a), buf),
         8 => labelled(b"Song position: ", wide_of(note.a), buf),
         9 => labelled(b"Song select: ", one_of(note.a), buf),
-        10 => buf.push_bytes(b"Tune request"),
+        10 => buf.push_label(b"Tune request"),
         11 => named_real_time(note.a, buf),
         12 => counted(b"System exclusive: ", note.a, buf),
         13 => counted(b"System exclusive cut: ", note.a, buf),

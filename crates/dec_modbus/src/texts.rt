@@ -13,14 +13,14 @@ fn function(code: u64, buf: &mut LineBuf)
     ensures short { length buf.new ≤ length buf.old + 32 }
 {
     match code {
-        0x01 => buf.push_bytes(b"Read coils"),
-        0x02 => buf.push_bytes(b"Read discrete inputs"),
-        0x03 => buf.push_bytes(b"Read holding registers"),
-        0x04 => buf.push_bytes(b"Read input registers"),
-        0x05 => buf.push_bytes(b"Write single coil"),
-        0x06 => buf.push_bytes(b"Write single register"),
-        0x0F => buf.push_bytes(b"Write multiple coils"),
-        0x10 => buf.push_bytes(b"Write multiple registers"),
+        0x01 => buf.push_label(b"Read coils"),
+        0x02 => buf.push_label(b"Read discrete inputs"),
+        0x03 => buf.push_label(b"Read holding registers"),
+        0x04 => buf.push_label(b"Read input registers"),
+        0x05 => buf.push_label(b"Write single coil"),
+        0x06 => buf.push_label(b"Write single register"),
+        0x0F => buf.push_label(b"Write multiple coils"),
+        0x10 => buf.push_label(b"Write multiple registers"),
         _ => buf.push_labelled(b"", code, 2),
     }
 }
@@ -32,11 +32,11 @@ fn reply(code: u64, buf: &mut LineBuf)
     ensures text { buf.new ≡ buf.old ++ (codes "Function: " ++ reply_name code) }
     ensures short { length buf.new ≤ length buf.old + 64 }
 {
-    buf.push_bytes(b"Function: ");
+    buf.push_label(b"Function: ");
     if code < 0x80 {
         function(code, buf);
     } else {
-        buf.push_bytes(b"Exception ");
+        buf.push_label(b"Exception ");
         function(code - 0x80, buf);
     }
 }

@@ -14,14 +14,14 @@ pub fn text(note: Note, buf: &mut LineBuf)
     ensures short { length buf.new ≤ length buf.old + 64 }
 {
     match note.class {
-        0 => buf.push_bytes(b"Select"),
+        0 => buf.push_label(b"Select"),
         1 => {
             buf.push_labelled(b"MOSI ", note.a, 2);
             buf.push_labelled(b" MISO ", note.b, 2);
         }
         2 => buf.push_labelled(b"MOSI ", note.a, 2),
         3 => buf.push_labelled(b"MISO ", note.b, 2),
-        4 => buf.push_bytes(b"Deselect"),
+        4 => buf.push_label(b"Deselect"),
         _ => {}
     }
 }

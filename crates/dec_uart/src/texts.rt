@@ -15,11 +15,11 @@ pub fn text(note: Note, buf: &mut LineBuf)
     ensures short { length buf.new ≤ length buf.old + 64 }
 {
     match note.class {
-        0 => buf.push_bytes(b"False start"),
+        0 => buf.push_label(b"False start"),
         1 => buf.push_hex(note.a, 2),
-        2 => buf.push_bytes(b"Parity error"),
-        3 => buf.push_bytes(b"Frame error"),
-        4 => buf.push_bytes(b"Break"),
+        2 => buf.push_label(b"Parity error"),
+        3 => buf.push_label(b"Frame error"),
+        4 => buf.push_label(b"Break"),
         _ => {}
     }
 }

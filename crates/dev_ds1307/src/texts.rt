@@ -73,9 +73,9 @@ fn push_half_of_day(hours: u64, buf: &mut LineBuf)
 {
     if bit(hours, 64) {
         if bit(hours, 32) {
-            buf.push_bytes(b" PM");
+            buf.push_label(b" PM");
         } else {
-            buf.push_bytes(b" AM");
+            buf.push_label(b" AM");
         }
     }
 }
@@ -146,20 +146,20 @@ pub fn text(note: Note, buf: &mut LineBuf)
     match note.class {
         0 => buf.push_labelled(b"Pointer: ", note.a, 2),
         1 => {
-            buf.push_bytes(b"Write ");
+            buf.push_label(b"Write ");
             push_register(note.b, note.a, buf);
         }
         2 => {
-            buf.push_bytes(b"Read ");
+            buf.push_label(b"Read ");
             push_register(note.b, note.a, buf);
         }
         3 => {
-            buf.push_bytes(b"Set time: ");
+            buf.push_label(b"Set time: ");
             push_clock(note.a, buf);
             push_date(note.a, buf);
         }
         4 => {
-            buf.push_bytes(b"Time: ");
+            buf.push_label(b"Time: ");
             push_clock(note.a, buf);
             push_date(note.a, buf);
         }

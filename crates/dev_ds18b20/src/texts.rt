@@ -17,7 +17,7 @@ fn unnamed(function: u64, buf: &mut LineBuf)
     ensures text { buf.new ≡ buf.old ++ (codes "Function " ++ hex 2 function) }
     ensures short { length buf.new ≤ length buf.old + 32 }
 {
-    buf.push_bytes(b"Function ");
+    buf.push_label(b"Function ");
     buf.push_hex(function, 2);
 }
 
@@ -28,12 +28,12 @@ fn function(byte: u64, buf: &mut LineBuf)
     ensures short { length buf.new ≤ length buf.old + 64 }
 {
     match byte {
-        0x44 => buf.push_bytes(b"Convert T"),
-        0x4E => buf.push_bytes(b"Write scratchpad"),
-        0xBE => buf.push_bytes(b"Read scratchpad"),
-        0x48 => buf.push_bytes(b"Copy scratchpad"),
-        0xB8 => buf.push_bytes(b"Recall E2"),
-        0xB4 => buf.push_bytes(b"Read power supply"),
+        0x44 => buf.push_label(b"Convert T"),
+        0x4E => buf.push_label(b"Write scratchpad"),
+        0xBE => buf.push_label(b"Read scratchpad"),
+        0x48 => buf.push_label(b"Copy scratchpad"),
+        0xB8 => buf.push_label(b"Recall E2"),
+        0xB4 => buf.push_label(b"Read power supply"),
         _ => unnamed(byte, buf),
     }
 }
@@ -61,7 +61,7 @@ fn degrees(number: u64, buf: &mut LineBuf)
     ensures short { length buf.new ≤ length buf.old + 64 }
 {
     let size = size_of(65_536, number);
-    buf.push_bytes(b"Temperature: ");
+    buf.push_label(b"Temperature: ");
     buf.push_fixed(number > 32_767, size / 16, size % 16 * 625, 4);
 }
 
@@ -73,7 +73,7 @@ fn limit(number: u64, buf: &mut LineBuf)
     ensures short { length buf.new ≤ length buf.old + 21 }
 {
     if number > 127 {
-        buf.push_bytes(b"-");
+        buf.push_label(b"-");
     }
     buf.push_number(size_of(256, number));
 }
@@ -88,7 +88,7 @@ fn limits(label: &[u8], high: u64, low: u64, buf: &mut LineBuf)
 {
     buf.push_bytes(label);
     limit(high % 256, buf);
-    buf.push_bytes(b" ");
+    buf.push_label(b" ");
     limit(low % 256, buf);
 }
 
@@ -111,9 +111,9 @@ fn crc(wrong: u64, buf: &mut LineBuf)
     ensures short { length buf.new ≤ length buf.old + 64 }
 {
     if wrong == 0 {
-        buf.push_bytes(b"CRC ok");
+        buf.push_label(b"CRC ok");
     } else {
-        buf.push_bytes(b"CRC bad");
+        buf.push_label(b"CRC bad");
     }
 }
 

@@ -14,20 +14,20 @@ fn command(byte: u64, buf: &mut LineBuf)
     ensures short { length buf.new ≤ length buf.old + 32 }
 {
     match byte {
-        0x06 => buf.push_bytes(b"Write enable"),
-        0x04 => buf.push_bytes(b"Write disable"),
-        0x9F => buf.push_bytes(b"Read ID"),
-        0x05 => buf.push_bytes(b"Read status"),
-        0x01 => buf.push_bytes(b"Write status"),
-        0x03 => buf.push_bytes(b"Read data"),
-        0x0B => buf.push_bytes(b"Fast read"),
-        0x02 => buf.push_bytes(b"Page program"),
-        0x20 => buf.push_bytes(b"Sector erase"),
-        0xD8 => buf.push_bytes(b"Block erase"),
-        0xC7 => buf.push_bytes(b"Chip erase"),
-        0x60 => buf.push_bytes(b"Chip erase"),
-        0xB9 => buf.push_bytes(b"Deep power down"),
-        0xAB => buf.push_bytes(b"Release"),
+        0x06 => buf.push_label(b"Write enable"),
+        0x04 => buf.push_label(b"Write disable"),
+        0x9F => buf.push_label(b"Read ID"),
+        0x05 => buf.push_label(b"Read status"),
+        0x01 => buf.push_label(b"Write status"),
+        0x03 => buf.push_label(b"Read data"),
+        0x0B => buf.push_label(b"Fast read"),
+        0x02 => buf.push_label(b"Page program"),
+        0x20 => buf.push_label(b"Sector erase"),
+        0xD8 => buf.push_label(b"Block erase"),
+        0xC7 => buf.push_label(b"Chip erase"),
+        0x60 => buf.push_label(b"Chip erase"),
+        0xB9 => buf.push_label(b"Deep power down"),
+        0xAB => buf.push_label(b"Release"),
         _ => buf.push_labelled(b"", byte, 2),
     }
 }
@@ -38,7 +38,7 @@ fn named_command(byte: u64, buf: &mut LineBuf)
     ensures text { buf.new ≡ buf.old ++ (codes "Command: " ++ command_name byte) }
     ensures short { length buf.new ≤ length buf.old + 64 }
 {
-    buf.push_bytes(b"Command: ");
+    buf.push_label(b"Command: ");
     command(byte, buf);
 }
 
@@ -86,7 +86,7 @@ fn named_byte(label: &[u8], at: u64, byte: u64, buf: &mut LineBuf)
     ensures text { buf.new ≡ buf.old ++ (label.now ++ at_name at byte) }
     ensures short { length buf.new ≤ length buf.old + 64 }
 {
-    buf.push_labelled(label, at, 6);
+    buf.push_numbered(label, at, 6);
     buf.push_labelled(b": ", byte, 2);
 }
 
@@ -127,7 +127,7 @@ pub fn text(note: Note, buf: &mut LineBuf)
         8 => named_count(b"Program ", note.a, note.b, buf),
         9 => buf.push_labelled(b"Erase sector at ", note.b, 6),
         10 => buf.push_labelled(b"Erase block at ", note.b, 6),
-        11 => buf.push_bytes(b"Erase chip"),
+        11 => buf.push_label(b"Erase chip"),
         _ => {}
     }
 }

@@ -105,7 +105,8 @@ impl LineBuf {
     {
         // All of its room, since a copy of a fixed length takes less time.
         let end = self.len + MOST_SHORT;
-        self.buffer[self.len..end].copy_from_slice(text.room());
+        let room = text.room();
+        self.buffer[self.len..end].copy_from_slice(&room);
         self.len += text.len();
     }
 
@@ -148,17 +149,41 @@ impl LineBuf {
         self.push_padded(&places[start..], digits);
     }
 
+    /// Appends a text of constant length.
+    #[inline(always)]
+    pub fn push_label<const N: usize>(&mut self, label: &[u8; N])
+        requires { length self.old + N ≤ 256 }
+        ensures text { self.new ≡ self.old ++ label.now }
+        ensures grows { length self.new ≡ length self.old + N }
+    {
+        // Taken by value, so that the copy needn't ask whether both are the same memory.
+        let label = *label;
+        self.push_bytes(&label);
+    }
+
     /// Appends a label, and a number in upper case hexadecimal with leading zeros up to `digits`
     /// digits, where there is room for any.
     #[tactic(auto, using(crate::proofs::Widths::hex_room))]
     #[inline(always)]
-    pub fn push_labelled(&mut self, label: &[u8], n: u64, digits: u32)
+    pub fn push_labelled<const N: usize>(&mut self, label: &[u8; N], n: u64, digits: u32)
         requires digits { (1 ≤ digits) × (digits ≤ 16) }
-        requires room { length self.old + length label.now + 16 ≤ 256 }
+        requires room { length self.old + N + 16 ≤ 256 }
         ensures text { self.new ≡ self.old ++ (label.now ++ hex digits n) }
-        ensures short { length self.new ≤ length self.old + length label.now + 16 }
+        ensures short { length self.new ≤ length self.old + N + 16 }
     {
-        self.push_bytes(label);
+        self.push_label(label);
+        self.push_hex(n, digits);
+    }
+
+    /// The same after any text.
+    #[tactic(auto, using(crate::proofs::Widths::hex_room))]
+    pub fn push_numbered(&mut self, text: &[u8], n: u64, digits: u32)
+        requires digits { (1 ≤ digits) × (digits ≤ 16) }
+        requires room { length self.old + length text.now + 16 ≤ 256 }
+        ensures text { self.new ≡ self.old ++ (text.now ++ hex digits n) }
+        ensures short { length self.new ≤ length self.old + length text.now + 16 }
+    {
+        self.push_bytes(text);
         self.push_hex(n, digits);
     }
 

@@ -79,10 +79,11 @@ impl ShortText {
     }
 
     /// The text, and behind it bytes that don't count.
-    pub(crate) fn room(&self) -> &[u8; MOST_SHORT]
-        ensures { take (length self.now) result.now ≡ self.now }
+    #[inline(always)]
+    pub(crate) fn room(&self) -> [u8; MOST_SHORT]
+        ensures { take (length self.now) result ≡ self.now }
     {
-        &self.room
+        self.room
     }
 
     /// How many bytes it has.
