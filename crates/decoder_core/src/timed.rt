@@ -231,7 +231,38 @@ fn pass_timed<L: LogicMachine>(
     Passed { place, left }
 }
 
-// Passes runs that end before a time is over, where a time alone is waited for.
+// Passes runs in which these lines don't all fall, where their fall alone is waited for, and answers
+// the place of the run that isn't passed. It has a loop of its own too.
+#[inline(always)]
+fn pass_steady<L: LogicMachine>(
+    machine: &L,
+    walk: &mut Walk,
+    falls: u64,
+    runs: &[Run],
+    from: usize,
+) -> usize
+    requires from { from ≤ length runs.now }
+    requires some { walked walk.old ≢ 0 }
+    requires falls { IsFall (L.alts machine.now) falls }
+    ensures from { from ≤ result }
+    ensures within { result ≤ length runs.now }
+    ensures some { walked walk.new ≢ 0 }
+    ensures passes { PassesOver (L.outs (L.setup machine.now)) L.stands L.alts machine.now
+        walk.old walk.new (samples_of (take from runs.now)) (samples_of (take result runs.now)) }
+{
+    let mut place = from;
+    while place < runs.len() {
+        let run = runs[place];
+        if run.len > walk.fall_left(falls, run.value) {
+            return place;
+        }
+        walk.pass(run);
+        place += 1;
+    }
+    place
+}
+
+// Passes runs before the one in which a time is over or lines fall, whichever is waited for.
 #[inline(always)]
 fn pass_before<L: LogicMachine>(
     machine: &L,
@@ -253,7 +284,7 @@ fn pass_before<L: LogicMachine>(
 {
     if next.falls != 0 {
         return Passed {
-            place: from,
+            place: pass_steady(machine, walk, next.falls, runs, from),
             left: next.left,
         };
     }
