@@ -49,6 +49,7 @@ fn give_frame(line: Line, start: u64, at: u64, word: u16, into: &mut Outs)
 }
 
 // What point i of a frame gives.
+#[inline(never)]
 fn give_point(line: Line, start: u64, i: u64, word: u16, at: u64, level: bool, into: &mut Outs)
     requires room { length into.old ≤ 16 }
     requires early { i ≤ 12 }
@@ -62,6 +63,7 @@ fn give_point(line: Line, start: u64, i: u64, word: u16, at: u64, level: bool, i
 }
 
 // A break, where the line was low for long enough.
+#[inline(never)]
 fn give_break(line: Line, start: u64, at: u64, into: &mut Outs)
     requires { length into.old ≤ 16 }
     ensures { into.new ≡ into.old ++ break_outs line.opts line.rate start at }
@@ -72,7 +74,8 @@ fn give_break(line: Line, start: u64, at: u64, into: &mut Outs)
     }
 }
 
-/// Puts out what a stop gives.
+/// Puts out what a stop gives. Inlined, since most stops give nothing.
+#[inline(always)]
 pub fn give(line: Line, held: Held, at: u64, level: bool, into: &mut Outs)
     requires { length into.old ≤ 16 }
     ensures { into.new ≡ into.old ++ stop_outs line.opts line.rate held at level }
