@@ -43,8 +43,8 @@ impl NoteLine {
     }
 
     // Makes it the line of a note, where its instance has this number among those of its kind.
-    fn put(&mut self, kind: Kind, number: u32, note: Note)
-        ensures { self.new ≡ line_as kind number note }
+    fn put(&mut self, kind: Kind, number: u32, note: &Note)
+        ensures { self.new ≡ line_as kind number note.now }
     {
         self.start.set(note.start);
         self.end.set(note.end);
@@ -54,7 +54,7 @@ impl NoteLine {
         push_text(line, "-");
         line.push_short(self.end.text());
         self.names.push(kind, number, line);
-        note_text(kind, note, line);
+        note_text(kind, *note, line);
         push_text(line, "\n");
     }
 
@@ -65,12 +65,12 @@ impl NoteLine {
         sink: &mut K,
         kind: Kind,
         number: u32,
-        note: Note,
+        note: &Note,
     ) -> Result<(), Failed>
         ensures whole { OnOk result
-            (Appends (K.written sink.old) (K.written sink.new) (line_as kind number note)) }
+            (Appends (K.written sink.old) (K.written sink.new) (line_as kind number note.now)) }
         ensures front { AppendsFront (K.written sink.old) (K.written sink.new)
-            (line_as kind number note) }
+            (line_as kind number note.now) }
         ensures cause { HasCause (K.faults sink.old) (K.faults sink.new) result }
         ensures goes_on { K.goes_on sink.old sink.new }
     {
@@ -90,5 +90,5 @@ pub fn write_note<K: Sink>(sink: &mut K, kind: Kind, number: u32, note: Note) ->
     ensures goes_on { K.goes_on sink.old sink.new }
 {
     let mut line = NoteLine::new();
-    line.write(sink, kind, number, note)
+    line.write(sink, kind, number, &note)
 }

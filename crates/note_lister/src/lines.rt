@@ -41,7 +41,7 @@ fn write_line<K: Sink>(
         sink,
         stack.kind(entry.instance),
         stack.number(entry.instance),
-        entry.note,
+        &entry.note,
     )
 }
 
