@@ -18,6 +18,7 @@ use Rattle.stage_run.specs.declared.input.Input.TheVariants.{Packets}
 use Rattle.stage_run.specs.declared.input.Stretch.{Stretch}
 use Rattle.stack_threads.specs.Trees.{Reads, Serves, Wired, children_in, is_root, links_down, on_place, place_of}
 use Rattle.stack_threads.specs.Wires.{AreNew, AreWide, AreWired, Grows, Joins, all_links, ends_links, feeds_with, stages_with, with_child}
+use Rattle.stack_threads.specs.declared.rooms.Rooms.{Rooms}
 use Rattle.stack_threads.specs.declared.wiring.StageEnds.{StageEnds}
 use Rattle.stack_threads.specs.declared.wiring.Wires.{Wires}
 
@@ -237,8 +238,8 @@ module _ (ps : List (Option ℕ)) (x : Option ℕ) (forest : IsForest (ps ++ x �
 pub forest_front : (parents : List (Option ℕ)) (n : ℕ) → IsForest parents → IsForest (take n parents)
 forest_front parents n forest = λ j p at. forest j p (get_take n parents j (Some p) at)
 
-pub wired_next : (wide : ℕ) (ps : List (Option ℕ)) (x : Option ℕ) (old new : Wires) → IsForest (ps ++ x ∷ []) → AreWired wide ps old → Grows wide x old new → AreWired wide (ps ++ x ∷ []) new
-wired_next wide ps x old new forest are grows =
+pub wired_next : (rooms : Rooms) (ps : List (Option ℕ)) (x : Option ℕ) (old new : Wires) → IsForest (ps ++ x ∷ []) → AreWired rooms ps old → Grows rooms x old new → AreWired rooms (ps ++ x ∷ []) new
+wired_next rooms ps x old new forest are grows =
     let n = are.gathers in
     let w = wired_on ps x forest (all_links old) (map tx_link old.feeds.items) (map rx_link old.marks.items) are.wired are.serves are.roots n grows.input grows.marks in
     let s = serves_on ps x forest (all_links old) (map tx_link old.feeds.items) (map rx_link old.marks.items) are.wired are.serves are.roots n grows.input grows.marks in
@@ -263,9 +264,9 @@ child_joined (e ∷ ends) zero d new link low is = ap (λ l. l ∷ map ends_link
 child_joined (e ∷ ends) (suc p) d new link low is = ap (λ l. ends_links e ∷ l) (child_joined ends p d new link (omega (arith, low)) is)
 
 -- an input that is linked to its parent
-pub joined_child : (parent : Option ℕ) (p wide : ℕ) (tx : Tx Feed) (rx : Rx Feed) (ends : List StageEnds) (old new : StageEnds) (feeds : List (Tx Stretch)) → parent ≡ Some p → p < length ends → old ≡ get_or ends p old
-    → new.input ≡ old.input → new.marks ≡ old.marks → new.children.items ≡ old.children.items ++ tx ∷ [] → Opens wide tx rx → Joins wide parent (Packets rx) ends (set ends p new) feeds feeds
-joined_child parent p wide tx rx ends old new feeds is low there input marks children opens = record {
+pub joined_child : (parent : Option ℕ) (p : ℕ) (rooms : Rooms) (tx : Tx Feed) (rx : Rx Feed) (ends : List StageEnds) (old new : StageEnds) (feeds : List (Tx Stretch)) → parent ≡ Some p → p < length ends → old ≡ get_or ends p old
+    → new.input ≡ old.input → new.marks ≡ old.marks → new.children.items ≡ old.children.items ++ tx ∷ [] → Opens rooms.others tx rx → Joins rooms parent (Packets rx) ends (set ends p new) feeds feeds
+joined_child parent p rooms tx rx ends old new feeds is low there input marks children opens = record {
   samples = ap is_root (sym is);
   none = ap length opens.received_none;
   stages = child_joined ends p old new (rx_link rx) low (links_new ∙ ap (λ (e : StageEnds). record (ends_links e) { children = (ends_links e).children ++ rx_link rx ∷ [] }) there) ∙ ap (λ (o : Option ℕ). stages_with o (rx_link rx) (map ends_links ends)) (sym is);
@@ -279,9 +280,9 @@ joined_child parent p wide tx rx ends old new feeds is low there input marks chi
       }) news;
   still_feeds = λ news. news;
   wide_ends = λ wides.
-      let was : AreWide wide old = subst (AreWide wide) (sym there) (wides p old low) in
-      All-set (AreWide wide) ends p new (record {
-        children = All-same (λ child. slots child ≡ wide) new.children.items (old.children.items ++ tx ∷ []) children (All-push (λ child. slots child ≡ wide) old.children.items tx was.children opens.room);
+      let was : AreWide rooms old = subst (AreWide rooms) (sym there) (wides p old low) in
+      All-set (AreWide rooms) ends p new (record {
+        children = All-same (λ child. slots child ≡ rooms.others) new.children.items (old.children.items ++ tx ∷ []) children (All-push (λ child. slots child ≡ rooms.others) old.children.items tx was.children opens.room);
         marks = ap slots marks ∙ was.marks;
       }) wides;
   wide_feeds = λ wides. wides;
@@ -296,9 +297,9 @@ joined_child parent p wide tx rx ends old new feeds is low there input marks chi
     }
 
 -- the links of one more instance
-pub grown : (parent : Option ℕ) (wide : ℕ) (old new : Wires) (mid : List StageEnds) (e : StageEnds) (rx : Rx Mark) → Joins wide parent e.input old.ends.items mid old.feeds.items new.feeds.items → new.ends.items ≡ mid ++ e ∷ []
-    → new.marks.items ≡ old.marks.items ++ rx ∷ [] → e.children.items ≡ [] → Opens wide e.marks rx → Grows wide parent old new
-grown parent wide old new mid e rx joins ends marks none opens = record {
+pub grown : (parent : Option ℕ) (rooms : Rooms) (old new : Wires) (mid : List StageEnds) (e : StageEnds) (rx : Rx Mark) → Joins rooms parent e.input old.ends.items mid old.feeds.items new.feeds.items → new.ends.items ≡ mid ++ e ∷ []
+    → new.marks.items ≡ old.marks.items ++ rx ∷ [] → e.children.items ≡ [] → Opens rooms.others e.marks rx → Grows rooms parent old new
+grown parent rooms old new mid e rx joins ends marks none opens = record {
   input = input_link e.input;
   marks = rx_link rx;
   stages = ap (map ends_links) ends ∙ map-append ends_links mid (e ∷ []) ∙ (λ i. joins.stages i ++ links_new i ∷ []);
@@ -314,8 +315,8 @@ grown parent wide old new mid e rx joins ends marks none opens = record {
     marks = All-same (λ mark. received mark ≡ []) new.marks.items (old.marks.items ++ rx ∷ []) marks (All-push (λ mark. received mark ≡ []) old.marks.items rx was.marks opens.received_none);
   };
   still_wide = λ was. record {
-    ends = All-same (AreWide wide) new.ends.items (mid ++ e ∷ []) ends (All-push (AreWide wide) mid e (joins.wide_ends was.ends) (record {
-      children = All-same (λ child. slots child ≡ wide) e.children.items [] none (All-nil (λ child. slots child ≡ wide));
+    ends = All-same (AreWide rooms) new.ends.items (mid ++ e ∷ []) ends (All-push (AreWide rooms) mid e (joins.wide_ends was.ends) (record {
+      children = All-same (λ child. slots child ≡ rooms.others) e.children.items [] none (All-nil (λ child. slots child ≡ rooms.others));
       marks = opens.room;
     }));
     feeds = joins.wide_feeds was.feeds;

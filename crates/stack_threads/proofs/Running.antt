@@ -38,6 +38,7 @@ use Rattle.stack_threads.specs.Ties.{Alike, Given, Sent, SameEnds, Tied, given_b
 use Rattle.stack_threads.specs.Trees.{Wired, children_in, on_place, place_of}
 use Rattle.stack_threads.specs.Wires.{AreWired, all_links, ends_links}
 use Rattle.stack_threads.specs.declared.wiring.StageEnds.{StageEnds}
+use Rattle.stack_threads.specs.declared.rooms.Rooms.{Rooms}
 use Rattle.stack_threads.specs.declared.wiring.Wires.{Wires}
 use Rattle.stack_threads.proofs.Opening.{zip_at}
 use Rattle.stack_threads.proofs.Settling.{MadeOf, blank_keeps, tells_run}
@@ -140,7 +141,7 @@ module _ {M S : Type 0} (m : MachineGhosts M S) where
           );
     }
 
-    module _ (parents : List (Option ℕ)) (forest : IsForest parents) (each : length machines ≡ length parents) (wide : ℕ) (wired : AreWired wide parents wires)
+    module _ (parents : List (Option ℕ)) (forest : IsForest parents) (each : length machines ≡ length parents) (rooms : Rooms) (wired : AreWired rooms parents wires)
         (parts : List (Parts M)) (alike : AllZip Alike parted parts)
         (feeds : List (Tx Stretch)) (same_feeds : map tx_link feeds ≡ map tx_link wires.feeds.items)
         (marks : List (Rx Mark)) (same_marks : map rx_link marks ≡ map rx_link wires.marks.items)
@@ -203,9 +204,9 @@ module _ {M S : Type 0} (m : MachineGhosts M S) where
       }
 
 -- the parts are wired as the links were made
-pub wired_parts : {M : Type 0} (wide : ℕ) (parents : List (Option ℕ)) (wires : Wires) (parted now : List (Parts M)) (feeds_ran feeds : List (Tx Stretch)) (marks_ran marks : List (Rx Mark)) → AreWired wide parents wires → map parts_links parted ≡ all_links wires → now ≡ parted
+pub wired_parts : {M : Type 0} (rooms : Rooms) (parents : List (Option ℕ)) (wires : Wires) (parted now : List (Parts M)) (feeds_ran feeds : List (Tx Stretch)) (marks_ran marks : List (Rx Mark)) → AreWired rooms parents wires → map parts_links parted ≡ all_links wires → now ≡ parted
     → feeds ≡ feeds_ran → map tx_link feeds_ran ≡ map tx_link wires.feeds.items → marks ≡ marks_ran → map rx_link marks_ran ≡ map rx_link wires.marks.items → Wired parents (map parts_links now) (map tx_link feeds) (map rx_link marks)
-wired_parts wide parents wires parted now feeds_ran feeds marks_ran marks wired all is_now is_feeds same_feeds is_marks same_marks = wired_same (ap (map parts_links) is_now ∙ all) (ap (map tx_link) is_feeds ∙ same_feeds) (ap (map rx_link) is_marks ∙ same_marks) wired.wired
+wired_parts rooms parents wires parted now feeds_ran feeds marks_ran marks wired all is_now is_feeds same_feeds is_marks same_marks = wired_same (ap (map parts_links) is_now ∙ all) (ap (map tx_link) is_feeds ∙ same_feeds) (ap (map rx_link) is_marks ∙ same_marks) wired.wired
 
 -- a driver did the same on the same ends
 pub drove_same : {gave_old gave_new : List (List Run) → Type 0} {took_old took_new : (ℕ → List Mark) → Type 0} {at_end : Bool} {result : RunEnd} {s0 s1 : List (List Stretch)} {m0 m1 : List (List Mark)}

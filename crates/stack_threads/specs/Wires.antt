@@ -9,6 +9,7 @@ use Rattle.stage_run.specs.Stages.{Links}
 use Rattle.stage_run.specs.declared.input.Input.{Input}
 use Rattle.stage_run.specs.declared.input.Stretch.{Stretch}
 use Rattle.stack_threads.specs.Trees.{Serves, Wired, is_root, on_place}
+use Rattle.stack_threads.specs.declared.rooms.Rooms.{Rooms}
 use Rattle.stack_threads.specs.declared.wiring.StageEnds.{StageEnds}
 use Rattle.stack_threads.specs.declared.wiring.Wires.{Wires}
 
@@ -29,10 +30,10 @@ pub record AreNew (e : StageEnds) : Type 0 where
   pub children : All (λ child. sent child ≡ []) e.children.items
   pub marks : sent e.marks ≡ []
 
--- each end that it sends on has so many slots
-pub record AreWide (wide : ℕ) (e : StageEnds) : Type 0 where
-  pub children : All (λ child. slots child ≡ wide) e.children.items
-  pub marks : slots e.marks ≡ wide
+-- each end that it sends on has this room
+pub record AreWide (rooms : Rooms) (e : StageEnds) : Type 0 where
+  pub children : All (λ child. slots child ≡ rooms.others) e.children.items
+  pub marks : slots e.marks ≡ rooms.others
 
 -- the links of stages, where the one at a place has one more to a child
 abbrev pub with_child : ℕ → Link → List Links → List Links
@@ -49,8 +50,8 @@ abbrev pub feeds_with : Option ℕ → Link → List Link → List Link
 feeds_with None link feeds = feeds ++ link ∷ []
 feeds_with (Some parent) link feeds = feeds
 
--- a new input was linked, by so many slots, to what feeds those that stand on a place
-pub record Joins (wide : ℕ) (parent : Option ℕ) (input : Input) (ends_old ends_new : List StageEnds)
+-- a new input was linked to what feeds those that stand on a place
+pub record Joins (rooms : Rooms) (parent : Option ℕ) (input : Input) (ends_old ends_new : List StageEnds)
     (feeds_old feeds_new : List (Tx Stretch)) : Type 0 where
   pub samples : reads_samples input ≡ is_root parent
   pub none : taken input ≡ 0
@@ -60,9 +61,9 @@ pub record Joins (wide : ℕ) (parent : Option ℕ) (input : Input) (ends_old en
   pub still_ends : All AreNew ends_old → All AreNew ends_new
   pub still_feeds : All (λ feed. sent feed ≡ []) feeds_old
       → All (λ feed. sent feed ≡ []) feeds_new
-  pub wide_ends : All (AreWide wide) ends_old → All (AreWide wide) ends_new
-  pub wide_feeds : All (λ feed. slots feed ≡ wide) feeds_old
-      → All (λ feed. slots feed ≡ wide) feeds_new
+  pub wide_ends : All (AreWide rooms) ends_old → All (AreWide rooms) ends_new
+  pub wide_feeds : All (λ feed. slots feed ≡ rooms.stretches) feeds_old
+      → All (λ feed. slots feed ≡ rooms.stretches) feeds_new
 
 -- nothing was received or sent on any link
 pub record AllNew (wires : Wires) : Type 0 where
@@ -70,13 +71,13 @@ pub record AllNew (wires : Wires) : Type 0 where
   pub feeds : All (λ feed. sent feed ≡ []) wires.feeds.items
   pub marks : All (λ mark. received mark ≡ []) wires.marks.items
 
--- every link has so many slots
-pub record AllWide (wide : ℕ) (wires : Wires) : Type 0 where
-  pub ends : All (AreWide wide) wires.ends.items
-  pub feeds : All (λ feed. slots feed ≡ wide) wires.feeds.items
+-- every link has its room
+pub record AllWide (rooms : Rooms) (wires : Wires) : Type 0 where
+  pub ends : All (AreWide rooms) wires.ends.items
+  pub feeds : All (λ feed. slots feed ≡ rooms.stretches) wires.feeds.items
 
 -- the links of one more instance, which stands on a place
-pub record Grows (wide : ℕ) (parent : Option ℕ) (old new : Wires) : Type 0 where
+pub record Grows (rooms : Rooms) (parent : Option ℕ) (old new : Wires) : Type 0 where
   pub input : Link
   pub marks : Link
   pub stages : all_links new ≡ stages_with parent input (all_links old)
@@ -84,14 +85,14 @@ pub record Grows (wide : ℕ) (parent : Option ℕ) (old new : Wires) : Type 0 w
   pub feeds : map tx_link new.feeds.items ≡ feeds_with parent input (map tx_link old.feeds.items)
   pub gathers : map rx_link new.marks.items ≡ map rx_link old.marks.items ++ marks ∷ []
   pub still_new : AllNew old → AllNew new
-  pub still_wide : AllWide wide old → AllWide wide new
+  pub still_wide : AllWide rooms old → AllWide rooms new
 
--- new links of a tree, each of so many slots
-pub record AreWired (wide : ℕ) (parents : List (Option ℕ)) (wires : Wires) : Type 0 where
+-- new links of a tree
+pub record AreWired (rooms : Rooms) (parents : List (Option ℕ)) (wires : Wires) : Type 0 where
   pub wired : Wired parents (all_links wires) (map tx_link wires.feeds.items)
       (map rx_link wires.marks.items)
   pub serves : Serves parents (all_links wires)
   pub roots : length (map tx_link wires.feeds.items) ≡ on_place None parents
   pub gathers : length (map rx_link wires.marks.items) ≡ length parents
   pub none : AllNew wires
-  pub slots : AllWide wide wires
+  pub slots : AllWide rooms wires

@@ -2,6 +2,7 @@
 #![tactic(auto)]
 
 mod laws;
+mod rooms;
 mod run;
 mod settle;
 mod stages;

@@ -8,6 +8,7 @@ ghost use Rattle.tree_runs.specs.Runs.{is_ended};
 ghost use Rattle.tree_runs.specs.Taking.{IsTree};
 ghost use Rattle.stack_threads.specs.Runs.{RunsBy};
 
+use crate::rooms::rooms_of;
 use crate::settle::settle_tree;
 use crate::stages::{open_all, take_apart};
 use crate::wiring::{Wires, wire};
@@ -25,14 +26,6 @@ fn keeps_front<M: Machine>()
     ensures { (machine : M) → KeepsFront (M.outputs (M.setup machine)) }
 {}
 
-// The room of a link: one item in its first slot and 24 in each other, up to the most that a link has.
-fn room_of(slots: u32) -> u32
-    requires { (1 ≤ slots) × (slots ≤ 16384) }
-    ensures { (1 ≤ result) × (result ≤ 16384) }
-{
-    (1 + (slots - 1) * 24).min(16384)
-}
-
 /// Runs a tree of decoders, each in a thread of its own, with links between them. Each run of the
 /// feed is sent to the machines that stand on nothing, and each packet to those that stand on the
 /// machine that put it out; notes and pieces are taken as marks, with a floor behind each batch of
@@ -40,8 +33,9 @@ fn room_of(slots: u32) -> u32
 /// instance are taken in their order, those of several as they come.
 ///
 /// `parents` tells of each machine on which one it stands. `slots` is 1 to 16,384: each link has
-/// room for one item in its first slot and for 24 in each other, but for no more than 16,384.
-/// `pacer` tells how much a machine does in a turn.
+/// room for one item in its first slot, and in each other for 24 where runs are sent on it and for
+/// 8 where packets or marks are, but for no more than 16,384. `pacer` tells how much a machine
+/// does in a turn.
 ///
 /// The machines may already stand for samples: what is taken is what follows. A packet that doesn't
 /// count for a machine is passed over by it. `Stopped` is answered where `take` stopped, at the
@@ -82,7 +76,7 @@ pub fn run_stages<
     machines_are_a_tree(&machines, parents);
     machines_tell_their_inputs(&machines, parents);
     let count = machines.len();
-    let Wires { ends, feeds, marks } = wire(alloc, room_of(slots), parents)?;
+    let Wires { ends, feeds, marks } = wire(alloc, rooms_of(slots), parents)?;
     let mut stages = Vec::with_capacity(alloc, count)?;
     let mut parts = Vec::with_capacity(alloc, count)?;
     open_all(machines, ends, &mut stages);

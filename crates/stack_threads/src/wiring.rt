@@ -1,8 +1,9 @@
 // The links of a tree, made before anything else is done.
-ghost use Rattle.std.specs.Prelude.{◌≡◌, ◌≤◌, ◌<◌, IfOk, IfSome, vec_len};
+ghost use Rattle.std.specs.Prelude.{◌≡◌, ◌<◌, IfOk, IfSome, vec_len};
 ghost use Rattle.tree_runs.specs.Passing.{IsForest};
 ghost use Rattle.stack_threads.specs.Wires.{AreWired, Grows, Joins};
 
+use crate::rooms::Rooms;
 use la_base::{Feed, Mark, NoMemory};
 use stage_ring::{Rx, Tx, link};
 use stage_run::{Input, Stretch};
@@ -28,24 +29,23 @@ pub(crate) struct Wires {
 // Makes the link of a new input, and hands its other end to the driver or to the parent.
 fn join(
     alloc: Global,
-    slots: u32,
+    rooms: Rooms,
     parent: Option<u32>,
     ends: &mut Vec<StageEnds>,
     feeds: &mut Vec<Tx<Stretch>>,
 ) -> Result<Input, NoMemory>
-    requires slots { (1 ≤ slots) × (slots ≤ 16384) }
     requires within { IfSome parent (λ p. p < vec_len ends.old) }
-    ensures { IfOk result (λ input. Joins slots parent input ends.old.items ends.new.items
+    ensures { IfOk result (λ input. Joins rooms parent input ends.old.items ends.new.items
         feeds.old.items feeds.new.items) }
 {
     match parent {
         None => {
-            let (sends, receives) = link(alloc, slots)?;
+            let (sends, receives) = link(alloc, rooms.stretches)?;
             feeds.push(sends)?;
             Ok(Input::Samples(receives))
         }
         Some(parent) => {
-            let (sends, receives) = link(alloc, slots)?;
+            let (sends, receives) = link(alloc, rooms.others)?;
             ends[parent as usize].children.push(sends)?;
             Ok(Input::Packets(receives))
         }
@@ -53,13 +53,12 @@ fn join(
 }
 
 // Makes the links of one more instance.
-fn add(alloc: Global, slots: u32, parent: Option<u32>, wires: &mut Wires) -> Result<(), NoMemory>
-    requires slots { (1 ≤ slots) × (slots ≤ 16384) }
+fn add(alloc: Global, rooms: Rooms, parent: Option<u32>, wires: &mut Wires) -> Result<(), NoMemory>
     requires within { IfSome parent (λ p. p < vec_len wires.old.ends) }
-    ensures { IfOk result (λ _. Grows slots parent wires.old wires.new) }
+    ensures { IfOk result (λ _. Grows rooms parent wires.old wires.new) }
 {
-    let (sends, receives) = link(alloc, slots)?;
-    let input = join(alloc, slots, parent, &mut wires.ends, &mut wires.feeds)?;
+    let (sends, receives) = link(alloc, rooms.others)?;
+    let input = join(alloc, rooms, parent, &mut wires.ends, &mut wires.feeds)?;
     wires.ends.push(StageEnds {
         input,
         children: Vec::new(alloc),
@@ -69,11 +68,10 @@ fn add(alloc: Global, slots: u32, parent: Option<u32>, wires: &mut Wires) -> Res
     Ok(())
 }
 
-/// Makes the links of a tree, each of so many slots. After `NoMemory` none are left.
-pub(crate) fn wire(alloc: Global, slots: u32, parents: &[Option<u32>]) -> Result<Wires, NoMemory>
-    requires slots { (1 ≤ slots) × (slots ≤ 16384) }
+/// Makes the links of a tree, of these rooms. After `NoMemory` none are left.
+pub(crate) fn wire(alloc: Global, rooms: Rooms, parents: &[Option<u32>]) -> Result<Wires, NoMemory>
     requires forest { IsForest parents.now }
-    ensures { IfOk result (λ wires. AreWired slots parents.now wires) }
+    ensures { IfOk result (λ wires. AreWired rooms parents.now wires) }
 {
     let mut wires = Wires {
         ends: Vec::new(alloc),
@@ -81,7 +79,7 @@ pub(crate) fn wire(alloc: Global, slots: u32, parents: &[Option<u32>]) -> Result
         marks: Vec::new(alloc),
     };
     for parent in parents {
-        add(alloc, slots, *parent, &mut wires)?;
+        add(alloc, rooms, *parent, &mut wires)?;
     }
     Ok(wires)
 }

@@ -52,7 +52,7 @@ settle_tree-requires-clause-wired g c =
     let parted = c.take_apart.ensures.parts in
     let parts : c.deref_mut.result.now ≡ parted.0 = c.deref_mut.ensures.value ∙ made_all c.in_ok-parts.parts.items c.take_apart.new.parts.items parted.0 parted.1 c.in_ok-parts.ensures.items in
     let all = parted_links m c.keeps_front.ensures c.args.machines.items c.in_ok-ends.field-0 opened.0 ran.stages.items parted.0 opened.2 opened.3 (subst (λ (l : List (Stage _)). Each (RanOut m) l ran.stages.items) stages goes.stages) parted.2 in
-    wired_parts c.room_of.result c.args.parents.now c.in_ok-ends.field-0 parted.0 c.deref_mut.result.now ran.feeds.items c.deref_mut-2.result.now ran.marks.items c.deref_mut-3.result.now c.in_ok-ends.ensures all parts c.deref_mut-2.ensures.value goes.links.0 c.deref_mut-3.ensures.value goes.links.1
+    wired_parts c.rooms_of.result c.args.parents.now c.in_ok-ends.field-0 parted.0 c.deref_mut.result.now ran.feeds.items c.deref_mut-2.result.now ran.marks.items c.deref_mut-3.result.now c.in_ok-ends.ensures all parts c.deref_mut-2.ensures.value goes.links.0 c.deref_mut-3.ensures.value goes.links.1
 
 pub returns-clause-runs : goal.returns-clause-runs
 returns-clause-runs g c =
@@ -68,7 +68,7 @@ returns-clause-runs g c =
     let ends = c.settle_tree.ensures.ends in
     runs_by m c.keeps_front.ensures c.args.machines.items c.in_ok-ends.field-0 opened.0 ran.stages.items parted.0 opened.2 opened.3
     (subst (λ (l : List (Stage _)). Each (RanOut m) l ran.stages.items) stages goes.stages) parted.2
-    c.args.parents.now c.requires.tree.forest (omega (arith, c.args.machines.ok.0, c.requires.tree.each)) c.room_of.result c.in_ok-ends.ensures c.settle_tree.new.parts
+    c.args.parents.now c.requires.tree.forest (omega (arith, c.args.machines.ok.0, c.requires.tree.each)) c.rooms_of.result c.in_ok-ends.ensures c.settle_tree.new.parts
     (subst (λ (l : List (Parts _)). AllZip Alike l c.settle_tree.new.parts) parts c.settle_tree.ensures.parts)
     c.settle_tree.new.feeds (ends.feeds.1 ∙ ap (map tx_link) c.deref_mut-2.ensures.value ∙ goes.links.0)
     c.settle_tree.new.marks (ends.marks.1 ∙ ap (map rx_link) c.deref_mut-3.ensures.value ∙ goes.links.1)

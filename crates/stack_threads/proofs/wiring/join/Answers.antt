@@ -8,4 +8,4 @@ returns-in_ok-push-in-Some c =
     let ends = c.args.ends.now in
     let within : p < vec_len ends = subst (λ (o : Option ℕ). IfSome o (λ q. q < vec_len ends)) c.in-Some.is c.requires.within in
     let low : p < length ends.items = omega (arith, within, ends.ok.0) in
-    joined_child c.args.parent p c.args.slots c.in_ok-sends-in-Some.sends c.in_ok-sends-in-Some.receives ends.items c.index_mut.result.now _ c.args.feeds.now.items c.in-Some.is low c.index_mut.ensures.value refl refl c.in_ok-push-in-Some.ensures.items c.in_ok-sends-in-Some.ensures
+    joined_child c.args.parent p c.args.rooms c.in_ok-sends-in-Some.sends c.in_ok-sends-in-Some.receives ends.items c.index_mut.result.now _ c.args.feeds.now.items c.in-Some.is low c.index_mut.ensures.value refl refl c.in_ok-push-in-Some.ensures.items c.in_ok-sends-in-Some.ensures

@@ -11,5 +11,5 @@ loop-parent-preserved c =
     let i = c.loop-parent.parent-index in
     let parent = get_or ps i None in
     let more = take_more ps i None c.loop-parent-test.true in
-    subst (λ (l : List (Option ℕ)). AreWired c.args.slots l c.add.new.wires) (sym more)
-    (wired_next c.args.slots (take i ps) parent c.loop-parent.wires c.add.new.wires (subst IsForest more (forest_front ps (i + 1) c.requires.forest)) c.loop-parent.invariant c.in_ok-add.ensures)
+    subst (λ (l : List (Option ℕ)). AreWired c.args.rooms l c.add.new.wires) (sym more)
+    (wired_next c.args.rooms (take i ps) parent c.loop-parent.wires c.add.new.wires (subst IsForest more (forest_front ps (i + 1) c.requires.forest)) c.loop-parent.invariant c.in_ok-add.ensures)

@@ -3,4 +3,4 @@ use Rattle.stack_threads.specs.Wires.{AreWired}
 use Rattle.stack_threads.proofs.wiring.wire.Given as goal
 
 abbrev pub invariant-loop-parent : goal.invariant-loop-parent
-invariant-loop-parent l = AreWired l.slots (take l.parent-index l.parents) l.wires
+invariant-loop-parent l = AreWired l.rooms (take l.parent-index l.parents) l.wires
