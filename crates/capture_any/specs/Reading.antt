@@ -82,6 +82,13 @@ names_of capture = names_in capture.reader
 abbrev pub rate_of : Capture → Rate
 rate_of capture = rate_in capture.reader
 
+-- what a capture was opened as and selected for stays
+pub record SameSetup (old new : Capture) : Type 0 where
+  pub form : form_of new ≡ form_of old
+  pub pins : pins_of new ≡ pins_of old
+  pub names : names_of new ≡ names_of old
+  pub rate : rate_of new ≡ rate_of old
+
 -- whether there may be more to come
 abbrev pub is_open_of : Capture → Bool
 is_open_of capture = open_in capture.reader

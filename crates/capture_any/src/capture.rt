@@ -28,8 +28,8 @@ impl Capture {
     ghost use Rattle.capture_any.specs.Taking.{GaveHeld, Gives, open_behind};
     ghost use Rattle.la_io.specs.Capture.{Told};
     ghost use Rattle.capture_any.specs.Captures.{IsForm, HasNoHead, TakesNoMemory};
-    ghost use Rattle.capture_any.specs.Reading.{Stands, Next, Opens, form_of, pins_of, names_of};
-    ghost use Rattle.capture_any.specs.Reading.{rate_of, is_open_of, given_by};
+    ghost use Rattle.capture_any.specs.Reading.{Stands, Next, Opens, SameSetup, form_of, pins_of};
+    ghost use Rattle.capture_any.specs.Reading.{names_of, rate_of, is_open_of, given_by};
     ghost use Rattle.la_io.specs.Reading.{CaptureCause, run_samples, stays_open};
 
     /// Opens a capture of this form: reads its head; nothing is read where the form's head takes no
@@ -140,10 +140,7 @@ impl Capture {
         requires { is_open_of self.old ≡ true }
         ensures next { Next self.old self.new (S.left source.old) (S.left source.new) result }
         ensures is_open { is_open_of self.new ≡ stays_open result }
-        ensures form { form_of self.new ≡ form_of self.old }
-        ensures pins { pins_of self.new ≡ pins_of self.old }
-        ensures names { names_of self.new ≡ names_of self.old }
-        ensures rate { rate_of self.new ≡ rate_of self.old }
+        ensures setup { SameSetup self.old self.new }
         ensures progress { IfOk result
             (λ step. IfSome step (λ run. given_by self.old + run.len ≤ given_by self.new)) }
         ensures few { given_by self.new ≤ 2 ^ 60 }
@@ -162,10 +159,7 @@ impl Capture {
     pub fn held_run(&mut self) -> Option<Run>
         ensures gave { GaveHeld self.old self.new (run_samples result) }
         ensures is_open { is_open_of self.new ≡ is_open_of self.old }
-        ensures form { form_of self.new ≡ form_of self.old }
-        ensures pins { pins_of self.new ≡ pins_of self.old }
-        ensures names { names_of self.new ≡ names_of self.old }
-        ensures rate { rate_of self.new ≡ rate_of self.old }
+        ensures setup { SameSetup self.old self.new }
         ensures progress { given_by self.old + length (run_samples result) ≤ given_by self.new }
         ensures few { given_by self.old ≤ 2 ^ 60 → given_by self.new ≤ 2 ^ 60 }
         ensures some { IsSome result → given_by self.new ≤ 2 ^ 60 }
@@ -185,10 +179,7 @@ impl Capture {
     fn held_other(&mut self) -> Option<Run>
         ensures gave { GaveHeld self.old self.new (run_samples result) }
         ensures is_open { is_open_of self.new ≡ is_open_of self.old }
-        ensures form { form_of self.new ≡ form_of self.old }
-        ensures pins { pins_of self.new ≡ pins_of self.old }
-        ensures names { names_of self.new ≡ names_of self.old }
-        ensures rate { rate_of self.new ≡ rate_of self.old }
+        ensures setup { SameSetup self.old self.new }
         ensures progress { given_by self.old + length (run_samples result) ≤ given_by self.new }
         ensures few { given_by self.old ≤ 2 ^ 60 → given_by self.new ≤ 2 ^ 60 }
         ensures some { IsSome result → given_by self.new ≤ 2 ^ 60 }
@@ -206,10 +197,7 @@ impl Capture {
             × GaveHeld self.old self.new (samples_of new)
             × (given_by self.old + length (samples_of new) ≤ given_by self.new) }
         ensures is_open { is_open_of self.new ≡ is_open_of self.old }
-        ensures form { form_of self.new ≡ form_of self.old }
-        ensures pins { pins_of self.new ≡ pins_of self.old }
-        ensures names { names_of self.new ≡ names_of self.old }
-        ensures rate { rate_of self.new ≡ rate_of self.old }
+        ensures setup { SameSetup self.old self.new }
         ensures few { given_by self.old ≤ 2 ^ 60 → given_by self.new ≤ 2 ^ 60 }
     {
         match &mut self.reader {
@@ -225,10 +213,7 @@ impl Capture {
         ensures gave { GaveHeld self.old self.new (samples_of into.new) }
         ensures none { result ≡ false → into.new ≡ [] }
         ensures is_open { is_open_of self.new ≡ is_open_of self.old }
-        ensures form { form_of self.new ≡ form_of self.old }
-        ensures pins { pins_of self.new ≡ pins_of self.old }
-        ensures names { names_of self.new ≡ names_of self.old }
-        ensures rate { rate_of self.new ≡ rate_of self.old }
+        ensures setup { SameSetup self.old self.new }
         ensures progress { result ≡ true → given_by self.old < given_by self.new }
         ensures counts { given_by self.old + length (samples_of into.new) ≤ given_by self.new }
         ensures few { result ≡ true → given_by self.new ≤ 2 ^ 60 }
@@ -255,10 +240,7 @@ impl Capture {
         ensures gives { Gives self.old self.new (S.left source.old)
             (S.left source.new) into.new result }
         ensures is_open { is_open_of self.new ≡ open_behind result }
-        ensures form { form_of self.new ≡ form_of self.old }
-        ensures pins { pins_of self.new ≡ pins_of self.old }
-        ensures names { names_of self.new ≡ names_of self.old }
-        ensures rate { rate_of self.new ≡ rate_of self.old }
+        ensures setup { SameSetup self.old self.new }
         ensures progress { result ≡ Ok true → given_by self.old < given_by self.new }
         ensures counts { result ≡ Ok true
             → given_by self.old + length (samples_of into.new) ≤ given_by self.new }

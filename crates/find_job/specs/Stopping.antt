@@ -33,3 +33,11 @@ Written waiter before samples list stops old new (Ok done) =
     AllWritten waiter (alts_of before) (list ++ samples) stops old new
 Written waiter before samples list stops old new (Err failed) =
     CutOff (alts_of before) (list ++ samples) stops old new
+
+-- the stops of samples are written, whatever the waiter stood for
+abbrev pub WritesStops : Waiter → Waiter → List ℕ → Option (List ℕ) → Option (List ℕ)
+    → Result (Unit {0}) Failed → Type 0
+WritesStops before waiter samples old new result =
+    (list : List ℕ) (stops : List Stop) → Waits before list
+    → Chain list (alts_of before) 0 stops (wait_from before)
+    → Written waiter before samples list stops old new result

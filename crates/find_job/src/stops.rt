@@ -1,12 +1,11 @@
 // The lines of the stops in a run.
-ghost use Rattle.std.specs.Prelude.{◌≡◌, ◌≢◌, ◌+◌, ◌≤◌, ◌^◌, List, ℕ, OnOk, length};
+ghost use Rattle.std.specs.Prelude.{◌≡◌, ◌≢◌, ◌+◌, ◌≤◌, ◌^◌, OnOk, length};
 ghost use Rattle.la_base.specs.Samples.{samples};
 ghost use Rattle.la_io.specs.Causes.{HasCause};
 ghost use Rattle.la_base.specs.Runs.{samples_of};
 ghost use Rattle.wait_cond.specs.Conds.{IsExact};
-ghost use Rattle.wait_cond.specs.Stops.{Stop, Chain};
-ghost use Rattle.wait_cond.specs.Waiting.{Waits, alts_of, wait_from, consumed_by};
-ghost use Rattle.find_job.specs.Stopping.{Written};
+ghost use Rattle.wait_cond.specs.Waiting.{alts_of, consumed_by};
+ghost use Rattle.find_job.specs.Stopping.{WritesStops};
 
 use la_base::Run;
 use la_io::{Failed, Sink};
@@ -22,9 +21,7 @@ fn write_stops<K: Sink>(
     sink: &mut K,
 ) -> Result<(), Failed>
     requires { consumed_by waiter.old + run.len ≤ 2 ^ 60 }
-    ensures written { (list : List ℕ) (stops : List Stop) → Waits waiter.old list
-        → Chain list (alts_of waiter.old) 0 stops (wait_from waiter.old)
-        → Written waiter.new waiter.old (samples run) list stops (K.written sink.old)
+    ensures written { WritesStops waiter.old waiter.new (samples run) (K.written sink.old)
         (K.written sink.new) result }
     ensures consumed { OnOk result (consumed_by waiter.new ≡ consumed_by waiter.old + run.len) }
     ensures alts { alts_of waiter.new ≡ alts_of waiter.old }
@@ -64,9 +61,7 @@ fn write_run<K: Sink>(
     sink: &mut K,
 ) -> Result<(), Failed>
     requires { consumed_by waiter.old + run.len ≤ 2 ^ 60 }
-    ensures written { (list : List ℕ) (stops : List Stop) → Waits waiter.old list
-        → Chain list (alts_of waiter.old) 0 stops (wait_from waiter.old)
-        → Written waiter.new waiter.old (samples run) list stops (K.written sink.old)
+    ensures written { WritesStops waiter.old waiter.new (samples run) (K.written sink.old)
         (K.written sink.new) result }
     ensures consumed { OnOk result (consumed_by waiter.new ≡ consumed_by waiter.old + run.len) }
     ensures alts { alts_of waiter.new ≡ alts_of waiter.old }
@@ -92,9 +87,7 @@ fn write_exact<K: Sink>(
     requires room { consumed_by waiter.old + length (samples_of runs.now) ≤ 2 ^ 60 }
     requires exact { IsExact (alts_of waiter.old) }
     requires some { consumed_by waiter.old ≢ 0 }
-    ensures written { (list : List ℕ) (stops : List Stop) → Waits waiter.old list
-        → Chain list (alts_of waiter.old) 0 stops (wait_from waiter.old)
-        → Written waiter.new waiter.old (samples_of runs.now) list stops (K.written sink.old)
+    ensures written { WritesStops waiter.old waiter.new (samples_of runs.now) (K.written sink.old)
         (K.written sink.new) result }
     ensures consumed { OnOk result
         (consumed_by waiter.new ≡ consumed_by waiter.old + length (samples_of runs.now)) }
@@ -129,9 +122,7 @@ pub fn write_runs<K: Sink>(
     sink: &mut K,
 ) -> Result<(), Failed>
     requires { consumed_by waiter.old + length (samples_of runs.now) ≤ 2 ^ 60 }
-    ensures written { (list : List ℕ) (stops : List Stop) → Waits waiter.old list
-        → Chain list (alts_of waiter.old) 0 stops (wait_from waiter.old)
-        → Written waiter.new waiter.old (samples_of runs.now) list stops (K.written sink.old)
+    ensures written { WritesStops waiter.old waiter.new (samples_of runs.now) (K.written sink.old)
         (K.written sink.new) result }
     ensures consumed { OnOk result
         (consumed_by waiter.new ≡ consumed_by waiter.old + length (samples_of runs.now)) }

@@ -27,7 +27,7 @@ returns-then-held_runs-clause-gives g c =
     record {
       gave = λ before gave.
           subst (GaveRuns left faults _) (sym (together-last before c.held_runs.new.into))
-          (feed_on left faults old _ refl refl refl refl held.form held.pins was_open (together before) gave (held.is_open ∙ was_open)
+          (feed_on left faults old _ refl refl refl refl held.setup.form held.setup.pins was_open (together before) gave (held.is_open ∙ was_open)
           (gave_at_hand old.capture.now c.held_runs.new.self (left old.source.now) (samples_of c.held_runs.new.into) held.gave) refl held.counts (held.few c.if-held_runs.true));
       few = λ all gave. gave.few;
     }
@@ -42,7 +42,7 @@ returns-clause-gives g c =
     let was_open : is_open_of old.capture.now ≡ true = cc in
     let stays = held.counts in (
       λ before gave.
-          feed_stays left faults old _ refl refl refl refl held.form held.pins was_open (together before) gave (held.is_open ∙ was_open)
+          feed_stays left faults old _ refl refl refl refl held.setup.form held.setup.pins was_open (together before) gave (held.is_open ∙ was_open)
           (gave_at_hand old.capture.now c.held_runs.new.self (left old.source.now) [] (subst (λ (l : List Run). GaveHeld old.capture.now c.held_runs.new.self (samples_of l)) none held.gave)) refl (omega (arith, stays)),
       inr none,
     )

@@ -21,7 +21,7 @@ returns-in-None-clause-gives g c =
     record {
       gave = λ before gave.
           subst (GaveRuns left faults _) (sym (together-last before c.next_runs.new.into))
-          (feed_on left faults old _ refl refl refl refl next.form next.pins was_open (together before) gave (next.is_open ∙ ap open_behind more)
+          (feed_on left faults old _ refl refl refl refl next.setup.form next.setup.pins was_open (together before) gave (next.is_open ∙ ap open_behind more)
           (subst (Gives old.capture.now c.next_runs.new.self (left old.source.now) (left c.next_runs.new.source) c.next_runs.new.into) more next.gives)
           (subst (λ (a : Result Bool CaptureError). CaptureCause (faults old.source.now) (faults c.next_runs.new.source) a) more next.cause) (next.counts more) next.few);
       few = λ all gave. gave.few;
@@ -36,6 +36,6 @@ returns-in-Some-clause-gives g c =
     record {
       gave = λ before gave.
           subst (GaveRuns g.S.Source.left g.S.Source.faults _) (ap together (sym (append-nil before)))
-          (feed_ends g.S.Source.left g.S.Source.faults old _ refl refl refl refl next.form next.pins was_open (together before) gave c.clear-in-Some.ensures c.next_runs.new.into c.next_runs.result ends (next.is_open ∙ answer_closes c.next_runs.result c.in-Some.end ends) next.gives next.cause);
+          (feed_ends g.S.Source.left g.S.Source.faults old _ refl refl refl refl next.setup.form next.setup.pins was_open (together before) gave c.clear-in-Some.ensures c.next_runs.new.into c.next_runs.result ends (next.is_open ∙ answer_closes c.next_runs.result c.in-Some.end ends) next.gives next.cause);
       few = λ all gave. gave.few;
     }
