@@ -163,7 +163,7 @@ impl<'a, 'b, K: Sink, W: Watch> Lister<'a, 'b, K, W> {
     }
 
     // Takes the notes and the pieces among outputs where notes are listed.
-    #[inline(never)]
+    #[inline]
     fn list_outs(&mut self, instance: u32, outs: &[Out]) -> Result<(), Stopped>
         requires within { instance < instances_of self.old }
         requires merges { merges_in self.old ≡ true }
@@ -174,6 +174,9 @@ impl<'a, 'b, K: Sink, W: Watch> Lister<'a, 'b, K, W> {
         ensures cause { HasCause (stops_of self.old) (stops_of self.new) result }
         ensures going { Goes true self.old → Goes (is_ok result) self.new }
         ensures origin { SameOrigin W.origin self.old self.new }
+        ensures ok { OnOk result (cause_of self.new ≡ None) }
+        ensures why { OnErr result (StopsFor (cause_of self.new)
+            (K.faults (sink_of self.old)) (K.faults (sink_of self.new))) }
     {
         match push_outs(&mut self.merge, instance, outs) {
             Ok(some) => {
@@ -205,7 +208,7 @@ impl<'a, 'b, K: Sink, W: Watch> Lister<'a, 'b, K, W> {
     }
 
     // Takes marks, but for ends, where notes are listed.
-    #[inline(never)]
+    #[inline]
     fn list_marks(&mut self, instance: u32, marks: &[Mark]) -> Result<(), Stopped>
         requires within { instance < instances_of self.old }
         requires merges { merges_in self.old ≡ true }
@@ -216,6 +219,9 @@ impl<'a, 'b, K: Sink, W: Watch> Lister<'a, 'b, K, W> {
         ensures cause { HasCause (stops_of self.old) (stops_of self.new) result }
         ensures going { Goes true self.old → Goes (is_ok result) self.new }
         ensures origin { SameOrigin W.origin self.old self.new }
+        ensures ok { OnOk result (cause_of self.new ≡ None) }
+        ensures why { OnErr result (StopsFor (cause_of self.new)
+            (K.faults (sink_of self.old)) (K.faults (sink_of self.new))) }
     {
         match push_marks(&mut self.merge, instance, marks) {
             Ok(some) => {
@@ -260,6 +266,8 @@ impl<'a, 'b, K: Sink, W: Watch> Lister<'a, 'b, K, W> {
         ensures ok { OnOk result (cause_of self.new ≡ None) }
         ensures why { OnErr result (StopsFor (cause_of self.new)
             (K.faults (sink_of self.old)) (K.faults (sink_of self.new))) }
+        ensures faults { OnOk result
+            (K.faults (sink_of self.new) ≡ K.faults (sink_of self.old)) }
     {
         match write_wanted(self.stack, instance, mark, self.sink) {
             Ok(()) => Ok(()),
@@ -287,7 +295,9 @@ impl<'a, 'b, K: Sink, W: Watch> Lister<'a, 'b, K, W> {
         ensures ok { OnOk result (cause_of self.new ≡ None) }
         ensures why { cause_of self.old ≡ None → OnErr result (StopsFor (cause_of self.new)
             (K.faults (sink_of self.old)) (K.faults (sink_of self.new))) }
-        ensures behind { IsSome (cause_of self.old) → StaysStopped self.old self.new result }
+        ensures after { IsSome (cause_of self.old) → StaysStopped self.old self.new result }
+        ensures faults { OnOk result
+            (K.faults (sink_of self.new) ≡ K.faults (sink_of self.old)) }
     {
         if self.cause.is_some() {
             return stop_again(&mut self.stops);
@@ -308,6 +318,14 @@ impl<'a, 'b, K: Sink, W: Watch> Lister<'a, 'b, K, W> {
         ensures cause { HasCause (stops_of self.old) (stops_of self.new) result }
         ensures going { Goes true self.old → Goes (is_ok result) self.new }
         ensures origin { SameOrigin W.origin self.old self.new }
+        ensures ok { OnOk result (cause_of self.new ≡ cause_of self.old) }
+        ensures why { cause_of self.old ≡ None → OnErr result (StopsFor (cause_of self.new)
+            (K.faults (sink_of self.old)) (K.faults (sink_of self.new))) }
+        ensures after { IsSome (cause_of self.old)
+            → OnErr result (StaysStopped self.old self.new result) }
+        ensures faults { OnOk result
+            (K.faults (sink_of self.new) ≡ K.faults (sink_of self.old)) }
+        ensures same { IsSome (cause_of self.old) → OnOk result (self.new ≡ self.old) }
     {
         match mark {
             Some(mark) => self.take_apart(instance, mark),
@@ -327,6 +345,11 @@ impl<'a, 'b, K: Sink, W: Watch> Lister<'a, 'b, K, W> {
         ensures cause { HasCause (stops_of self.old) (stops_of self.new) result }
         ensures going { Goes true self.old → Goes (is_ok result) self.new }
         ensures origin { SameOrigin W.origin self.old self.new }
+        ensures ok { OnOk result (cause_of self.new ≡ cause_of self.old) }
+        ensures why { cause_of self.old ≡ None → OnErr result (StopsFor (cause_of self.new)
+            (K.faults (sink_of self.old)) (K.faults (sink_of self.new))) }
+        ensures after { IsSome (cause_of self.old)
+            → OnErr result (StaysStopped self.old self.new result) }
     {
         for out in outs {
             match self.some_apart(instance, mark_of(out)) {
@@ -349,6 +372,11 @@ impl<'a, 'b, K: Sink, W: Watch> Lister<'a, 'b, K, W> {
         ensures cause { HasCause (stops_of self.old) (stops_of self.new) result }
         ensures going { Goes true self.old → Goes (is_ok result) self.new }
         ensures origin { SameOrigin W.origin self.old self.new }
+        ensures ok { OnOk result (cause_of self.new ≡ cause_of self.old) }
+        ensures why { cause_of self.old ≡ None → OnErr result (StopsFor (cause_of self.new)
+            (K.faults (sink_of self.old)) (K.faults (sink_of self.new))) }
+        ensures after { IsSome (cause_of self.old)
+            → OnErr result (StaysStopped self.old self.new result) }
     {
         for mark in marks {
             match self.some_apart(instance, real_of(*mark)) {
@@ -433,7 +461,7 @@ impl<'a, 'b, K: Sink, W: Watch> MarkTake for Lister<'a, 'b, K, W> {
         ensures ok { OnOk result (cause_of self.new ≡ None) }
         ensures why { cause_of self.old ≡ None → OnErr result (StopsFor (cause_of self.new)
             (K.faults (sink_of self.old)) (K.faults (sink_of self.new))) }
-        ensures behind { IsSome (cause_of self.old) → StaysStopped self.old self.new result }
+        ensures after { IsSome (cause_of self.old) → StaysStopped self.old self.new result }
     {
         if self.merges {
             self.take_mark(instance, mark)
@@ -445,7 +473,21 @@ impl<'a, 'b, K: Sink, W: Watch> MarkTake for Lister<'a, 'b, K, W> {
     /// The same of the notes and the pieces among outputs: all lines that may be written then are
     /// written together.
     #[inline(always)]
-    fn take_outs(&mut self, instance: u32, outs: &[Out]) -> Result<(), Stopped> {
+    fn take_outs(&mut self, instance: u32, outs: &[Out]) -> Result<(), Stopped>
+        requires { instance < instances_of self.old }
+        ensures adds { TakesFront (is_ok result)
+            (Took K.written K.faults K.goes_on W.saw self.old)
+            (Took K.written K.faults K.goes_on W.saw self.new) instance (marks_of outs.now) }
+        ensures instances { instances_of self.new ≡ instances_of self.old }
+        ensures cause { HasCause (stops_of self.old) (stops_of self.new) result }
+        ensures going { Goes true self.old → Goes (is_ok result) self.new }
+        ensures origin { SameOrigin W.origin self.old self.new }
+        ensures ok { OnOk result (cause_of self.new ≡ cause_of self.old) }
+        ensures why { cause_of self.old ≡ None → OnErr result (StopsFor (cause_of self.new)
+            (K.faults (sink_of self.old)) (K.faults (sink_of self.new))) }
+        ensures after { IsSome (cause_of self.old)
+            → OnErr result (StaysStopped self.old self.new result) }
+    {
         if self.merges {
             self.list_outs(instance, outs)
         } else {
@@ -455,7 +497,21 @@ impl<'a, 'b, K: Sink, W: Watch> MarkTake for Lister<'a, 'b, K, W> {
 
     /// The same of marks, but for ends.
     #[inline(always)]
-    fn take_marks(&mut self, instance: u32, marks: &[Mark]) -> Result<(), Stopped> {
+    fn take_marks(&mut self, instance: u32, marks: &[Mark]) -> Result<(), Stopped>
+        requires { instance < instances_of self.old }
+        ensures adds { TakesFront (is_ok result)
+            (Took K.written K.faults K.goes_on W.saw self.old)
+            (Took K.written K.faults K.goes_on W.saw self.new) instance (real marks.now) }
+        ensures instances { instances_of self.new ≡ instances_of self.old }
+        ensures cause { HasCause (stops_of self.old) (stops_of self.new) result }
+        ensures going { Goes true self.old → Goes (is_ok result) self.new }
+        ensures origin { SameOrigin W.origin self.old self.new }
+        ensures ok { OnOk result (cause_of self.new ≡ cause_of self.old) }
+        ensures why { cause_of self.old ≡ None → OnErr result (StopsFor (cause_of self.new)
+            (K.faults (sink_of self.old)) (K.faults (sink_of self.new))) }
+        ensures after { IsSome (cause_of self.old)
+            → OnErr result (StaysStopped self.old self.new result) }
+    {
         if self.merges {
             self.list_marks(instance, marks)
         } else {
@@ -476,7 +532,7 @@ impl<'a, 'b, K: Sink, W: Watch> MarkTake for Lister<'a, 'b, K, W> {
         ensures why { cause_of self.old ≡ None → OnErr result
             ((cause_of self.new ≡ Some ListStop.Write)
             × Rose (K.faults (sink_of self.old)) (K.faults (sink_of self.new))) }
-        ensures behind { IsSome (cause_of self.old) → StaysStopped self.old self.new result }
+        ensures after { IsSome (cause_of self.old) → StaysStopped self.old self.new result }
     {
         if self.cause.is_some() {
             return stop_again(&mut self.stops);

@@ -1,9 +1,11 @@
 use Rattle.std.proofs.Common.{◌≢◌, ◌∷◌, ◌+◌, ◌∙◌, ◌<◌, [], ℕ, List, take, refl, sym, subst, arith}
+use Rattle.std.specs.Prelude.{Err, IsSome}
 use Rattle.std.proofs.lemmas.List.{take_all}
 use Rattle.la_base.specs.declared.wires.Mark.{Mark}
 use Rattle.la_io.specs.Feeds.{TakesMarks, real}
 use Rattle.la_io.proofs.Taking.{real_next, stops_at_real, takes_nothing, takes_then, takes_whole}
-use Rattle.note_lister.specs.Taking.{Took}
+use Rattle.note_lister.specs.Taking.{StaysStopped, StopsFor, Took, cause_of, sink_of}
+use Rattle.note_lister.specs.declared.lister.Lister.{Lister}
 use Rattle.note_lister.proofs.lister.Lister.marks_apart.Goals as goal
 
 pub loop-mark-init : goal.loop-mark-init
@@ -18,6 +20,9 @@ loop-mark-init g c =
       kept = refl;
       going = λ h. h;
       origin = refl;
+      cause_is = refl;
+      faults = refl;
+      same = λ _. refl;
     }
 
 pub some_apart-requires : goal.some_apart-requires
@@ -41,6 +46,9 @@ loop-mark-preserved g c =
       kept = e.cause.kept ∙ i.kept;
       going = λ h. e.going (i.going h);
       origin = e.origin ∙ i.origin;
+      cause_is = e.ok ∙ i.cause_is;
+      faults = e.faults ∙ i.faults;
+      same = λ some. e.same (subst IsSome (sym i.cause_is) some) ∙ i.same some;
     }
 
 pub returns-in-Err-clause-adds : goal.returns-in-Err-clause-adds
@@ -91,3 +99,16 @@ returns-clause-going g c = c.loop-mark.invariant.going
 
 pub returns-clause-origin : goal.returns-clause-origin
 returns-clause-origin g c = c.loop-mark.invariant.origin
+
+pub returns-in-Err-clause-why : goal.returns-in-Err-clause-why
+returns-in-Err-clause-why g c = λ none.
+    let i = c.loop-mark.invariant in
+    subst (λ (n : ℕ). StopsFor (cause_of c.some_apart.new.self) n (g.K.Sink.faults (sink_of c.some_apart.new.self))) i.faults (c.in-Err.ensures.why (i.cause_is ∙ none))
+
+pub returns-in-Err-clause-after : goal.returns-in-Err-clause-after
+returns-in-Err-clause-after g c = λ some.
+    let i = c.loop-mark.invariant in
+    subst (λ (l : Lister g.row.K.Denot g.row.W.Denot). StaysStopped l c.some_apart.new.self (Err c.in-Err.field-0)) (i.same some) (c.in-Err.ensures.after (subst IsSome (sym i.cause_is) some))
+
+pub returns-clause-ok : goal.returns-clause-ok
+returns-clause-ok g c = c.loop-mark.invariant.cause_is

@@ -1,6 +1,7 @@
 use Rattle.std.proofs.Common.{◌≡◌, ◌<◌, take, true, false}
+use Rattle.std.specs.Prelude.{IsSome}
 use Rattle.la_io.specs.Feeds.{TakesMarks, real}
-use Rattle.note_lister.specs.Taking.{Goes, SameOrigin, Took, instances_of, merges_in, stops_of}
+use Rattle.note_lister.specs.Taking.{cause_of, sink_of, Goes, SameOrigin, Took, instances_of, merges_in, stops_of}
 use Rattle.note_lister.proofs.lister.Lister.marks_apart.Given as goal
 
 abbrev pub invariant-loop-mark : goal.invariant-loop-mark
@@ -15,4 +16,7 @@ invariant-loop-mark g l =
       kept : stops_of l.self ≡ stops_of l.fn.self;
       going : Goes true l.fn.self → Goes true l.self;
       origin : SameOrigin w.origin l.fn.self l.self;
+      cause_is : cause_of l.self ≡ cause_of l.fn.self;
+      faults : k.faults (sink_of l.self) ≡ k.faults (sink_of l.fn.self);
+      same : IsSome (cause_of l.fn.self) → l.self ≡ l.fn.self;
     }

@@ -1,10 +1,12 @@
 use Rattle.std.proofs.Common.{◌≢◌, ◌∷◌, ◌+◌, ◌∙◌, ◌<◌, [], ℕ, List, take, refl, sym, subst, arith}
+use Rattle.std.specs.Prelude.{Err, IsSome}
 use Rattle.std.proofs.lemmas.List.{take_all}
 use Rattle.la_base.specs.declared.wires.Mark.{Mark}
 use Rattle.la_base.specs.declared.wires.Out.{Out}
 use Rattle.la_io.specs.Feeds.{TakesMarks, marks_of}
 use Rattle.la_io.proofs.Taking.{marks_next, stops_at, takes_nothing, takes_then, takes_whole}
-use Rattle.note_lister.specs.Taking.{Took}
+use Rattle.note_lister.specs.Taking.{StaysStopped, StopsFor, Took, cause_of, sink_of}
+use Rattle.note_lister.specs.declared.lister.Lister.{Lister}
 use Rattle.note_lister.proofs.lister.Lister.outs_apart.Goals as goal
 
 pub loop-out-init : goal.loop-out-init
@@ -19,6 +21,9 @@ loop-out-init g c =
       kept = refl;
       going = λ h. h;
       origin = refl;
+      cause_is = refl;
+      faults = refl;
+      same = λ _. refl;
     }
 
 pub some_apart-requires : goal.some_apart-requires
@@ -42,6 +47,9 @@ loop-out-preserved g c =
       kept = e.cause.kept ∙ i.kept;
       going = λ h. e.going (i.going h);
       origin = e.origin ∙ i.origin;
+      cause_is = e.ok ∙ i.cause_is;
+      faults = e.faults ∙ i.faults;
+      same = λ some. e.same (subst IsSome (sym i.cause_is) some) ∙ i.same some;
     }
 
 pub returns-in-Err-clause-adds : goal.returns-in-Err-clause-adds
@@ -92,3 +100,16 @@ returns-clause-going g c = c.loop-out.invariant.going
 
 pub returns-clause-origin : goal.returns-clause-origin
 returns-clause-origin g c = c.loop-out.invariant.origin
+
+pub returns-in-Err-clause-why : goal.returns-in-Err-clause-why
+returns-in-Err-clause-why g c = λ none.
+    let i = c.loop-out.invariant in
+    subst (λ (n : ℕ). StopsFor (cause_of c.some_apart.new.self) n (g.K.Sink.faults (sink_of c.some_apart.new.self))) i.faults (c.in-Err.ensures.why (i.cause_is ∙ none))
+
+pub returns-in-Err-clause-after : goal.returns-in-Err-clause-after
+returns-in-Err-clause-after g c = λ some.
+    let i = c.loop-out.invariant in
+    subst (λ (l : Lister g.row.K.Denot g.row.W.Denot). StaysStopped l c.some_apart.new.self (Err c.in-Err.field-0)) (i.same some) (c.in-Err.ensures.after (subst IsSome (sym i.cause_is) some))
+
+pub returns-clause-ok : goal.returns-clause-ok
+returns-clause-ok g c = c.loop-out.invariant.cause_is
