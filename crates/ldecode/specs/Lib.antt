@@ -12,4 +12,5 @@ pub mod MadeTrees
 pub mod Sums
 pub mod Opening
 pub mod Watching
+pub mod Calls
 pub mod Together

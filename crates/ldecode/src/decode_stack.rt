@@ -1,13 +1,10 @@
 // A decoding of the stack that settings ask for, whoever looks on.
-ghost use Rattle.std.specs.Prelude.{◌≡◌, ◌≤◌, [], IfErr, IfOk, IfSome};
-ghost use Rattle.words.specs.Readable.{IsReadable, IsShort};
+ghost use Rattle.std.specs.Prelude.{◌≡◌, []};
 ghost use Rattle.words.specs.Settings.{meaning_of};
 ghost use Rattle.words.specs.declared.kinds.Job.TheVariants.{Decode};
 ghost use Rattle.ldecode.specs.Asking.{NamesNoHead};
-ghost use Rattle.ldecode.specs.Headline.{DecodesOn, RefusesOn, SinkCause, SourceCause};
-ghost use Rattle.ldecode.specs.Headline.{WhereUnread};
+ghost use Rattle.ldecode.specs.Calls.{AreRead, DecodesAs, HasCauses};
 ghost use Rattle.ldecode.specs.Notices.{status_by};
-ghost use Rattle.ldecode.specs.Watching.{IsSeen, IsSeenFront};
 
 use crate::open_stack::{Opened, open_stack};
 use crate::status::Status;
@@ -31,22 +28,14 @@ pub(crate) fn decode_stack<S: Source, K: Sink, W: Watch>(
     watch: W,
 ) -> (Result<DecodeEnd, Status>, W)
     requires job { settings.now.job ≡ Decode }
-    requires readable { IsReadable Decode settings.now.chains.items }
-    requires shown { IfSome settings.now.show IsShort }
-    requires binary { IfSome settings.now.binary IsShort }
+    requires read { AreRead settings.now }
     requires unseen { W.saw watch [] }
-    ensures decodes { IfOk result.0 (DecodesOn (meaning_of settings.now)
-        (IsSeen (W.saw result.1) (K.written sink.old) (K.written sink.new))
-        (IsSeenFront (W.saw result.1) (K.written sink.old) (K.written sink.new))
-        (S.left source.old) (S.left source.new)) }
-    ensures refuses { IfErr result.0
-        (RefusesOn (meaning_of settings.now) (S.left source.old) (S.left source.new)) }
-    ensures untouched { IfErr result.0 (λ _. (sink.new ≡ sink.old) × (result.1 ≡ watch)) }
+    ensures decodes { DecodesAs (meaning_of settings.now) W.saw K.written (S.left source.old)
+        (S.left source.new) sink.old sink.new watch result.1 result.0 }
     ensures origin { W.origin result.1 ≡ W.origin watch }
-    ensures unread { WhereUnread (NamesNoHead (meaning_of settings.now)) (status_by result.0)
-        (source.new ≡ source.old) }
-    ensures read { SourceCause (S.faults source.old) (S.faults source.new) (status_by result.0) }
-    ensures write { SinkCause (K.faults sink.old) (K.faults sink.new) (status_by result.0) }
+    ensures causes { HasCauses (NamesNoHead (meaning_of settings.now)) (source.new ≡ source.old)
+        (S.faults source.old) (S.faults source.new) (K.faults sink.old) (K.faults sink.new)
+        (status_by result.0) }
 {
     let Opened {
         stack,
@@ -89,22 +78,14 @@ fn decode_stack_in_threads<
     watch: W,
 ) -> (Result<DecodeEnd, Status>, W)
     requires job { settings.now.job ≡ Decode }
-    requires readable { IsReadable Decode settings.now.chains.items }
-    requires shown { IfSome settings.now.show IsShort }
-    requires binary { IfSome settings.now.binary IsShort }
+    requires read { AreRead settings.now }
     requires unseen { W.saw watch [] }
-    ensures decodes { IfOk result.0 (DecodesOn (meaning_of settings.now)
-        (IsSeen (W.saw result.1) (K.written sink.old) (K.written sink.new))
-        (IsSeenFront (W.saw result.1) (K.written sink.old) (K.written sink.new))
-        (S.left source.old) (S.left source.new)) }
-    ensures refuses { IfErr result.0
-        (RefusesOn (meaning_of settings.now) (S.left source.old) (S.left source.new)) }
-    ensures untouched { IfErr result.0 (λ _. (sink.new ≡ sink.old) × (result.1 ≡ watch)) }
+    ensures decodes { DecodesAs (meaning_of settings.now) W.saw K.written (S.left source.old)
+        (S.left source.new) sink.old sink.new watch result.1 result.0 }
     ensures origin { W.origin result.1 ≡ W.origin watch }
-    ensures unread { WhereUnread (NamesNoHead (meaning_of settings.now)) (status_by result.0)
-        (source.new ≡ source.old) }
-    ensures read { SourceCause (S.faults source.old) (S.faults source.new) (status_by result.0) }
-    ensures write { SinkCause (K.faults sink.old) (K.faults sink.new) (status_by result.0) }
+    ensures causes { HasCauses (NamesNoHead (meaning_of settings.now)) (source.new ≡ source.old)
+        (S.faults source.old) (S.faults source.new) (K.faults sink.old) (K.faults sink.new)
+        (status_by result.0) }
 {
     let Opened {
         stack,
@@ -152,22 +133,14 @@ pub(crate) fn decode_stack_as_asked<
     watch: W,
 ) -> (Result<DecodeEnd, Status>, W)
     requires job { settings.now.job ≡ Decode }
-    requires readable { IsReadable Decode settings.now.chains.items }
-    requires shown { IfSome settings.now.show IsShort }
-    requires binary { IfSome settings.now.binary IsShort }
+    requires read { AreRead settings.now }
     requires unseen { W.saw watch [] }
-    ensures decodes { IfOk result.0 (DecodesOn (meaning_of settings.now)
-        (IsSeen (W.saw result.1) (K.written sink.old) (K.written sink.new))
-        (IsSeenFront (W.saw result.1) (K.written sink.old) (K.written sink.new))
-        (S.left source.old) (S.left source.new)) }
-    ensures refuses { IfErr result.0
-        (RefusesOn (meaning_of settings.now) (S.left source.old) (S.left source.new)) }
-    ensures untouched { IfErr result.0 (λ _. (sink.new ≡ sink.old) × (result.1 ≡ watch)) }
+    ensures decodes { DecodesAs (meaning_of settings.now) W.saw K.written (S.left source.old)
+        (S.left source.new) sink.old sink.new watch result.1 result.0 }
     ensures origin { W.origin result.1 ≡ W.origin watch }
-    ensures unread { WhereUnread (NamesNoHead (meaning_of settings.now)) (status_by result.0)
-        (source.new ≡ source.old) }
-    ensures read { SourceCause (S.faults source.old) (S.faults source.new) (status_by result.0) }
-    ensures write { SinkCause (K.faults sink.old) (K.faults sink.new) (status_by result.0) }
+    ensures causes { HasCauses (NamesNoHead (meaning_of settings.now)) (source.new ≡ source.old)
+        (S.faults source.old) (S.faults source.new) (K.faults sink.old) (K.faults sink.new)
+        (status_by result.0) }
 {
     if settings.threads {
         decode_stack_in_threads(rt, alloc, settings, source, sink, pacer, watch)

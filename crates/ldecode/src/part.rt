@@ -4,11 +4,11 @@ ghost use Rattle.std.specs.Prelude.{option_map};
 ghost use Rattle.std.specs.String.{string_bytes};
 ghost use Rattle.decoder_set.specs.Opening.{setup_of};
 ghost use Rattle.stack_spec.specs.Stacks.{instances_in};
-ghost use Rattle.words.specs.Readable.{IsReadable, IsShort};
 ghost use Rattle.words.specs.Settings.{meaning_of};
 ghost use Rattle.words.specs.declared.kinds.Job.TheVariants.{Part};
 ghost use Rattle.ldecode.specs.Asking.{NamesNoHead};
-ghost use Rattle.ldecode.specs.Headline.{WorksOn, SourceCause, SinkCause, WhereUnread};
+ghost use Rattle.ldecode.specs.Calls.{AreRead, HasCauses};
+ghost use Rattle.ldecode.specs.Headline.{WorksOn};
 ghost use Rattle.ldecode.specs.Parting.{Begun, CanBegin, CantBegin, place_of};
 
 use crate::open_stack::{Opened, open_stack};
@@ -99,16 +99,12 @@ pub fn part_stack<S: Source, K: Sink>(
     sink: &mut K,
 ) -> Status
     requires job { settings.now.job ≡ Part }
-    requires readable { IsReadable Part settings.now.chains.items }
-    requires shown { IfSome settings.now.show IsShort }
-    requires binary { IfSome settings.now.binary IsShort }
-    requires from { IfSome settings.now.from (λ text. length (string_bytes text) ≤ 4096) }
+    requires read { AreRead settings.now }
     ensures works { WorksOn ⟦<AnyDecoder as Keep>⟧.saves (meaning_of settings.now)
         (S.left source.old) (S.left source.new) (K.written sink.old) (K.written sink.new) result }
-    ensures unread { WhereUnread (NamesNoHead (meaning_of settings.now)) result
-        (source.new ≡ source.old) }
-    ensures read { SourceCause (S.faults source.old) (S.faults source.new) result }
-    ensures write { SinkCause (K.faults sink.old) (K.faults sink.new) result }
+    ensures causes { HasCauses (NamesNoHead (meaning_of settings.now)) (source.new ≡ source.old)
+        (S.faults source.old) (S.faults source.new) (K.faults sink.old) (K.faults sink.new)
+        result }
 {
     let Opened {
         stack,

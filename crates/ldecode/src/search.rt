@@ -4,7 +4,8 @@ ghost use Rattle.words.specs.Readable.{IsReadable};
 ghost use Rattle.words.specs.Settings.{meaning_of};
 ghost use Rattle.words.specs.declared.kinds.Job.TheVariants.{Find};
 ghost use Rattle.ldecode.specs.Asking.{NamesNoHead};
-ghost use Rattle.ldecode.specs.Headline.{WorksOn, SourceCause, SinkCause, WhereUnread};
+ghost use Rattle.ldecode.specs.Calls.{HasCauses};
+ghost use Rattle.ldecode.specs.Headline.{WorksOn};
 
 use crate::alternatives::bind_words;
 use crate::form::form_of;
@@ -29,10 +30,9 @@ pub fn search<S: Source, K: Sink>(
     requires readable { IsReadable Find settings.now.chains.items }
     ensures works { WorksOn ⟦<AnyDecoder as Keep>⟧.saves (meaning_of settings.now)
         (S.left source.old) (S.left source.new) (K.written sink.old) (K.written sink.new) result }
-    ensures unread { WhereUnread (NamesNoHead (meaning_of settings.now)) result
-        (source.new ≡ source.old) }
-    ensures read { SourceCause (S.faults source.old) (S.faults source.new) result }
-    ensures write { SinkCause (K.faults sink.old) (K.faults sink.new) result }
+    ensures causes { HasCauses (NamesNoHead (meaning_of settings.now)) (source.new ≡ source.old)
+        (S.faults source.old) (S.faults source.new) (K.faults sink.old) (K.faults sink.new)
+        result }
 {
     let mut capture = match Capture::open(alloc, form_of(settings), source) {
         Ok(capture) => capture,

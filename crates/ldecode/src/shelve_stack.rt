@@ -1,13 +1,12 @@
 // A decoding whose notes come on a shelf.
-ghost use Rattle.std.specs.Prelude.{◌≡◌, ◌≤◌, IfSome};
+ghost use Rattle.std.specs.Prelude.{◌≡◌};
 ghost use Rattle.view_store.specs.Listings.{nothing};
 ghost use Rattle.view_store.specs.Views.{pending, published, shelf_of};
-ghost use Rattle.words.specs.Readable.{IsReadable, IsShort};
 ghost use Rattle.words.specs.Settings.{meaning_of};
 ghost use Rattle.words.specs.declared.kinds.Job.TheVariants.{Decode};
 ghost use Rattle.shelf_watch.specs.Watches.{shelf_ref};
 ghost use Rattle.ldecode.specs.Asking.{NamesNoHead};
-ghost use Rattle.ldecode.specs.Headline.{SinkCause, SourceCause, WhereUnread};
+ghost use Rattle.ldecode.specs.Calls.{AreRead, HasCauses};
 ghost use Rattle.ldecode.specs.Watching.{EndsShelf, ShelvesOn};
 
 use crate::decode_stack::decode_stack_as_asked;
@@ -66,18 +65,15 @@ pub(crate) fn shelve_stack<R: Threads + Wait + Sync, P: Pacer + Sync, S: Source 
     shown: &EventCount,
 ) -> Status
     requires job { settings.now.job ≡ Decode }
-    requires readable { IsReadable Decode settings.now.chains.items }
-    requires shown { IfSome settings.now.show IsShort }
-    requires binary { IfSome settings.now.binary IsShort }
+    requires read { AreRead settings.now }
     requires pending { pending shelf.old ≡ nothing }
     requires published { published shelf.old ≡ nothing }
     ensures shelved { ShelvesOn (meaning_of settings.now) (S.left source.old) (S.left source.new)
         (K.written sink.old) (K.written sink.new) (published shelf.new) result }
     ensures shelf { shelf_of shelf.new ≡ shelf_of shelf.old }
-    ensures unread { WhereUnread (NamesNoHead (meaning_of settings.now)) result
-        (source.new ≡ source.old) }
-    ensures read { SourceCause (S.faults source.old) (S.faults source.new) result }
-    ensures write { SinkCause (K.faults sink.old) (K.faults sink.new) result }
+    ensures causes { HasCauses (NamesNoHead (meaning_of settings.now)) (source.new ≡ source.old)
+        (S.faults source.old) (S.faults source.new) (K.faults sink.old) (K.faults sink.new)
+        result }
 {
     let watch = ShelfWatch::new(rt, shelf, shown);
     let (ended, watch) = decode_stack_as_asked(rt, alloc, settings, source, sink, pacer, watch);

@@ -1,13 +1,13 @@
 // A decoding at which a viewer looks on.
-ghost use Rattle.std.specs.Prelude.{◌≡◌, ◌≤◌, true, false, All, IfSome};
+ghost use Rattle.std.specs.Prelude.{◌≡◌, true, false, All};
 ghost use Rattle.std.specs.Thread.{IsSync};
 ghost use Rattle.view_store.specs.Listings.{nothing};
 ghost use Rattle.view_store.specs.Views.{pending, published, reader_shelf, shelf_of};
-ghost use Rattle.words.specs.Readable.{IsReadable, IsShort};
 ghost use Rattle.words.specs.Settings.{meaning_of};
 ghost use Rattle.words.specs.declared.kinds.Job.TheVariants.{Decode};
 ghost use Rattle.ldecode.specs.Asking.{NamesNoHead, lists_notes};
-ghost use Rattle.ldecode.specs.Headline.{IsWatched, SinkCause, SourceCause, WhereUnread};
+ghost use Rattle.ldecode.specs.Calls.{AreRead, HasCauses};
+ghost use Rattle.ldecode.specs.Headline.{IsWatched};
 ghost use Rattle.ldecode.specs.Watching.{ShelvesOn, ViewsOn};
 
 use crate::decode_stack::decode_stack;
@@ -57,16 +57,13 @@ pub(crate) fn count_stack<S: Source, K: Sink>(
     sink: &mut K,
 ) -> Outcome
     requires job { settings.now.job ≡ Decode }
-    requires readable { IsReadable Decode settings.now.chains.items }
-    requires shown { IfSome settings.now.show IsShort }
-    requires binary { IfSome settings.now.binary IsShort }
+    requires read { AreRead settings.now }
     requires watched { IsWatched (meaning_of settings.now) }
     ensures views { ViewsOn ⟦<AnyDecoder as Keep>⟧.saves (meaning_of settings.now)
         (S.left source.old) (S.left source.new) (K.written sink.old) (K.written sink.new) result }
-    ensures unread { WhereUnread (NamesNoHead (meaning_of settings.now)) result.status
-        (source.new ≡ source.old) }
-    ensures read { SourceCause (S.faults source.old) (S.faults source.new) result.status }
-    ensures write { SinkCause (K.faults sink.old) (K.faults sink.new) result.status }
+    ensures causes { HasCauses (NamesNoHead (meaning_of settings.now)) (source.new ≡ source.old)
+        (S.faults source.old) (S.faults source.new) (K.faults sink.old) (K.faults sink.new)
+        result.status }
 {
     let (ended, counted) = decode_stack(alloc, settings, source, sink, NoteCount::new());
     let status = status_by(ended);
@@ -114,19 +111,16 @@ fn shelve_beside<R: Threads + Wait + Sync, P: Pacer + Sync, S: Source + Send, K:
     reader: &mut ViewReader,
 ) -> Status
     requires job { settings.now.job ≡ Decode }
-    requires readable { IsReadable Decode settings.now.chains.items }
-    requires shown { IfSome settings.now.show IsShort }
-    requires binary { IfSome settings.now.binary IsShort }
+    requires read { AreRead settings.now }
     requires pending { pending writer.old ≡ nothing }
     requires published { published writer.old ≡ nothing }
     ensures shelved { ShelvesOn (meaning_of settings.now) (S.left source.old) (S.left source.new)
         (K.written sink.old) (K.written sink.new) (published writer.new) result }
     ensures writer { shelf_of writer.new ≡ shelf_of writer.old }
     ensures reader { reader_shelf reader.new ≡ reader_shelf reader.old }
-    ensures unread { WhereUnread (NamesNoHead (meaning_of settings.now)) result
-        (source.new ≡ source.old) }
-    ensures read { SourceCause (S.faults source.old) (S.faults source.new) result }
-    ensures write { SinkCause (K.faults sink.old) (K.faults sink.new) result }
+    ensures causes { HasCauses (NamesNoHead (meaning_of settings.now)) (source.new ≡ source.old)
+        (S.faults source.old) (S.faults source.new) (K.faults sink.old) (K.faults sink.new)
+        result }
 {
     let over = AtomicBool::new(false);
     let flag = &over;
@@ -140,18 +134,16 @@ fn shelve_beside<R: Threads + Wait + Sync, P: Pacer + Sync, S: Source + Send, K:
         &mut || -> Status
             requires sync { IsSync R.row × IsSync P.row }
             requires job { settings.now.job ≡ Decode }
-            requires readable { IsReadable Decode settings.now.chains.items }
-            requires shown { IfSome settings.now.show IsShort }
-            requires binary { IfSome settings.now.binary IsShort }
+            requires read { AreRead settings.now }
             requires new { (pending writer.now ≡ nothing) × (published writer.now ≡ nothing) }
             ensures { ShelvesOn (meaning_of settings.entry.now) (S.left source.entry.now)
                 (S.left source.exit.now) (K.written sink.entry.now) (K.written sink.exit.now)
                 (published writer.exit.now) result
                 × (shelf_of writer.exit.now ≡ shelf_of writer.entry.now)
-                × WhereUnread (NamesNoHead (meaning_of settings.entry.now)) result
-                (source.exit.now ≡ source.entry.now)
-                × SourceCause (S.faults source.entry.now) (S.faults source.exit.now) result
-                × SinkCause (K.faults sink.entry.now) (K.faults sink.exit.now) result }
+                × HasCauses (NamesNoHead (meaning_of settings.entry.now))
+                (source.exit.now ≡ source.entry.now) (S.faults source.entry.now)
+                (S.faults source.exit.now) (K.faults sink.entry.now) (K.faults sink.exit.now)
+                result }
         {
             let status = shelve_stack(rt, alloc, settings, source, sink, pacer, writer, shown);
             flag.store(true, Ordering::SeqCst);
@@ -174,19 +166,16 @@ fn view_beside<R: Threads + Wait + Sync, P: Pacer + Sync, S: Source + Send, K: S
     reader: &mut ViewReader,
 ) -> Outcome
     requires job { settings.now.job ≡ Decode }
-    requires readable { IsReadable Decode settings.now.chains.items }
-    requires shown { IfSome settings.now.show IsShort }
-    requires binary { IfSome settings.now.binary IsShort }
+    requires read { AreRead settings.now }
     requires watched { IsWatched (meaning_of settings.now) }
     requires pending { pending writer.old ≡ nothing }
     requires published { published writer.old ≡ nothing }
     requires own { reader_shelf reader.old ≡ shelf_of writer.old }
     ensures views { ViewsOn ⟦<AnyDecoder as Keep>⟧.saves (meaning_of settings.now)
         (S.left source.old) (S.left source.new) (K.written sink.old) (K.written sink.new) result }
-    ensures unread { WhereUnread (NamesNoHead (meaning_of settings.now)) result.status
-        (source.new ≡ source.old) }
-    ensures read { SourceCause (S.faults source.old) (S.faults source.new) result.status }
-    ensures write { SinkCause (K.faults sink.old) (K.faults sink.new) result.status }
+    ensures causes { HasCauses (NamesNoHead (meaning_of settings.now)) (source.new ≡ source.old)
+        (S.faults source.old) (S.faults source.new) (K.faults sink.old) (K.faults sink.new)
+        result.status }
 {
     let status = shelve_beside(rt, alloc, settings, source, sink, pacer, writer, reader);
     if !status.is_done() {
@@ -217,19 +206,16 @@ fn view_shelf<R: Threads + Wait + Sync, P: Pacer + Sync, S: Source + Send, K: Si
     mut readers: Vec<ViewReader>,
 ) -> Outcome
     requires job { settings.now.job ≡ Decode }
-    requires readable { IsReadable Decode settings.now.chains.items }
-    requires shown { IfSome settings.now.show IsShort }
-    requires binary { IfSome settings.now.binary IsShort }
+    requires read { AreRead settings.now }
     requires watched { IsWatched (meaning_of settings.now) }
     requires pending { pending writer.old ≡ nothing }
     requires published { published writer.old ≡ nothing }
     requires own { All (λ reader. reader_shelf reader ≡ shelf_of writer.old) readers.items }
     ensures views { ViewsOn ⟦<AnyDecoder as Keep>⟧.saves (meaning_of settings.now)
         (S.left source.old) (S.left source.new) (K.written sink.old) (K.written sink.new) result }
-    ensures unread { WhereUnread (NamesNoHead (meaning_of settings.now)) result.status
-        (source.new ≡ source.old) }
-    ensures read { SourceCause (S.faults source.old) (S.faults source.new) result.status }
-    ensures write { SinkCause (K.faults sink.old) (K.faults sink.new) result.status }
+    ensures causes { HasCauses (NamesNoHead (meaning_of settings.now)) (source.new ≡ source.old)
+        (S.faults source.old) (S.faults source.new) (K.faults sink.old) (K.faults sink.new)
+        result.status }
 {
     let Some(mut reader) = readers.pop() else {
         return Outcome {
@@ -260,16 +246,13 @@ pub(crate) fn view_stack<R: Threads + Wait + Sync, P: Pacer + Sync, S: Source + 
     pacer: &P,
 ) -> Outcome
     requires job { settings.now.job ≡ Decode }
-    requires readable { IsReadable Decode settings.now.chains.items }
-    requires shown { IfSome settings.now.show IsShort }
-    requires binary { IfSome settings.now.binary IsShort }
+    requires read { AreRead settings.now }
     requires watched { IsWatched (meaning_of settings.now) }
     ensures views { ViewsOn ⟦<AnyDecoder as Keep>⟧.saves (meaning_of settings.now)
         (S.left source.old) (S.left source.new) (K.written sink.old) (K.written sink.new) result }
-    ensures unread { WhereUnread (NamesNoHead (meaning_of settings.now)) result.status
-        (source.new ≡ source.old) }
-    ensures read { SourceCause (S.faults source.old) (S.faults source.new) result.status }
-    ensures write { SinkCause (K.faults sink.old) (K.faults sink.new) result.status }
+    ensures causes { HasCauses (NamesNoHead (meaning_of settings.now)) (source.new ≡ source.old)
+        (S.faults source.old) (S.faults source.new) (K.faults sink.old) (K.faults sink.new)
+        result.status }
 {
     let Ok((mut writer, readers)) = shelf(rt, alloc, 1) else {
         return Outcome {

@@ -4,8 +4,8 @@ ghost use Rattle.std.specs.String.{string_bytes};
 ghost use Rattle.view_store.specs.Listings.{nothing};
 ghost use Rattle.view_store.specs.Views.{pending, published, shelf_of};
 ghost use Rattle.ldecode.specs.Asking.{ListsNotes, NamesNoHead};
-ghost use Rattle.ldecode.specs.Headline.{Good, Headline, IsMade, Notified, SinkCause};
-ghost use Rattle.ldecode.specs.Headline.{SourceCause, WhereUnread, stream};
+ghost use Rattle.ldecode.specs.Calls.{HasCauses};
+ghost use Rattle.ldecode.specs.Headline.{Good, Headline, IsMade, Notified, stream};
 ghost use Rattle.ldecode.specs.Notices.{line_of, status_at_words};
 ghost use Rattle.ldecode.specs.Watching.{RunsShelved, RunsViewed, WatchedHeadline};
 
@@ -45,11 +45,10 @@ fn run_words<S: Source, K: Sink>(
 ) -> Outcome
     ensures runs { RunsViewed ⟦<AnyDecoder as Keep>⟧.saves (map string_bytes words.now)
         (S.left source.old) (S.left source.new) (K.written sink.old) (K.written sink.new) result }
-    ensures unread { WhereUnread (Good (map string_bytes words.now) NamesNoHead) result.status
-        (source.new ≡ source.old) }
     ensures made { Good (map string_bytes words.now) IsMade → source.new ≡ source.old }
-    ensures read { SourceCause (S.faults source.old) (S.faults source.new) result.status }
-    ensures write { SinkCause (K.faults sink.old) (K.faults sink.new) result.status }
+    ensures causes { HasCauses (Good (map string_bytes words.now) NamesNoHead)
+        (source.new ≡ source.old) (S.faults source.old) (S.faults source.new)
+        (K.faults sink.old) (K.faults sink.new) result.status }
 {
     let settings = match read_words(alloc, words) {
         Ok(settings) => settings,
@@ -80,11 +79,10 @@ fn run_words_in_threads<R: Threads + Wait + Sync, S: Source + Send, K: Sink, P: 
 ) -> Outcome
     ensures runs { RunsViewed ⟦<AnyDecoder as Keep>⟧.saves (map string_bytes words.now)
         (S.left source.old) (S.left source.new) (K.written sink.old) (K.written sink.new) result }
-    ensures unread { WhereUnread (Good (map string_bytes words.now) NamesNoHead) result.status
-        (source.new ≡ source.old) }
     ensures made { Good (map string_bytes words.now) IsMade → source.new ≡ source.old }
-    ensures read { SourceCause (S.faults source.old) (S.faults source.new) result.status }
-    ensures write { SinkCause (K.faults sink.old) (K.faults sink.new) result.status }
+    ensures causes { HasCauses (Good (map string_bytes words.now) NamesNoHead)
+        (source.new ≡ source.old) (S.faults source.old) (S.faults source.new)
+        (K.faults sink.old) (K.faults sink.new) result.status }
 {
     let settings = match read_words(alloc, words) {
         Ok(settings) => settings,
@@ -124,11 +122,10 @@ fn shelve_words<R: Threads + Wait + Sync, S: Source + Send, K: Sink, P: Pacer + 
         (published shelf.new) result }
     ensures shelf { shelf_of shelf.new ≡ shelf_of shelf.old }
     ensures left { (Good (map string_bytes words.now) ListsNotes → ⊥) → shelf.new ≡ shelf.old }
-    ensures unread { WhereUnread (Good (map string_bytes words.now) NamesNoHead) result
-        (source.new ≡ source.old) }
     ensures made { Good (map string_bytes words.now) IsMade → source.new ≡ source.old }
-    ensures read { SourceCause (S.faults source.old) (S.faults source.new) result }
-    ensures write { SinkCause (K.faults sink.old) (K.faults sink.new) result }
+    ensures causes { HasCauses (Good (map string_bytes words.now) NamesNoHead)
+        (source.new ≡ source.old) (S.faults source.old) (S.faults source.new)
+        (K.faults sink.old) (K.faults sink.new) result }
 {
     let settings = match read_words(alloc, words) {
         Ok(settings) => settings,

@@ -1,12 +1,10 @@
 // The work that settings ask for, where nobody looks on.
-ghost use Rattle.std.specs.Prelude.{◌≡◌, ◌≤◌, IfSome, length};
-ghost use Rattle.std.specs.String.{string_bytes};
-ghost use Rattle.words.specs.Readable.{IsReadable, IsShort};
+ghost use Rattle.std.specs.Prelude.{◌≡◌};
 ghost use Rattle.words.specs.Settings.{meaning_of};
 ghost use Rattle.words.specs.declared.kinds.Job.TheVariants.{Decode};
 ghost use Rattle.ldecode.specs.Asking.{NamesNoHead};
-ghost use Rattle.ldecode.specs.Headline.{DoesOn, IsMade, SinkCause, SourceCause, WhereUnread};
-ghost use Rattle.ldecode.specs.Headline.{WorksOn};
+ghost use Rattle.ldecode.specs.Calls.{AreRead, HasCauses};
+ghost use Rattle.ldecode.specs.Headline.{DoesOn, IsMade, WorksOn};
 
 use crate::decode_stack::{decode_stack, decode_stack_as_asked};
 use crate::make::make;
@@ -31,15 +29,12 @@ fn decode_here<S: Source, K: Sink>(
     sink: &mut K,
 ) -> Status
     requires job { settings.now.job ≡ Decode }
-    requires readable { IsReadable Decode settings.now.chains.items }
-    requires shown { IfSome settings.now.show IsShort }
-    requires binary { IfSome settings.now.binary IsShort }
+    requires read { AreRead settings.now }
     ensures works { WorksOn ⟦<AnyDecoder as Keep>⟧.saves (meaning_of settings.now)
         (S.left source.old) (S.left source.new) (K.written sink.old) (K.written sink.new) result }
-    ensures unread { WhereUnread (NamesNoHead (meaning_of settings.now)) result
-        (source.new ≡ source.old) }
-    ensures read { SourceCause (S.faults source.old) (S.faults source.new) result }
-    ensures write { SinkCause (K.faults sink.old) (K.faults sink.new) result }
+    ensures causes { HasCauses (NamesNoHead (meaning_of settings.now)) (source.new ≡ source.old)
+        (S.faults source.old) (S.faults source.new) (K.faults sink.old) (K.faults sink.new)
+        result }
 {
     let (ended, _) = decode_stack(alloc, settings, source, sink, Unwatched);
     status_by(ended)
@@ -55,15 +50,12 @@ fn decode_aside<R: Threads + Wait + Sync, P: Pacer + Sync, S: Source + Send, K: 
     pacer: &P,
 ) -> Status
     requires job { settings.now.job ≡ Decode }
-    requires readable { IsReadable Decode settings.now.chains.items }
-    requires shown { IfSome settings.now.show IsShort }
-    requires binary { IfSome settings.now.binary IsShort }
+    requires read { AreRead settings.now }
     ensures works { WorksOn ⟦<AnyDecoder as Keep>⟧.saves (meaning_of settings.now)
         (S.left source.old) (S.left source.new) (K.written sink.old) (K.written sink.new) result }
-    ensures unread { WhereUnread (NamesNoHead (meaning_of settings.now)) result
-        (source.new ≡ source.old) }
-    ensures read { SourceCause (S.faults source.old) (S.faults source.new) result }
-    ensures write { SinkCause (K.faults sink.old) (K.faults sink.new) result }
+    ensures causes { HasCauses (NamesNoHead (meaning_of settings.now)) (source.new ≡ source.old)
+        (S.faults source.old) (S.faults source.new) (K.faults sink.old) (K.faults sink.new)
+        result }
 {
     let (ended, _) = decode_stack_as_asked(rt, alloc, settings, source, sink, pacer, Unwatched);
     status_by(ended)
@@ -76,17 +68,13 @@ pub(crate) fn work_here<S: Source, K: Sink>(
     source: &mut S,
     sink: &mut K,
 ) -> Status
-    requires readable { IsReadable settings.now.job settings.now.chains.items }
-    requires shown { IfSome settings.now.show IsShort }
-    requires binary { IfSome settings.now.binary IsShort }
-    requires from { IfSome settings.now.from (λ text. length (string_bytes text) ≤ 4096) }
+    requires read { AreRead settings.now }
     ensures does { DoesOn ⟦<AnyDecoder as Keep>⟧.saves (meaning_of settings.now)
         (S.left source.old) (S.left source.new) (K.written sink.old) (K.written sink.new) result }
-    ensures unread { WhereUnread (NamesNoHead (meaning_of settings.now)) result
-        (source.new ≡ source.old) }
     ensures made { IsMade (meaning_of settings.now) → source.new ≡ source.old }
-    ensures read { SourceCause (S.faults source.old) (S.faults source.new) result }
-    ensures write { SinkCause (K.faults sink.old) (K.faults sink.new) result }
+    ensures causes { HasCauses (NamesNoHead (meaning_of settings.now)) (source.new ≡ source.old)
+        (S.faults source.old) (S.faults source.new) (K.faults sink.old) (K.faults sink.new)
+        result }
 {
     match settings.job {
         Job::Find => search(alloc, settings, source, sink),
@@ -106,17 +94,13 @@ pub(crate) fn work_aside<R: Threads + Wait + Sync, P: Pacer + Sync, S: Source + 
     sink: &mut K,
     pacer: &P,
 ) -> Status
-    requires readable { IsReadable settings.now.job settings.now.chains.items }
-    requires shown { IfSome settings.now.show IsShort }
-    requires binary { IfSome settings.now.binary IsShort }
-    requires from { IfSome settings.now.from (λ text. length (string_bytes text) ≤ 4096) }
+    requires read { AreRead settings.now }
     ensures does { DoesOn ⟦<AnyDecoder as Keep>⟧.saves (meaning_of settings.now)
         (S.left source.old) (S.left source.new) (K.written sink.old) (K.written sink.new) result }
-    ensures unread { WhereUnread (NamesNoHead (meaning_of settings.now)) result
-        (source.new ≡ source.old) }
     ensures made { IsMade (meaning_of settings.now) → source.new ≡ source.old }
-    ensures read { SourceCause (S.faults source.old) (S.faults source.new) result }
-    ensures write { SinkCause (K.faults sink.old) (K.faults sink.new) result }
+    ensures causes { HasCauses (NamesNoHead (meaning_of settings.now)) (source.new ≡ source.old)
+        (S.faults source.old) (S.faults source.new) (K.faults sink.old) (K.faults sink.new)
+        result }
 {
     match settings.job {
         Job::Decode => decode_aside(rt, alloc, settings, source, sink, pacer),

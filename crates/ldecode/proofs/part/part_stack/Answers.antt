@@ -10,8 +10,12 @@ use Rattle.ldecode.proofs.Opened.{part_comes_by, seen_text}
 use Rattle.ldecode.proofs.Working.{works_refused}
 use Rattle.ldecode.proofs.part.part_stack.Goals as goal
 
-pub returns-in-Err-clause-write : goal.returns-in-Err-clause-write
-returns-in-Err-clause-write g c = c.in-Err.ensures.write (g.K.Sink.faults c.args.sink.now)
+pub returns-in-Err-clause-causes : goal.returns-in-Err-clause-causes
+returns-in-Err-clause-causes g c = record {
+  unread = c.in-Err.ensures.unread;
+  read = c.in-Err.ensures.read;
+  write = c.in-Err.ensures.write (g.K.Sink.faults c.args.sink.now);
+}
 
 pub returns-in-Err-clause-works : goal.returns-in-Err-clause-works
 returns-in-Err-clause-works g c = works_refused _ (meaning_of c.args.settings.now) _ _ (g.K.Sink.written c.args.sink.now) _ c.in-Err.ensures.refuses

@@ -1,4 +1,4 @@
-use Rattle.std.proofs.Common.{inl, refl, sym, ◌∙◌, subst}
+use Rattle.std.proofs.Common.{rules, inl, refl, sym, ◌∙◌, subst}
 use Rattle.std.specs.Prelude.{Ok, Err, ℕ, List}
 use Rattle.wait_cond.specs.Conds.{cond_alts}
 use Rattle.words.specs.Settings.{meaning_of}
@@ -44,5 +44,9 @@ returns-clause-works g c =
     (search_ends _ values c.form_of.result c.form_of.ensures.named (inl c.requires.job) (g.S.Source.left c.args.source.now) (g.S.Source.left c.open.new.source) (g.K.Sink.written c.args.sink.now) capture opens now wanted.pins.items
     (c.select.ensures.form ∙ c.in-Ok.ensures.form) c.select.ensures.pins (g.S.Source.left c.find_buffered.new.source) (g.K.Sink.written c.find_buffered.new.sink) (cond_alts wanted.cond) c.find_buffered.result asks c.find_buffered.ensures.memory lists)
 
-pub returns-in-Err-Fault-clause-unread : goal.returns-in-Err-Fault-clause-unread
-returns-in-Err-Fault-clause-unread g c = λ names. c.in-Ok.ensures.unread (no_head_here (meaning_of c.args.settings.now) c.form_of.result c.form_of.ensures.named names)
+pub returns-in-Err-Fault-clause-causes : goal.returns-in-Err-Fault-clause-causes
+returns-in-Err-Fault-clause-causes g c = record {
+  unread = λ names. c.in-Ok.ensures.unread (no_head_here (meaning_of c.args.settings.now) c.form_of.result c.form_of.ensures.named names);
+  read = search rules;
+  write = search rules;
+}

@@ -17,7 +17,7 @@ returns-then-not-is_done-clause-views g c =
     let old = g.K.Sink.written c.args.sink.now in
     let new = g.K.Sink.written ran.new.sink in
     not_done _ values left_old left_new old new c.status_by-status.result (sym c.is_done.ensures ∙ c.if-not-is_done.true)
-    (subst (WorksOn _ values left_old left_new old new) (sym c.status_by-status.ensures) (works_by _ values (λ entries. ran.result.1.count ≡ length entries) _ g.K.Sink.written left_old left_new c.args.sink.now ran.new.sink ran.result.0 ran.ensures.decodes ran.ensures.refuses ran.ensures.untouched))
+    (subst (WorksOn _ values left_old left_new old new) (sym c.status_by-status.ensures) (works_by _ values (λ entries. ran.result.1.count ≡ length entries) _ g.K.Sink.written left_old left_new c.args.sink.now ran.new.sink ran.result.0 ran.ensures.decodes.decodes ran.ensures.decodes.refuses ran.ensures.decodes.untouched))
 
 pub returns-clause-views : goal.returns-clause-views
 returns-clause-views g c =
@@ -28,4 +28,4 @@ returns-clause-views g c =
     let old = g.K.Sink.written c.args.sink.now in
     let new = g.K.Sink.written ran.new.sink in
     subst (λ (s : Status). ViewsOn _ values left_old left_new old new (record { status = s; seen = Some c.count.result })) (sym c.status_by-status.ensures)
-    (counted _ values left_old left_new old new c.requires.watched c.count.result (λ entries. ran.result.1.count ≡ length entries) (λ entries seen. c.count.ensures ∙ seen) ran.result.0 (ap is_done (sym c.status_by-status.ensures) ∙ (sym c.is_done.ensures ∙ c.if-not-is_done.false)) ran.ensures.decodes ran.ensures.refuses)
+    (counted _ values left_old left_new old new c.requires.watched c.count.result (λ entries. ran.result.1.count ≡ length entries) (λ entries seen. c.count.ensures ∙ seen) ran.result.0 (ap is_done (sym c.status_by-status.ensures) ∙ (sym c.is_done.ensures ∙ c.if-not-is_done.false)) ran.ensures.decodes.decodes ran.ensures.decodes.refuses)

@@ -8,4 +8,4 @@ pub returns-clause-headline : goal.returns-clause-headline
 returns-clause-headline g c =
     let ran = c.shelve_words-status in
     watched _ (map string_bytes c.args.words.now) (stream g.S.Source.left g.S.Source.faults c.args.source.now ran.new.source) (stream g.K.Sink.written g.K.Sink.faults c.args.sink.now ran.new.sink)
-    (stream g.E.Sink.written g.E.Sink.faults c.args.notices.now c.tell.new.notices) (ran.new.source ≡ c.args.source.now) ran.result _ ran.ensures.runs ran.ensures.read ran.ensures.write ran.ensures.unread ran.ensures.made c.tell.ensures
+    (stream g.E.Sink.written g.E.Sink.faults c.args.notices.now c.tell.new.notices) (ran.new.source ≡ c.args.source.now) ran.result _ ran.ensures.runs ran.ensures.causes.read ran.ensures.causes.write ran.ensures.causes.unread ran.ensures.made c.tell.ensures

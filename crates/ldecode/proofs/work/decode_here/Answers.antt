@@ -11,4 +11,4 @@ returns-clause-works g c =
     let left_old = g.S.Source.left c.args.source.now in
     let left_new = g.S.Source.left ran.new.source in
     let k = g.K.Sink in
-    subst (WorksOn _ values left_old left_new (k.written c.args.sink.now) (k.written ran.new.sink)) (sym c.status_by.ensures) (works_by _ values (λ entries. Unit {0}) _ k.written left_old left_new c.args.sink.now ran.new.sink ran.result.0 ran.ensures.decodes ran.ensures.refuses ran.ensures.untouched)
+    subst (WorksOn _ values left_old left_new (k.written c.args.sink.now) (k.written ran.new.sink)) (sym c.status_by.ensures) (works_by _ values (λ entries. Unit {0}) _ k.written left_old left_new c.args.sink.now ran.new.sink ran.result.0 ran.ensures.decodes.decodes ran.ensures.decodes.refuses ran.ensures.decodes.untouched)

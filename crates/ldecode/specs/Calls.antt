@@ -1,0 +1,37 @@
+-- What the calls of a run ask of the settings, and what they say of the causes of their status.
+use Rattle.std.specs.Prelude.{ℕ, ◌≡◌, ◌≤◌, List, Option, Result, IfErr, IfOk, IfSome, length}
+use Rattle.std.specs.String.{string_bytes}
+use Rattle.capture_any.specs.declared.end.ListingEnd.{ListingEnd}
+use Rattle.note_order.specs.declared.entry.Entry.{Entry}
+use Rattle.words.specs.Readable.{IsReadable, IsShort}
+use Rattle.words.specs.Settings.{Values}
+use Rattle.words.specs.declared.settings.Settings.{Settings}
+use Rattle.ldecode.specs.Headline.{DecodesOn, RefusesOn, SinkCause, SourceCause, WhereUnread}
+use Rattle.ldecode.specs.Watching.{IsSeen, IsSeenFront}
+use Rattle.ldecode.specs.declared.status.Status.{Status}
+
+-- settings are as words are read: as many as their job takes, and none too long
+pub record AreRead (settings : Settings) : Type 0 where
+  pub readable : IsReadable settings.job settings.chains.items
+  pub shown : IfSome settings.show IsShort
+  pub binary : IfSome settings.binary IsShort
+  pub checkpoint : IfSome settings.from (λ text. length (string_bytes text) ≤ 4096)
+
+-- a status has its causes: where it is a refusal nothing was read, and it says whether the source
+-- failed, and whether the sink did
+pub record HasCauses (NoHead Unread : Type 0) (read_old read_new write_old write_new : ℕ)
+    (status : Status) : Type 0 where
+  pub unread : WhereUnread NoHead status Unread
+  pub read : SourceCause read_old read_new status
+  pub write : SinkCause write_old write_new status
+
+-- a decoding wrote what was asked for, and what looks on saw its notes; one that couldn't begin wrote
+-- nothing, and nothing was seen
+pub record DecodesAs {K W : Type 0} (values : Values) (saw : W → List Entry → Type 0)
+    (written : K → Option (List ℕ)) (left_old left_new : Option (List ℕ)) (sink_old sink_new : K)
+    (watch_old watch_new : W) (ended : Result ListingEnd Status) : Type 0 where
+  pub decodes : IfOk ended (DecodesOn values
+      (IsSeen (saw watch_new) (written sink_old) (written sink_new))
+      (IsSeenFront (saw watch_new) (written sink_old) (written sink_new)) left_old left_new)
+  pub refuses : IfErr ended (RefusesOn values left_old left_new)
+  pub untouched : IfErr ended (λ _. (sink_new ≡ sink_old) × (watch_new ≡ watch_old))
