@@ -1,9 +1,6 @@
 pub mod ListLemmas
 pub mod WholeRows
 pub mod Carried
-pub mod Handing
-pub mod KindLemmas
 pub mod Seen
-pub mod Following
-pub mod Owned
+pub mod Held
 pub mod Kept

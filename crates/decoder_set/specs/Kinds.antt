@@ -200,6 +200,22 @@ kinds =
     I2c ∷ Spi ∷ Uart ∷ OwLink ∷ OwNet ∷ Eeprom24 ∷ Ds1307 ∷ Lm75 ∷ Ds18b20 ∷ Flash25 ∷ Modbus
     ∷ Midi ∷ []
 
+-- the number of a kind in a checkpoint. What was written is read again, so that numbers are only
+-- added: a further kind takes the next one, and none is ever given anew
+abbrev pub place_of : Kind → ℕ
+place_of I2c = 0
+place_of Spi = 1
+place_of Uart = 2
+place_of OwLink = 3
+place_of OwNet = 4
+place_of Eeprom24 = 5
+place_of Ds1307 = 6
+place_of Lm75 = 7
+place_of Ds18b20 = 8
+place_of Flash25 = 9
+place_of Modbus = 10
+place_of Midi = 11
+
 -- the kind of a name
 abbrev pub kind_of : Text → Option Kind
 kind_of name = find (λ kind. bytes_eq (kind_row kind).name name) kinds

@@ -4,7 +4,9 @@ pub mod Options
 pub mod Setups
 pub mod laws
 pub mod Faults
+pub mod Views
 pub mod Owning
 pub mod Opening
+pub mod Members
 pub mod Whole
 pub mod Saving

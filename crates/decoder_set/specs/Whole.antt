@@ -7,37 +7,14 @@ use Rattle.la_base.specs.declared.wires.Wire.TheVariants.{Logic}
 use Rattle.decoder_core.specs.Inputs.{Item, Sample, Pack}
 use Rattle.decoder_core.specs.Driving.{SameState}
 use Rattle.decoder_core.specs.declared.driver.Driver.{Driver}
-use Rattle.dec_i2c.specs.declared.held.Bus.{Bus}
-use Rattle.dec_i2c.specs.declared.held.I2c.{I2c}
-use Rattle.dec_midi.specs.declared.held.Midi.{Midi}
-use Rattle.dec_midi.specs.declared.held.MidiOpts.{MidiOpts}
-use Rattle.dec_modbus.specs.declared.held.Line.{Line as ModbusLine}
-use Rattle.dec_modbus.specs.declared.held.Modbus.{Modbus}
-use Rattle.dec_spi.specs.declared.held.Spi.{Spi}
-use Rattle.dec_spi.specs.declared.options.SpiOpts.{SpiOpts}
-use Rattle.dec_uart.specs.declared.held.Line.{Line}
-use Rattle.dec_uart.specs.declared.held.Uart.{Uart}
-use Rattle.dec_onewire.specs.declared.link.held.Line.{Line as DqLine}
-use Rattle.dec_onewire.specs.declared.link.held.OwLink.{OwLink}
-use Rattle.dec_onewire.specs.declared.net.held.OwNet.{OwNet}
-use Rattle.dec_onewire.specs.declared.net.held.OwNetOpts.{OwNetOpts}
-use Rattle.dev_ds18b20.specs.Opening.{ProbeDecoder}
-use Rattle.dev_ds18b20.specs.declared.held.ProbeOpts.{ProbeOpts}
-use Rattle.dev_ds1307.specs.declared.chip.Chip.{Chip as ClockChip}
-use Rattle.dev_ds1307.specs.declared.held.Clock.{Clock}
-use Rattle.dev_flash25.specs.Opening.{FlashDecoder}
-use Rattle.dev_flash25.specs.declared.held.FlashOpts.{FlashOpts}
-use Rattle.dev_lm75.specs.declared.chip.Chip.{Chip as Lm75Chip}
-use Rattle.dev_lm75.specs.declared.held.Lm75.{Lm75}
 use Rattle.decoder_core.specs.declared.follower.Follower.{Follower}
-use Rattle.dev_eeprom24.specs.declared.chip.Chip.{Chip}
-use Rattle.dev_eeprom24.specs.declared.held.Eeprom.{Eeprom}
-use Rattle.i2c_phases.specs.declared.phased.Phased.{Phased}
 use Rattle.decoder_set.specs.declared.any_machine.AnyMachine.{AnyMachine}
-use Rattle.decoder_set.specs.declared.any_machine.AnyMachine.TheVariants as machine
 use Rattle.decoder_set.specs.declared.any.AnyDecoder.{AnyDecoder}
 use Rattle.decoder_set.specs.Opening.{setup_of}
 use Rattle.decoder_set.specs.Kinds.{Form, Pin, Number, Choice, Row}
+use Rattle.decoder_set.specs.Views.{Inner, inner, kind_in, parts_of}
+use Rattle.decoder_set.specs.declared.kinds.Kind.{Kind}
+use Rattle.decoder_set.specs.declared.kinds.Kind.TheVariants as kind
 
 -- the usual value of an option is one that it takes
 abbrev pub usual_fits : Form → Bool
@@ -74,44 +51,26 @@ SameDriver one other = SameState one.machine other.machine one.waiter other.wait
 abbrev pub SameFollower : {D S : Type 0} → Follower D S → Follower D S → Type 0
 SameFollower one other = (one.machine ≡ other.machine) × (one.from ≡ other.from)
 
+-- machines of a kind hold the same
+abbrev pub SameInner : (kind : Kind) → Inner kind → Inner kind → Type 0
+SameInner kind.I2c one other = SameDriver one other
+SameInner kind.Spi one other = SameDriver one other
+SameInner kind.Uart one other = SameDriver one other
+SameInner kind.OwLink one other = SameDriver one other
+SameInner kind.OwNet one other = SameFollower one other
+SameInner kind.Eeprom24 one other = SameFollower one other
+SameInner kind.Ds1307 one other = SameFollower one other
+SameInner kind.Lm75 one other = SameFollower one other
+SameInner kind.Ds18b20 one other = SameFollower one other
+SameInner kind.Flash25 one other = SameFollower one other
+SameInner kind.Modbus one other = SameFollower one other
+SameInner kind.Midi one other = SameFollower one other
+
 -- a machine is that of a kind, and holds the same
 abbrev pub SameMachine : AnyMachine → AnyMachine → Type 0
-SameMachine (machine.I2c one) held =
-    (other : Driver I2c Bus) × (held ≡ machine.I2c other)
-    × SameDriver one other
-SameMachine (machine.Spi one) held =
-    (other : Driver Spi SpiOpts) × (held ≡ machine.Spi other)
-    × SameDriver one other
-SameMachine (machine.Uart one) held =
-    (other : Driver Uart Line) × (held ≡ machine.Uart other)
-    × SameDriver one other
-SameMachine (machine.OwLink one) held =
-    (other : Driver OwLink DqLine) × (held ≡ machine.OwLink other)
-    × SameDriver one other
-SameMachine (machine.OwNet one) held =
-    (other : Follower OwNet OwNetOpts) × (held ≡ machine.OwNet other)
-    × SameFollower one other
-SameMachine (machine.Eeprom24 one) held =
-    (other : Follower (Phased Eeprom Chip) Chip) × (held ≡ machine.Eeprom24 other)
-    × SameFollower one other
-SameMachine (machine.Ds1307 one) held =
-    (other : Follower (Phased Clock ClockChip) ClockChip) × (held ≡ machine.Ds1307 other)
-    × SameFollower one other
-SameMachine (machine.Lm75 one) held =
-    (other : Follower (Phased Lm75 Lm75Chip) Lm75Chip) × (held ≡ machine.Lm75 other)
-    × SameFollower one other
-SameMachine (machine.Ds18b20 one) held =
-    (other : Follower ProbeDecoder ProbeOpts) × (held ≡ machine.Ds18b20 other)
-    × SameFollower one other
-SameMachine (machine.Flash25 one) held =
-    (other : Follower FlashDecoder FlashOpts) × (held ≡ machine.Flash25 other)
-    × SameFollower one other
-SameMachine (machine.Modbus one) held =
-    (other : Follower Modbus ModbusLine) × (held ≡ machine.Modbus other)
-    × SameFollower one other
-SameMachine (machine.Midi one) held =
-    (other : Follower Midi MidiOpts) × (held ≡ machine.Midi other)
-    × SameFollower one other
+SameMachine one other =
+    (held : Inner (kind_in one)) × (parts_of other ≡ (kind_in one, held))
+    × SameInner (kind_in one) (inner one) held
 
 -- two decoders hold the same
 pub record SameDecoder (one other : AnyDecoder) : Type 0 where

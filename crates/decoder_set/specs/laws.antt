@@ -3,5 +3,6 @@ pub mod RangeLaws
 pub mod FitLaws
 pub mod KindLaws
 pub mod OwnLaws
+pub mod MemberLaws
 pub mod OneDecoder
 pub mod SavedLaws

@@ -29,3 +29,25 @@ pub enum AnyMachine {
     Modbus(Follower<Modbus>),
     Midi(Follower<Midi>),
 }
+
+// What one expression answers of a machine, whichever it is.
+macro_rules! each {
+    ($machine:expr, $held:ident => $answer:expr) => {
+        match $machine {
+            AnyMachine::I2c($held) => $answer,
+            AnyMachine::Spi($held) => $answer,
+            AnyMachine::Uart($held) => $answer,
+            AnyMachine::OwLink($held) => $answer,
+            AnyMachine::OwNet($held) => $answer,
+            AnyMachine::Eeprom24($held) => $answer,
+            AnyMachine::Ds1307($held) => $answer,
+            AnyMachine::Lm75($held) => $answer,
+            AnyMachine::Ds18b20($held) => $answer,
+            AnyMachine::Flash25($held) => $answer,
+            AnyMachine::Modbus($held) => $answer,
+            AnyMachine::Midi($held) => $answer,
+        }
+    };
+}
+
+pub(crate) use each;

@@ -7,9 +7,12 @@ mod keep;
 mod kinds;
 mod laws;
 mod machine;
+mod member;
+mod members;
 mod opening;
 mod options;
 mod setup;
+mod stepping;
 mod table;
 mod texts;
 mod values;
@@ -23,7 +26,7 @@ pub use laws::{
 pub use setup::{MOST_OPTIONS, OptValues, Setup};
 pub use table::{
     KINDS, asked_of, class_of, classes_of, groups_of, input_of, kind_name, kind_of, options_of,
-    output_of, word_place,
+    output_of, place_of, word_place,
 };
 pub use texts::note_text;
 pub use values::number_of;

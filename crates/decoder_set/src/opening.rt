@@ -3,13 +3,8 @@ ghost use Rattle.std.specs.Prelude.{◌≡◌, ◌≤◌, ◌^◌, true, false, 
 ghost use Rattle.la_base.specs.declared.samples.TheConstants.{MOST_PINS};
 ghost use Rattle.decoder_core.specs.declared.faults.OptFault.TheVariants.{Rate as TooSlow};
 ghost use Rattle.decoder_set.specs.Faults.{too_slow};
-ghost use Rattle.decoder_set.specs.Opening.{Opens, ClockConsumed, Consumed, EepromConsumed};
-ghost use Rattle.decoder_set.specs.Opening.{FlashConsumed, I2cConsumed, LinkConsumed, Lm75Consumed};
-ghost use Rattle.decoder_set.specs.Opening.{MidiConsumed, ModbusConsumed, NetConsumed};
-ghost use Rattle.decoder_set.specs.Opening.{ProbeConsumed, SpiConsumed, UartConsumed};
-ghost use Rattle.decoder_set.specs.Options.{clock_options, eeprom_options, i2c_options};
-ghost use Rattle.decoder_set.specs.Options.{link_options, lm75_options, modbus_options};
-ghost use Rattle.decoder_set.specs.Options.{spi_options, uart_options};
+ghost use Rattle.decoder_set.specs.Opening.{Consumed, ConsumedAs, Opens};
+ghost use Rattle.decoder_set.specs.declared.any_machine.AnyMachine.TheVariants as AnyMachine;
 ghost use Rattle.decoder_set.specs.Values.{in_range};
 
 use crate::any_machine::AnyMachine;
@@ -37,7 +32,8 @@ use la_base::Rate;
 // An I2C decoder of values in range.
 fn open_i2c(values: &OptValues, rate: Rate) -> Result<Driver<I2c>, OptFault>
     requires { in_range MOST_PINS Kind.I2c values.now.given ≡ true }
-    ensures opens { IfOk result (λ driver. I2cConsumed (i2c_options values.now.given) driver []) }
+    ensures opens { IfOk result
+        (λ driver. ConsumedAs values.now.given rate (AnyMachine.I2c driver) []) }
     ensures always { IsOk result }
 {
     match I2c::open(i2c_options(values), rate) {
@@ -49,7 +45,8 @@ fn open_i2c(values: &OptValues, rate: Rate) -> Result<Driver<I2c>, OptFault>
 // An SPI decoder of values in range.
 fn open_spi(values: &OptValues, rate: Rate) -> Result<Driver<Spi>, OptFault>
     requires { in_range MOST_PINS Kind.Spi values.now.given ≡ true }
-    ensures opens { IfOk result (λ driver. SpiConsumed (spi_options values.now.given) driver []) }
+    ensures opens { IfOk result
+        (λ driver. ConsumedAs values.now.given rate (AnyMachine.Spi driver) []) }
     ensures always { IsOk result }
 {
     match Spi::open(spi_options(values), rate) {
@@ -63,7 +60,7 @@ fn open_uart(values: &OptValues, rate: Rate) -> Result<Driver<Uart>, OptFault>
     requires range { in_range MOST_PINS Kind.Uart values.now.given ≡ true }
     requires rate { rate.num ≤ 10 ^ 15 }
     ensures opens { IfOk result
-        (λ driver. UartConsumed (uart_options values.now.given) rate driver []) }
+        (λ driver. ConsumedAs values.now.given rate (AnyMachine.Uart driver) []) }
     ensures fast { OnOk result (too_slow Kind.Uart values.now.given rate ≡ false) }
     ensures slow { OnErr result (too_slow Kind.Uart values.now.given rate ≡ true) }
     ensures fault { IfErr result (λ fault. fault ≡ TooSlow) }
@@ -78,7 +75,7 @@ fn open_uart(values: &OptValues, rate: Rate) -> Result<Driver<Uart>, OptFault>
 fn open_eeprom(values: &OptValues, rate: Rate) -> Result<Follower<Phased<Eeprom>>, OptFault>
     requires { in_range MOST_PINS Kind.Eeprom24 values.now.given ≡ true }
     ensures opens { IfOk result
-        (λ follower. EepromConsumed (eeprom_options values.now.given) follower []) }
+        (λ follower. ConsumedAs values.now.given rate (AnyMachine.Eeprom24 follower) []) }
     ensures always { IsOk result }
 {
     match Eeprom::open(eeprom_options(values), rate) {
@@ -92,7 +89,7 @@ fn open_link(values: &OptValues, rate: Rate) -> Result<Driver<OwLink>, OptFault>
     requires range { in_range MOST_PINS Kind.OwLink values.now.given ≡ true }
     requires rate { rate.num ≤ 10 ^ 15 }
     ensures opens { IfOk result
-        (λ driver. LinkConsumed (link_options values.now.given) rate driver []) }
+        (λ driver. ConsumedAs values.now.given rate (AnyMachine.OwLink driver) []) }
     ensures fast { OnOk result (too_slow Kind.OwLink values.now.given rate ≡ false) }
     ensures slow { OnErr result (too_slow Kind.OwLink values.now.given rate ≡ true) }
     ensures fault { IfErr result (λ fault. fault ≡ TooSlow) }
@@ -104,8 +101,9 @@ fn open_link(values: &OptValues, rate: Rate) -> Result<Driver<OwLink>, OptFault>
 }
 
 // A decoder of the network of a 1-Wire line.
-fn open_net(rate: Rate) -> Result<Follower<OwNet>, OptFault>
-    ensures opens { IfOk result (λ follower. NetConsumed follower []) }
+fn open_net(_values: &OptValues, rate: Rate) -> Result<Follower<OwNet>, OptFault>
+    ensures opens { IfOk result
+        (λ follower. ConsumedAs _values.now.given rate (AnyMachine.OwNet follower) []) }
     ensures always { IsOk result }
 {
     match OwNet::open(OwNetOpts {}, rate) {
@@ -118,7 +116,7 @@ fn open_net(rate: Rate) -> Result<Follower<OwNet>, OptFault>
 fn open_clock(values: &OptValues, rate: Rate) -> Result<Follower<Phased<Clock>>, OptFault>
     requires { in_range MOST_PINS Kind.Ds1307 values.now.given ≡ true }
     ensures opens { IfOk result
-        (λ follower. ClockConsumed (clock_options values.now.given) follower []) }
+        (λ follower. ConsumedAs values.now.given rate (AnyMachine.Ds1307 follower) []) }
     ensures always { IsOk result }
 {
     match Clock::open(clock_options(values), rate) {
@@ -131,7 +129,7 @@ fn open_clock(values: &OptValues, rate: Rate) -> Result<Follower<Phased<Clock>>,
 fn open_lm75(values: &OptValues, rate: Rate) -> Result<Follower<Phased<Lm75>>, OptFault>
     requires { in_range MOST_PINS Kind.Lm75 values.now.given ≡ true }
     ensures opens { IfOk result
-        (λ follower. Lm75Consumed (lm75_options values.now.given) follower []) }
+        (λ follower. ConsumedAs values.now.given rate (AnyMachine.Lm75 follower) []) }
     ensures always { IsOk result }
 {
     match Lm75::open(lm75_options(values), rate) {
@@ -141,8 +139,9 @@ fn open_lm75(values: &OptValues, rate: Rate) -> Result<Follower<Phased<Lm75>>, O
 }
 
 // A decoder of a DS18B20.
-fn open_probe(rate: Rate) -> Result<Follower<Probe>, OptFault>
-    ensures opens { IfOk result (λ follower. ProbeConsumed follower []) }
+fn open_probe(_values: &OptValues, rate: Rate) -> Result<Follower<Probe>, OptFault>
+    ensures opens { IfOk result
+        (λ follower. ConsumedAs _values.now.given rate (AnyMachine.Ds18b20 follower) []) }
     ensures always { IsOk result }
 {
     match Probe::open(ProbeOpts {}, rate) {
@@ -152,8 +151,9 @@ fn open_probe(rate: Rate) -> Result<Follower<Probe>, OptFault>
 }
 
 // A decoder of a serial flash.
-fn open_flash(rate: Rate) -> Result<Follower<Flash>, OptFault>
-    ensures opens { IfOk result (λ follower. FlashConsumed follower []) }
+fn open_flash(_values: &OptValues, rate: Rate) -> Result<Follower<Flash>, OptFault>
+    ensures opens { IfOk result
+        (λ follower. ConsumedAs _values.now.given rate (AnyMachine.Flash25 follower) []) }
     ensures always { IsOk result }
 {
     match Flash::open(FlashOpts {}, rate) {
@@ -167,7 +167,7 @@ fn open_modbus(values: &OptValues, rate: Rate) -> Result<Follower<Modbus>, OptFa
     requires range { in_range MOST_PINS Kind.Modbus values.now.given ≡ true }
     requires rate { rate.num ≤ 10 ^ 15 }
     ensures opens { IfOk result
-        (λ follower. ModbusConsumed (modbus_options values.now.given) rate follower []) }
+        (λ follower. ConsumedAs values.now.given rate (AnyMachine.Modbus follower) []) }
     ensures always { IsOk result }
 {
     match Modbus::open(modbus_options(values), rate) {
@@ -177,8 +177,9 @@ fn open_modbus(values: &OptValues, rate: Rate) -> Result<Follower<Modbus>, OptFa
 }
 
 // A decoder of MIDI.
-fn open_midi(rate: Rate) -> Result<Follower<Midi>, OptFault>
-    ensures opens { IfOk result (λ follower. MidiConsumed follower []) }
+fn open_midi(_values: &OptValues, rate: Rate) -> Result<Follower<Midi>, OptFault>
+    ensures opens { IfOk result
+        (λ follower. ConsumedAs _values.now.given rate (AnyMachine.Midi follower) []) }
     ensures always { IsOk result }
 {
     match Midi::open(MidiOpts {}, rate) {
@@ -213,7 +214,7 @@ fn open_machine(kind: Kind, values: &OptValues, rate: Rate) -> Result<AnyMachine
             Ok(driver) => Ok(AnyMachine::OwLink(driver)),
             Err(fault) => Err(fault),
         },
-        Kind::OwNet => match open_net(rate) {
+        Kind::OwNet => match open_net(values, rate) {
             Ok(follower) => Ok(AnyMachine::OwNet(follower)),
             Err(fault) => Err(fault),
         },
@@ -229,11 +230,11 @@ fn open_machine(kind: Kind, values: &OptValues, rate: Rate) -> Result<AnyMachine
             Ok(follower) => Ok(AnyMachine::Lm75(follower)),
             Err(fault) => Err(fault),
         },
-        Kind::Ds18b20 => match open_probe(rate) {
+        Kind::Ds18b20 => match open_probe(values, rate) {
             Ok(follower) => Ok(AnyMachine::Ds18b20(follower)),
             Err(fault) => Err(fault),
         },
-        Kind::Flash25 => match open_flash(rate) {
+        Kind::Flash25 => match open_flash(values, rate) {
             Ok(follower) => Ok(AnyMachine::Flash25(follower)),
             Err(fault) => Err(fault),
         },
@@ -241,7 +242,7 @@ fn open_machine(kind: Kind, values: &OptValues, rate: Rate) -> Result<AnyMachine
             Ok(follower) => Ok(AnyMachine::Modbus(follower)),
             Err(fault) => Err(fault),
         },
-        Kind::Midi => match open_midi(rate) {
+        Kind::Midi => match open_midi(values, rate) {
             Ok(follower) => Ok(AnyMachine::Midi(follower)),
             Err(fault) => Err(fault),
         },

@@ -3,6 +3,7 @@ ghost use Rattle.std.specs.Prelude.{◌≡◌, ◌≤◌, ◌<◌, length, map, 
 ghost use Rattle.std.specs.List.{position};
 ghost use Rattle.std.specs.Str.{bytes_eq};
 ghost use Rattle.decoder_set.specs.Kinds.{kind_row, row_of, opt_row, kind_of, class_of};
+ghost use Rattle.decoder_set.specs.Kinds.{place_of};
 
 use crate::kinds::{Asked, Kind, KindRow, OptForm, OptRow};
 use la_base::Wire;
@@ -363,6 +364,27 @@ pub fn row(kind: Kind) -> KindRow
         Kind::Flash25 => FLASH25,
         Kind::Modbus => MODBUS,
         Kind::Midi => MIDI,
+    }
+}
+
+/// The number of a kind in a checkpoint. What was written is read again, so that numbers are only
+/// added: a further kind takes the next one, and none is ever given anew.
+pub fn place_of(kind: Kind) -> u8
+    ensures { result ≡ place_of kind }
+{
+    match kind {
+        Kind::I2c => 0,
+        Kind::Spi => 1,
+        Kind::Uart => 2,
+        Kind::OwLink => 3,
+        Kind::OwNet => 4,
+        Kind::Eeprom24 => 5,
+        Kind::Ds1307 => 6,
+        Kind::Lm75 => 7,
+        Kind::Ds18b20 => 8,
+        Kind::Flash25 => 9,
+        Kind::Modbus => 10,
+        Kind::Midi => 11,
     }
 }
 

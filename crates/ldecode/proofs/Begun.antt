@@ -19,7 +19,8 @@ use Rattle.check_laws.specs.Resuming.{IsCheckBehind}
 use Rattle.decoder_set.specs.Setups.{outs_of}
 use Rattle.tree_runs.specs.Machines.{Stand}
 use Rattle.tree_runs.specs.Runs.{StandOn, nodes_of}
-use Rattle.ldecode.specs.Parting.{AreSaved, Begun, CanBegin, CantBegin, IsRefused, IsTaken, Saves, most_samples, place_of, places_of}
+use Rattle.ldecode.specs.Parting.{AreSaved, Begun, CanBegin, CantBegin, IsRefused, IsTaken, Saves, most_samples, places_of}
+use Rattle.decoder_set.specs.Kinds.{place_of}
 use Rattle.ldecode.specs.Parts.{CameBefore, parents_on, setups_on}
 
 -- the decoder at a place has the setup at that place

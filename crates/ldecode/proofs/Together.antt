@@ -13,7 +13,7 @@ use Rattle.decoder_set.specs.Opening.{opened_by, setup_of}
 use Rattle.decoder_set.specs.Setups.{outs_of}
 use Rattle.decoder_set.specs.declared.any.AnyDecoder.{AnyDecoder}
 use Rattle.decoder_set.specs.declared.setup.Setup.{Setup}
-use Rattle.decoder_set.specs.laws.KindLaws.{nothing_of, prefix_of}
+use Rattle.decoder_set.specs.laws.KindLaws.{promises_of}
 use Rattle.decode_job.specs.Listing.{given_behind, listing_of, notes_to_list, output_of}
 use Rattle.decode_job.specs.Together.{ListTheWhole, listings_of_parts, notes_of_parts}
 use Rattle.decode_job.proofs.Together.{list_the_whole}
@@ -125,9 +125,9 @@ module _ (saves : Saves) (accepted : Accepted) (nodes : List (Node Setup)) (none
       let count : length setups ≡ length parents = length-map nodes (λ node. node.setup) ∙ sym (length-map nodes (λ node. node.parent)) in
       let many : length machines ≡ length setups = sym (length-map machines setup_of) ∙ ap length does.check.setups_are in
       let nothing : (j : ℕ) → j < length parents → GivesNothing (whole_of outs_of setups j) = λ j low.
-      subst (λ (s : List Setup). GivesNothing (whole_of outs_of s j)) does.check.setups_are (nothing_at setup_of outs_of (λ d. nothing_of (setup_of d) (opened_by d)) machines j (omega (arith, low, count, many))) in
+      subst (λ (s : List Setup). GivesNothing (whole_of outs_of s j)) does.check.setups_are (nothing_at setup_of outs_of (λ d. (promises_of (setup_of d) (opened_by d)).nothing) machines j (omega (arith, low, count, many))) in
       let keeps : (j : ℕ) → j < length parents → KeepsFront (whole_of outs_of setups j) = λ j low.
-      subst (λ (s : List Setup). KeepsFront (whole_of outs_of s j)) does.check.setups_are (keeps_at setup_of outs_of (λ d. prefix_of (setup_of d) (opened_by d)) machines j (omega (arith, low, count, many))) in
+      subst (λ (s : List Setup). KeepsFront (whole_of outs_of s j)) does.check.setups_are (keeps_at setup_of outs_of (λ d. (promises_of (setup_of d) (opened_by d)).prefix) machines j (omega (arith, low, count, many))) in
       let together = subst (λ (n : List (Node Setup)). ListTheWhole outs_of accepted n (pieces_of runs)) (nodes_are nodes) (list_the_whole outs_of setups parents forest count nothing keeps accepted (pieces_of runs)) in
       record {
         notes = notes_of_parts outs_of accepted nodes [] (pieces_of runs);

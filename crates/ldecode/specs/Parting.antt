@@ -8,30 +8,12 @@ use Rattle.check_point.specs.declared.faults.CheckWhy.{CheckWhy}
 use Rattle.check_point.specs.declared.faults.CheckWhy.TheVariants.{Many, Form, Fit}
 use Rattle.decoder_set.specs.Opening.{HasConsumed, setup_of}
 use Rattle.decoder_set.specs.declared.any.AnyDecoder.{AnyDecoder}
-use Rattle.decoder_set.specs.declared.kinds.Kind.{Kind}
-use Rattle.decoder_set.specs.declared.kinds.Kind.TheVariants.{I2c, Spi, Uart, OwLink, OwNet}
-use Rattle.decoder_set.specs.declared.kinds.Kind.TheVariants.{Eeprom24, Ds1307, Lm75, Ds18b20}
-use Rattle.decoder_set.specs.declared.kinds.Kind.TheVariants.{Flash25, Modbus, Midi}
+use Rattle.decoder_set.specs.Kinds.{place_of}
 use Rattle.decoder_set.specs.declared.setup.Setup.{Setup}
 
 -- which bytes a decoder saves
 abbrev pub Saves : Type 1
 Saves = AnyDecoder → List ℕ → Type 0
-
--- the place of a kind in the order of all kinds
-abbrev pub place_of : Kind → ℕ
-place_of I2c = 0
-place_of Spi = 1
-place_of Uart = 2
-place_of OwLink = 3
-place_of OwNet = 4
-place_of Eeprom24 = 5
-place_of Ds1307 = 6
-place_of Lm75 = 7
-place_of Ds18b20 = 8
-place_of Flash25 = 9
-place_of Modbus = 10
-place_of Midi = 11
 
 -- the places of the kinds of decoders
 abbrev pub places_of : List Setup → List ℕ

@@ -2,6 +2,7 @@
 ghost use Rattle.std.specs.Prelude.{◌≡◌, ◌≤◌, length, map, IfSome, IfOk, IfErr};
 ghost use Rattle.std.specs.Prelude.{option_map};
 ghost use Rattle.std.specs.String.{string_bytes};
+ghost use Rattle.decoder_set.specs.Kinds.{place_of};
 ghost use Rattle.decoder_set.specs.Opening.{setup_of};
 ghost use Rattle.stack_spec.specs.Stacks.{instances_in};
 ghost use Rattle.words.specs.Settings.{meaning_of};
@@ -9,7 +10,7 @@ ghost use Rattle.words.specs.declared.kinds.Job.TheVariants.{Part};
 ghost use Rattle.ldecode.specs.Asking.{NamesNoHead};
 ghost use Rattle.ldecode.specs.Calls.{AreRead, HasCauses};
 ghost use Rattle.ldecode.specs.Headline.{WorksOn};
-ghost use Rattle.ldecode.specs.Parting.{Begun, CanBegin, CantBegin, place_of};
+ghost use Rattle.ldecode.specs.Parting.{Begun, CanBegin, CantBegin};
 
 use crate::open_stack::{Opened, open_stack};
 use crate::status::Status;
@@ -17,7 +18,7 @@ use arrayvec::ArrayVec;
 use check_point::{CheckFault, CheckWhy, read_check};
 use decode_job::part;
 use decoder_core::Keep;
-use decoder_set::{AnyDecoder, Kind};
+use decoder_set::{AnyDecoder, place_of};
 use la_io::{Sink, Source};
 use stack_spec::Stack;
 use std::alloc::Global;
@@ -26,26 +27,6 @@ use words::Settings;
 
 /// The most decoders that a checkpoint can have.
 const MOST_DECODERS: u32 = 8;
-
-// The place of a kind in the order of all kinds.
-fn place_of(kind: Kind) -> u8
-    ensures { result ≡ place_of kind }
-{
-    match kind {
-        Kind::I2c => 0,
-        Kind::Spi => 1,
-        Kind::Uart => 2,
-        Kind::OwLink => 3,
-        Kind::OwNet => 4,
-        Kind::Eeprom24 => 5,
-        Kind::Ds1307 => 6,
-        Kind::Lm75 => 7,
-        Kind::Ds18b20 => 8,
-        Kind::Flash25 => 9,
-        Kind::Modbus => 10,
-        Kind::Midi => 11,
-    }
-}
 
 // The places of the kinds of a stack's instances.
 fn places(stack: &Stack) -> ArrayVec<u8, 8>
