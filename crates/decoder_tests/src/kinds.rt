@@ -5,7 +5,7 @@ use decoder_core::{Machine, OptFault, Outs, Taken};
 use decoder_set::{
     AnyDecoder, Kind, MOST_OPTIONS, OptValues, Setup, asked_of, class_of, groups_of, input_of,
     kind_name, kind_of, kinds_are_whole, kinds_read_their_wires, number_of,
-    one_input_makes_one_decoder, options_of, output_of, values_in_range_fit,
+    one_input_makes_one_decoder, options_of, output_of, place_of, values_in_range_fit,
 };
 use la_base::{Feed, Run, Wire};
 use std::alloc::{AllocError, Global};
@@ -26,6 +26,11 @@ ds18b20|onewire_net|
 flash25|spi|asks
 modbus gap 4000000|uart|asks
 midi|uart|asks";
+
+// The kinds by their numbers in a checkpoint, from 0 on. What was written is read again: a further kind
+// comes last, and none moves.
+const NUMBERED: &str =
+    "i2c spi uart onewire_link onewire_net eeprom24 ds1307 lm75 ds18b20 flash25 modbus midi";
 
 // The name of a kind, and its options with their usual numbers.
 fn options_told(alloc: Global, kind: Kind) -> Result<String, AllocError> {
@@ -58,6 +63,10 @@ fn kinds_have_their_names_wires_and_options(rt: HostRuntime) -> Result<(), Fail>
             "{row}"
         );
         assert!(rt; asked_of(kind).is_empty() == (more != "asks"), "{row}");
+    }
+    for (number, name) in NUMBERED.split(' ').enumerate() {
+        let kind = kind_of(name.as_bytes()).ok_or("no kind")?;
+        assert!(rt; place_of(kind) as usize == number, "{name}");
     }
     assert!(rt; output_of(Kind::I2c) == Wire::I2c && output_of(Kind::Spi) == Wire::Spi);
     assert!(rt; output_of(Kind::Uart) == Wire::Uart && output_of(Kind::OwNet) == Wire::OwNet);
