@@ -223,10 +223,11 @@ struct Late<'a> {
     in_vain: bool,
 }
 
-// Waits for another count of pauses than this. Answers whether it came.
-fn waits_for_more(pauses: &AtomicU64, before: u64) -> bool {
+// Waits until there were so many pauses. Answers whether they came. A call waits for as many as there were
+// calls, since its own may come before it looks at their count.
+fn waits_for(pauses: &AtomicU64, count: usize) -> bool {
     for _ in 0..1_000_000_000u32 {
-        if pauses.load(Ordering::SeqCst) != before {
+        if pauses.load(Ordering::SeqCst) >= count as u64 {
             return true;
         }
         std::hint::spin_loop();
@@ -249,8 +250,7 @@ impl RunFeed for Late<'_> {
 
     fn next_runs(&mut self) -> bool {
         self.waits = self.waits.saturating_add(1);
-        let before = self.pauses.load(Ordering::SeqCst);
-        if !waits_for_more(self.pauses, before) {
+        if !waits_for(self.pauses, self.waits) {
             self.in_vain = true;
         }
         self.inner.next_runs()
