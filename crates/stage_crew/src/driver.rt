@@ -75,16 +75,19 @@ fn tell_stop(stop: &mut Tx<bool>, stopped: bool, told: &mut bool, crew: &CrewSta
 
 // Where nothing is on its way any more, what takes the marks is told of the pause, and the reader may
 // wait for its feed then, if it doesn't yet. It may not where that stopped it.
-fn let_read<G: MarkTake>(take: &mut G, state: &mut Gatherer, crew: &CrewStatus, quiet: bool)
+fn let_read<G: MarkTake>(take: &mut G, state: &mut Gatherer, crew: &CrewStatus, quiet: Option<u64>)
     ensures { (gathered : List (List MarkIs))
         → Gathers G.MarkTake take.old take.new state.old state.new gathered gathered }
 {
-    if state.stopped || !quiet {
+    let Some(permit) = quiet else {
+        return;
+    };
+    if state.stopped {
         return;
     }
     match take.pause() {
         Ok(()) => {
-            crew.permit.grant();
+            crew.permit.grant(permit);
             crew.notify(READER, DRIVER);
         }
         Err(Stopped) => state.stopped = true,
@@ -154,18 +157,25 @@ pub(crate) fn drive<R: Wait, D: Turns, S: Turns, P: Pacer, G: MarkTake>(
     let mut told = false;
     let mut turn: u64 = 0;
     for _ in rt.forever() {
-        let quiet = !state.stopped && policy.is_waiting() && crew.is_quiet();
+        let mut quiet = None;
+        if !state.stopped && policy.is_waiting() {
+            quiet = crew.quiet_permit();
+        }
+        let looked = quiet.is_some();
         let read = turn_own(readers, &reader, turn, crew, &crew.plain);
         let gathered = state.gather_all(take, marks, &mut counts);
         let turned = turn_own(own, &refused, turn, crew, pacer);
         turn = turn.wrapping_add(1);
         let moved = read || gathered || turned;
-        let_read(take, &mut state, crew, quiet && !moved);
+        if moved {
+            quiet = None;
+        }
+        let_read(take, &mut state, crew, quiet);
         tell_stop(stop, state.stopped, &mut told, crew);
         if state.all_over(marks.len()) {
             return finish(marks.len() as u32, take, state.stopped);
         }
-        rest(rt, &mut counts, &policy, crew, moved || quiet);
+        rest(rt, &mut counts, &policy, crew, moved || looked);
     }
     unreachable!()
 }

@@ -79,14 +79,12 @@ impl ReadPermit {
         }
     }
 
-    /// Grants it, where the reader waits.
-    pub(crate) fn grant(&self) {
-        let word = self.word();
-        if is_waiting(word) {
-            let granted = (word | STATES) ^ REQUESTED;
-            let _ = self
-                .word
-                .compare_exchange(word, granted, Ordering::SeqCst, Ordering::SeqCst);
-        }
+    /// Grants it, where it still is this one: the reader waits, and has waited since it was so. A read
+    /// that began meanwhile has a pause of its own to come.
+    pub(crate) fn grant(&self, word: u64) {
+        let granted = (word | STATES) ^ REQUESTED;
+        let _ = self
+            .word
+            .compare_exchange(word, granted, Ordering::SeqCst, Ordering::SeqCst);
     }
 }

@@ -212,25 +212,29 @@ impl CrewStatus {
 
     /// Whether the reader waits for the feed, and nothing is on its way but marks: each worker sleeps
     /// or reads, and did while all of the others were looked at. Nobody sleeps or reads who has still to
-    /// notify others, so whatever was given to one was taken by it, or it would have been woken.
-    pub(crate) fn is_quiet(&self) -> bool {
+    /// notify others, so whatever was given to one was taken by it, or it would have been woken. The
+    /// answer is the permit as it was all that time, to be granted.
+    pub(crate) fn quiet_permit(&self) -> Option<u64> {
         let word = self.permit.word();
         let reader = self.sleep_of_reader(word);
         if !is_waiting(word) || reader.is_none() {
-            return false;
+            return None;
         }
         let mut seen = [0u64; MOST_STAGES];
         for place in 0..MOST_STAGES {
             match self.sleep(place) {
                 Some(sleep) => seen[place] = sleep,
-                None => return false,
+                None => return None,
             }
         }
         for place in 0..MOST_STAGES {
             if self.sleep(place) != Some(seen[place]) {
-                return false;
+                return None;
             }
         }
-        self.permit.word() == word && self.sleep_of_reader(word) == reader
+        if self.permit.word() != word || self.sleep_of_reader(word) != reader {
+            return None;
+        }
+        Some(word)
     }
 }

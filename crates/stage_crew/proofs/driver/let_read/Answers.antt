@@ -17,3 +17,6 @@ returns-in-Err g c = λ gathered.
     let e = c.pause.ensures in
     gathers_paused g.G.MarkTake c.args.state.now _ c.pause.result gathered c.if-state.false (sym (ap (λ r. not (is_ok r)) c.in-Err.is)) refl e.took
     (record { instances = e.instances; origin = e.origin; cause = e.cause; going = e.going })
+
+pub returns-in_default : goal.returns-in_default
+returns-in_default g c = λ gathered. gathers_none g.G.MarkTake c.args.take.now c.args.state.now gathered
