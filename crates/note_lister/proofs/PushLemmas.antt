@@ -58,3 +58,7 @@ tells_then before now old mid new xs ys zs p q is = record {
 pub not_ok : {T E X : Type 0} (result : Result T E) → IsErr result → is_ok result ≡ true → X
 not_ok (Ok done) err is = absurd cc
 not_ok (Err why) err is = absurd cc
+
+-- nothing, and nothing behind it
+pub none_more : (before more all : List Mark) → before ++ more ≡ all → before ≡ [] → more ≡ [] → all ≡ []
+none_more before more all is first last = sym is ∙ ap (λ (l : List Mark). l ++ more) first ∙ last

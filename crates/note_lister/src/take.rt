@@ -326,6 +326,7 @@ impl<'a, 'b, K: Sink, W: Watch> Lister<'a, 'b, K, W> {
         ensures faults { OnOk result
             (K.faults (sink_of self.new) ≡ K.faults (sink_of self.old)) }
         ensures same { IsSome (cause_of self.old) → OnOk result (self.new ≡ self.old) }
+        ensures none { IsSome (cause_of self.old) → OnOk result (list_of mark ≡ []) }
     {
         match mark {
             Some(mark) => self.take_apart(instance, mark),
@@ -350,6 +351,7 @@ impl<'a, 'b, K: Sink, W: Watch> Lister<'a, 'b, K, W> {
             (K.faults (sink_of self.old)) (K.faults (sink_of self.new))) }
         ensures after { IsSome (cause_of self.old)
             → OnErr result (StaysStopped self.old self.new result) }
+        ensures none { IsSome (cause_of self.old) → OnOk result (marks_of outs.now ≡ []) }
     {
         for out in outs {
             match self.some_apart(instance, mark_of(out)) {
@@ -377,6 +379,7 @@ impl<'a, 'b, K: Sink, W: Watch> Lister<'a, 'b, K, W> {
             (K.faults (sink_of self.old)) (K.faults (sink_of self.new))) }
         ensures after { IsSome (cause_of self.old)
             → OnErr result (StaysStopped self.old self.new result) }
+        ensures none { IsSome (cause_of self.old) → OnOk result (real marks.now ≡ []) }
     {
         for mark in marks {
             match self.some_apart(instance, real_of(*mark)) {
@@ -487,6 +490,7 @@ impl<'a, 'b, K: Sink, W: Watch> MarkTake for Lister<'a, 'b, K, W> {
             (K.faults (sink_of self.old)) (K.faults (sink_of self.new))) }
         ensures after { IsSome (cause_of self.old)
             → OnErr result (StaysStopped self.old self.new result) }
+        ensures none { IsSome (cause_of self.old) → OnOk result (marks_of outs.now ≡ []) }
     {
         if self.merges {
             self.list_outs(instance, outs)
@@ -511,6 +515,7 @@ impl<'a, 'b, K: Sink, W: Watch> MarkTake for Lister<'a, 'b, K, W> {
             (K.faults (sink_of self.old)) (K.faults (sink_of self.new))) }
         ensures after { IsSome (cause_of self.old)
             → OnErr result (StaysStopped self.old self.new result) }
+        ensures none { IsSome (cause_of self.old) → OnOk result (real marks.now ≡ []) }
     {
         if self.merges {
             self.list_marks(instance, marks)

@@ -1,9 +1,10 @@
-use Rattle.std.proofs.Common.{◌≢◌, ◌∷◌, ◌+◌, ◌∙◌, ◌<◌, [], ℕ, List, take, refl, sym, subst, arith}
+use Rattle.std.proofs.Common.{◌≡◌, ◌≢◌, ◌∷◌, ◌+◌, ◌∙◌, ◌<◌, [], ℕ, List, take, refl, sym, subst, arith}
 use Rattle.std.specs.Prelude.{Err, IsSome}
 use Rattle.std.proofs.lemmas.List.{take_all}
 use Rattle.la_base.specs.declared.wires.Mark.{Mark}
 use Rattle.la_io.specs.Feeds.{TakesMarks, real}
 use Rattle.la_io.proofs.Taking.{real_next, stops_at_real, takes_nothing, takes_then, takes_whole}
+use Rattle.note_lister.proofs.PushLemmas.{none_more}
 use Rattle.note_lister.specs.Taking.{StaysStopped, StopsFor, Took, cause_of, sink_of}
 use Rattle.note_lister.specs.declared.lister.Lister.{Lister}
 use Rattle.note_lister.proofs.lister.Lister.marks_apart.Goals as goal
@@ -23,6 +24,7 @@ loop-mark-init g c =
       cause_is = refl;
       faults = refl;
       same = λ _. refl;
+      none = λ _. refl;
     }
 
 pub some_apart-requires : goal.some_apart-requires
@@ -49,6 +51,8 @@ loop-mark-preserved g c =
       cause_is = e.ok ∙ i.cause_is;
       faults = e.faults ∙ i.faults;
       same = λ some. e.same (subst IsSome (sym i.cause_is) some) ∙ i.same some;
+      none = λ some. none_more (real (take n c.args.marks.now)) (real (c.mark-item.result ∷ [])) (real (take (n + 1) c.args.marks.now)) (real_next c.args.marks.now n c.mark-item.result c.loop-mark-test.true c.mark-item.is) (i.none some)
+          (sym c.real_of.ensures ∙ e.none (subst IsSome (sym i.cause_is) some));
     }
 
 pub returns-in-Err-clause-adds : goal.returns-in-Err-clause-adds
@@ -112,3 +116,6 @@ returns-in-Err-clause-after g c = λ some.
 
 pub returns-clause-ok : goal.returns-clause-ok
 returns-clause-ok g c = c.loop-mark.invariant.cause_is
+
+pub returns-clause-none : goal.returns-clause-none
+returns-clause-none g c = λ some. subst (λ (xs : List Mark). real xs ≡ []) (take_all c.loop-mark.mark-index c.args.marks.now c.loop-mark-test.false) (c.loop-mark.invariant.none some)

@@ -1,10 +1,11 @@
-use Rattle.std.proofs.Common.{◌≢◌, ◌∷◌, ◌+◌, ◌∙◌, ◌<◌, [], ℕ, List, take, refl, sym, subst, arith}
+use Rattle.std.proofs.Common.{◌≡◌, ◌≢◌, ◌∷◌, ◌+◌, ◌∙◌, ◌<◌, [], ℕ, List, take, refl, sym, subst, arith}
 use Rattle.std.specs.Prelude.{Err, IsSome}
 use Rattle.std.proofs.lemmas.List.{take_all}
 use Rattle.la_base.specs.declared.wires.Mark.{Mark}
 use Rattle.la_base.specs.declared.wires.Out.{Out}
 use Rattle.la_io.specs.Feeds.{TakesMarks, marks_of}
 use Rattle.la_io.proofs.Taking.{marks_next, stops_at, takes_nothing, takes_then, takes_whole}
+use Rattle.note_lister.proofs.PushLemmas.{none_more}
 use Rattle.note_lister.specs.Taking.{StaysStopped, StopsFor, Took, cause_of, sink_of}
 use Rattle.note_lister.specs.declared.lister.Lister.{Lister}
 use Rattle.note_lister.proofs.lister.Lister.outs_apart.Goals as goal
@@ -24,6 +25,7 @@ loop-out-init g c =
       cause_is = refl;
       faults = refl;
       same = λ _. refl;
+      none = λ _. refl;
     }
 
 pub some_apart-requires : goal.some_apart-requires
@@ -50,6 +52,8 @@ loop-out-preserved g c =
       cause_is = e.ok ∙ i.cause_is;
       faults = e.faults ∙ i.faults;
       same = λ some. e.same (subst IsSome (sym i.cause_is) some) ∙ i.same some;
+      none = λ some. none_more (marks_of (take n c.args.outs.now)) (marks_of (c.out-item.result ∷ [])) (marks_of (take (n + 1) c.args.outs.now)) (marks_next c.args.outs.now n c.out-item.result c.loop-out-test.true c.out-item.is) (i.none some)
+          (sym c.mark_of.ensures ∙ e.none (subst IsSome (sym i.cause_is) some));
     }
 
 pub returns-in-Err-clause-adds : goal.returns-in-Err-clause-adds
@@ -113,3 +117,6 @@ returns-in-Err-clause-after g c = λ some.
 
 pub returns-clause-ok : goal.returns-clause-ok
 returns-clause-ok g c = c.loop-out.invariant.cause_is
+
+pub returns-clause-none : goal.returns-clause-none
+returns-clause-none g c = λ some. subst (λ (xs : List Out). marks_of xs ≡ []) (take_all c.loop-out.out-index c.args.outs.now c.loop-out-test.false) (c.loop-out.invariant.none some)

@@ -1,4 +1,4 @@
-use Rattle.std.proofs.Common.{◌≡◌, ◌<◌, take, true, false}
+use Rattle.std.proofs.Common.{◌≡◌, ◌<◌, [], take, true, false}
 use Rattle.std.specs.Prelude.{IsSome}
 use Rattle.la_io.specs.Feeds.{TakesMarks, marks_of}
 use Rattle.note_lister.specs.Taking.{cause_of, sink_of, Goes, SameOrigin, Took, instances_of, merges_in, stops_of}
@@ -19,4 +19,5 @@ invariant-loop-out g l =
       cause_is : cause_of l.self ≡ cause_of l.fn.self;
       faults : k.faults (sink_of l.self) ≡ k.faults (sink_of l.fn.self);
       same : IsSome (cause_of l.fn.self) → l.self ≡ l.fn.self;
+      none : IsSome (cause_of l.fn.self) → marks_of (take l.out-index l.outs) ≡ [];
     }
