@@ -99,14 +99,6 @@ module _ {B Q : Type 0} (g : TakeGhosts B Q) where
           absurd (not_true none_less less)
       by false is i less = ap not (sym is)
 
-  -- the same, of what is equal
-  pub collects_same : {take0 take1 take2 : B} {r1 r2 : RunEnd} {g1 g2 : List (List Mark)} {t1 t2 : List Bool}
-      → Collects g take0 take1 r1 g1 t1 → take2 ≡ take1 → r2 ≡ r1 → g2 ≡ g1 → t2 ≡ t1 → Collects g take0 take2 r2 g2 t2
-  collects_same {take0} {take1} {take2} {r1} {r2} {g1} {g2} {t1} {t2} c take_is end_is marks_is told_is =
-      subst (λ (t : List Bool). Collects g take0 take2 r2 g2 t) (sym told_is)
-      (subst (λ (m : List (List Mark)). Collects g take0 take2 r2 m t1) (sym marks_is)
-      (subst (λ (r : RunEnd). Collects g take0 take2 r g1 t1) (sym end_is) (subst (λ (t : B). Collects g take0 t r1 g1 t1) (sym take_is) c)))
-
 module _ {A O B Q : Type 0} (f : FeedGhosts A O) (g : TakeGhosts B Q) where
   module _ {feed0 : A} {reader : Reader A} (fed : Fed f feed0 reader) (over : is_sent reader.pump ≡ true) {take0 take2 : B} {result : RunEnd} {gathered : List (List Mark)} {told : List Bool}
       (c : Collects g take0 take2 result gathered told) (heard : told ≡ [] → received reader.stop ≡ []) where

@@ -5,4 +5,5 @@ pub mod Taking
 pub mod Gathering
 pub mod Pumping
 pub mod Driving
+pub mod Working
 pub mod Reading

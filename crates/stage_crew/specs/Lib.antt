@@ -6,5 +6,6 @@ pub mod Driving
 pub mod Pumping
 pub mod Gathering
 pub mod Keeping
+pub mod Working
 pub mod Reading
 pub mod Listening

@@ -4,10 +4,11 @@ ghost use Rattle.la_base.specs.declared.wires.Mark.{Mark as MarkIs};
 ghost use Rattle.stage_ring.specs.Link.{received, rx_link, sent, tx_link};
 ghost use Rattle.stage_crew.specs.Crew.{Each};
 ghost use Rattle.stage_crew.specs.Gathering.{Gathers};
-ghost use Rattle.stage_crew.specs.Keeping.{Collects};
+ghost use Rattle.stage_crew.specs.Working.{AreUnused, Drives};
 
 use crate::MOST_STAGES;
 use crate::counts::GatheredCounts;
+use crate::crew::{Crew, DriverEnds};
 use crate::gatherer::Gatherer;
 use crate::idle::IdlePolicy;
 use crate::marks::finish;
@@ -124,24 +125,14 @@ fn rest<R: Wait>(
 /// Gathers the marks until the end of each instance has come, and then has these ends taken, unless
 /// it was stopped; and takes turns of the reader and of the stages for which there is no thread.
 pub(crate) fn drive<R: Wait, D: Turns, S: Turns, P: Pacer, G: MarkTake>(
-    rt: &R,
-    take: &mut G,
-    marks: &mut Vec<Rx<Mark>>,
-    stop: &mut Tx<bool>,
+    crew: Crew<R, P>,
     readers: &mut Vec<D>,
     own: &mut Vec<S>,
-    crew: &CrewStatus,
-    pacer: &P,
+    ends: &mut DriverEnds,
+    take: &mut G,
 ) -> RunEnd
-    requires marks { (vec_len marks.old ≡ G.instances take.old) × (vec_len marks.old ≤ 24) }
-    requires fresh { (k : ℕ) (m : List MarkIs)
-        → slice_get (map received marks.old.items) k ≡ Some m → m ≡ [] }
-    requires untold { sent stop.old ≡ [] }
-    ensures collects { Collects G.MarkTake take.old take.new result
-        (map received marks.new.items) (sent stop.new) }
-    ensures links { (map rx_link marks.new.items ≡ map rx_link marks.old.items)
-        × (tx_link stop.new ≡ tx_link stop.old) }
-    ensures len { vec_len marks.new ≡ vec_len marks.old }
+    requires unused { AreUnused (G.instances take.old) ends.old }
+    ensures drives { Drives G.MarkTake take.old take.new result ends.old ends.new }
     ensures readers { Each D.goes_on readers.old.items readers.new.items }
     ensures readers_len { vec_len readers.new ≡ vec_len readers.old }
     ensures own { Each S.goes_on own.old.items own.new.items }
@@ -149,33 +140,34 @@ pub(crate) fn drive<R: Wait, D: Turns, S: Turns, P: Pacer, G: MarkTake>(
 {
     turns_go_on::<D>();
     turns_go_on::<S>();
+    let status = crew.status;
     let mut state = Gatherer::new();
     let mut counts = GatheredCounts::new();
-    let refused = crew.refused();
+    let refused = status.refused();
     let reader = [MOST_STAGES as u32; MOST_STAGES];
     let policy = IdlePolicy::new();
     let mut told = false;
     let mut turn: u64 = 0;
-    for _ in rt.forever() {
+    for _ in crew.runtime.forever() {
         let mut quiet = None;
         if !state.stopped && policy.is_waiting() {
-            quiet = crew.quiet_permit();
+            quiet = status.quiet_permit();
         }
         let looked = quiet.is_some();
-        let read = turn_own(readers, &reader, turn, crew, &crew.plain);
-        let gathered = state.gather_all(take, marks, &mut counts);
-        let turned = turn_own(own, &refused, turn, crew, pacer);
+        let read = turn_own(readers, &reader, turn, status, &status.plain);
+        let gathered = state.gather_all(take, &mut ends.marks, &mut counts);
+        let turned = turn_own(own, &refused, turn, status, crew.pacer);
         turn = turn.wrapping_add(1);
         let moved = read || gathered || turned;
         if moved {
             quiet = None;
         }
-        let_read(take, &mut state, crew, quiet);
-        tell_stop(stop, state.stopped, &mut told, crew);
-        if state.all_over(marks.len()) {
-            return finish(marks.len() as u32, take, state.stopped);
+        let_read(take, &mut state, status, quiet);
+        tell_stop(&mut ends.stop, state.stopped, &mut told, status);
+        if state.all_over(ends.marks.len()) {
+            return finish(ends.marks.len() as u32, take, state.stopped);
         }
-        rest(rt, &mut counts, &policy, crew, moved || looked);
+        rest(crew.runtime, &mut counts, &policy, status, moved || looked);
     }
     unreachable!()
 }

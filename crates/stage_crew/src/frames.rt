@@ -1,20 +1,16 @@
 // One worker for the reader, and one for each stage.
-ghost use Rattle.std.specs.Prelude.{◌≡◌, ◌≤◌, ◌<◌, ◌+◌, ◌++◌, [], List, ℕ, Some, map, slice_get};
-ghost use Rattle.std.specs.Prelude.{vec_len, vec_capacity, IfOk, IfErr};
-ghost use Rattle.la_base.specs.declared.wires.Mark.{Mark as MarkIs};
-ghost use Rattle.stage_ring.specs.Link.{received, rx_link, sent, tx_link};
+ghost use Rattle.std.specs.Prelude.{◌≡◌, ◌≤◌, vec_len, IfOk, IfErr};
 ghost use Rattle.stage_crew.specs.Crew.{Each, Ends};
-ghost use Rattle.stage_crew.specs.Keeping.{Collects};
+ghost use Rattle.stage_crew.specs.Working.{AreUnused, Drives, HasRoom, IsReady, WorksOff};
 
+use crate::crew::{Crew, DriverEnds, Work};
 use crate::driver::drive;
 use crate::pacer::Pacer;
-use crate::status::{CrewStatus, WorkerStatus};
+use crate::status::WorkerStatus;
 use crate::turns::{Turns, turns_go_on};
 use crate::worker::{Back, run_out, work};
 use decoder_core::RunEnd;
-use la_base::Mark;
 use la_io::MarkTake;
-use stage_ring::{Rx, Tx};
 use std::snapshot::Snapshot;
 use std::sync::Wait;
 use std::thread::{PromisedHandle, Scope, Threads};
@@ -22,20 +18,16 @@ use std::thread::{PromisedHandle, Scope, Threads};
 // Starts a worker for a stage, or hands the stage back.
 fn start<'s, E, R: Wait + Sync, S: Turns + Send + Drop + 's, P: Pacer + Sync>(
     scope: &'s Scope<'s, E>,
-    rt: &'s R,
+    crew: Crew<'s, R, P>,
     stage: S,
     number: u32,
     status: &'s WorkerStatus,
-    crew: &'s CrewStatus,
-    pacer: &'s P,
 ) -> Result<PromisedHandle<S, Back<S>>, S>
     ensures started { IfOk result (λ child. child.promise.was.value ≡ stage) }
     ensures refused { IfErr result (λ back. S.goes_on stage back) }
 {
     let was = Snapshot::of(&stage);
-    match scope.spawn_with(Back { was }, move || {
-        work(rt, stage, number, status, crew, pacer)
-    }) {
+    match scope.spawn_with(Back { was }, move || work(crew, stage, number, status)) {
         Ok(child) => Ok(child),
         Err(spawn) => {
             status.refuse();
@@ -44,8 +36,8 @@ fn start<'s, E, R: Wait + Sync, S: Turns + Send + Drop + 's, P: Pacer + Sync>(
     }
 }
 
-/// Starts a worker for the last stage, and runs the other stages and the driver beside it. Gives
-/// the stages back in order, each over. Where no thread can be started for a stage, the driver
+/// Starts a worker for the last stage, and runs the other stages and the driver beside it. The
+/// stages come back in order, each over. Where no thread can be started for a stage, the driver
 /// takes turns of it.
 pub(crate) fn frame<
     's,
@@ -57,64 +49,38 @@ pub(crate) fn frame<
     G: MarkTake,
 >(
     scope: &'s Scope<'s, E>,
-    rt: &'s R,
-    todo: Vec<S>,
-    done: &mut Vec<S>,
-    own: &mut Vec<S>,
-    readers: &mut Vec<D>,
-    marks: &mut Vec<Rx<Mark>>,
-    stop: &mut Tx<bool>,
-    crew: &'s CrewStatus,
-    pacer: &'s P,
+    crew: Crew<'s, R, P>,
+    work: &mut Work<D, S>,
+    ends: &mut DriverEnds,
     take: &mut G,
 ) -> RunEnd
-    requires room { (vec_len done.old + vec_len todo ≤ vec_capacity done.old)
-        × (vec_len own.old + vec_len todo ≤ vec_capacity own.old) }
-    requires few { (vec_len todo ≤ vec_len crew.now.workers)
-        × (vec_len crew.now.workers ≤ 24) }
-    requires marks { (vec_len marks.old ≡ G.instances take.old) × (vec_len marks.old ≤ 24) }
-    requires fresh { (k : ℕ) (m : List MarkIs)
-        → slice_get (map received marks.old.items) k ≡ Some m → m ≡ [] }
-    requires untold { sent stop.old ≡ [] }
-    ensures collects { Collects G.MarkTake take.old take.new result
-        (map received marks.new.items) (sent stop.new) }
-    ensures links { (map rx_link marks.new.items ≡ map rx_link marks.old.items)
-        × (tx_link stop.new ≡ tx_link stop.old) }
-    ensures readers { Each D.goes_on readers.old.items readers.new.items }
-    ensures readers_len { vec_len readers.new ≡ vec_len readers.old }
-    ensures own { Each S.goes_on own.old.items own.new.items }
-    ensures own_len { vec_len own.new ≡ vec_len own.old }
-    ensures done { (made : List _) × (done.new.items ≡ done.old.items ++ made)
-        × Each (Ends S.goes_on S.over) todo.items made }
-    ensures room { (vec_capacity done.new ≡ vec_capacity done.old)
-        × (vec_len done.new ≡ vec_len done.old + vec_len todo) }
+    requires room { HasRoom work.old }
+    requires few { vec_len work.old.todo ≤ vec_len crew.status.now.workers }
+    requires unused { AreUnused (G.instances take.old) ends.old }
+    ensures drives { Drives G.MarkTake take.old take.new result ends.old ends.new }
+    ensures works { WorksOff D.goes_on S.goes_on S.over work.old work.new }
 {
-    let mut todo = todo;
-    let Some(stage) = todo.pop() else {
-        return drive(rt, take, marks, stop, readers, own, crew, pacer);
-    };
     turns_go_on::<S>();
-    let number = todo.len() as u32;
-    let status = &crew.workers[todo.len()];
-    let (back, end) = match start(scope, rt, stage, number, status, crew, pacer) {
+    let Some(stage) = work.todo.pop() else {
+        return drive(crew, &mut work.readers, &mut work.own, ends, take);
+    };
+    let number = work.todo.len() as u32;
+    let status = &crew.status.workers[work.todo.len()];
+    let (back, end) = match start(scope, crew, stage, number, status) {
         Ok(child) => {
-            let end = frame(
-                scope, rt, todo, done, own, readers, marks, stop, crew, pacer, take,
-            );
-            (child.join(rt), end)
+            let end = frame(scope, crew, work, ends, take);
+            (child.join(crew.runtime), end)
         }
         Err(stage) => {
-            own.push_reserved(stage);
-            let end = frame(
-                scope, rt, todo, done, own, readers, marks, stop, crew, pacer, take,
-            );
-            let Some(stage) = own.pop() else {
+            work.own.push_reserved(stage);
+            let end = frame(scope, crew, work, ends, take);
+            let Some(stage) = work.own.pop() else {
                 unreachable!();
             };
             (stage, end)
         }
     };
-    done.push_reserved(run_out(rt, back, number, status, crew, pacer));
+    work.done.push_reserved(run_out(crew, back, number, status));
     end
 }
 
@@ -131,56 +97,39 @@ pub(crate) fn lead<
     G: MarkTake,
 >(
     scope: &'s Scope<'s, E>,
-    rt: &'s R,
+    crew: Crew<'s, R, P>,
     reader: D,
-    readers: &mut Vec<D>,
-    todo: Vec<S>,
-    done: &mut Vec<S>,
-    own: &mut Vec<S>,
-    marks: &mut Vec<Rx<Mark>>,
-    stop: &mut Tx<bool>,
-    crew: &'s CrewStatus,
-    pacer: &'s P,
+    work: &mut Work<D, S>,
+    ends: &mut DriverEnds,
     take: &mut G,
 ) -> (D, RunEnd)
-    requires reader { (vec_len readers.old < vec_capacity readers.old)
-        × (vec_len readers.old ≡ 0) }
-    requires room { (vec_len done.old + vec_len todo ≤ vec_capacity done.old)
-        × (vec_len own.old + vec_len todo ≤ vec_capacity own.old) }
-    requires few { (vec_len todo ≤ vec_len crew.now.workers)
-        × (vec_len crew.now.workers ≤ 24) }
-    requires marks { (vec_len marks.old ≡ G.instances take.old) × (vec_len marks.old ≤ 24) }
-    requires fresh { (k : ℕ) (m : List MarkIs)
-        → slice_get (map received marks.old.items) k ≡ Some m → m ≡ [] }
-    requires untold { sent stop.old ≡ [] }
-    ensures collects { Collects G.MarkTake take.old take.new result.1
-        (map received marks.new.items) (sent stop.new) }
-    ensures links { (map rx_link marks.new.items ≡ map rx_link marks.old.items)
-        × (tx_link stop.new ≡ tx_link stop.old) }
+    requires ready { IsReady work.old }
+    requires few { vec_len work.old.todo ≤ vec_len crew.status.now.workers }
+    requires unused { AreUnused (G.instances take.old) ends.old }
+    ensures drives { Drives G.MarkTake take.old take.new result.1 ends.old ends.new }
     ensures reader { Ends D.goes_on D.over reader result.0 }
-    ensures done { (made : List _) × (done.new.items ≡ done.old.items ++ made)
-        × Each (Ends S.goes_on S.over) todo.items made }
+    ensures done { Each (Ends S.goes_on S.over) work.old.todo.items work.new.done.items }
 {
     turns_go_on::<D>();
-    let status = &crew.reader;
-    let plain = &crew.plain;
-    let (back, end) = match start(scope, rt, reader, 0, status, crew, plain) {
+    let status = &crew.status.reader;
+    let paced = Crew {
+        runtime: crew.runtime,
+        status: crew.status,
+        pacer: &crew.status.plain,
+    };
+    let (back, end) = match start(scope, paced, reader, 0, status) {
         Ok(child) => {
-            let end = frame(
-                scope, rt, todo, done, own, readers, marks, stop, crew, pacer, take,
-            );
-            (child.join(rt), end)
+            let end = frame(scope, crew, work, ends, take);
+            (child.join(crew.runtime), end)
         }
         Err(reader) => {
-            readers.push_reserved(reader);
-            let end = frame(
-                scope, rt, todo, done, own, readers, marks, stop, crew, pacer, take,
-            );
-            let Some(reader) = readers.pop() else {
+            work.readers.push_reserved(reader);
+            let end = frame(scope, crew, work, ends, take);
+            let Some(reader) = work.readers.pop() else {
                 unreachable!();
             };
             (reader, end)
         }
     };
-    (run_out(rt, back, 0, status, crew, plain), end)
+    (run_out(paced, back, 0, status), end)
 }

@@ -3,6 +3,7 @@
 #![tactic(auto)]
 
 mod counts;
+mod crew;
 mod driver;
 mod fan;
 mod frames;
@@ -24,6 +25,7 @@ mod worker;
 /// The most stages of a run.
 pub const MOST_STAGES: usize = 24;
 
+pub use crew::{CrewEnds, Supplies};
 pub use pacer::{Pacer, PlainPacer};
 pub use scope::{Ran, run_crew};
 pub use turns::Turns;

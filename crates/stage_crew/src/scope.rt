@@ -1,16 +1,15 @@
 // The outermost frame: a scope for the workers.
-ghost use Rattle.std.specs.Prelude.{◌≡◌, ◌≤◌, ◌<◌, [], List, ℕ, Some, map, slice_get, true};
-ghost use Rattle.std.specs.Prelude.{vec_len, vec_capacity, IfOk, OnErr};
-ghost use Rattle.la_base.specs.declared.wires.Mark.{Mark as MarkIs};
+ghost use Rattle.std.specs.Prelude.{◌≡◌, ◌≤◌, [], map, true, vec_len, IfOk, OnErr};
 ghost use Rattle.decoder_core.specs.declared.end.RunEnd.TheVariants.{Ended, Stopped as RunStopped};
 ghost use Rattle.la_io.specs.Causes.{Rose};
 ghost use Rattle.tree_runs.specs.Runs.{is_ended};
-ghost use Rattle.stage_ring.specs.Link.{IsLink, tx_link, rx_link, sent, received};
+ghost use Rattle.stage_ring.specs.Link.{IsLink, sent, received};
 ghost use Rattle.stage_crew.specs.Crew.{Each, Ends};
 ghost use Rattle.stage_crew.specs.Driving.{Drove, Fresh};
 ghost use Rattle.stage_crew.specs.Gathering.{TakesOn};
-ghost use Rattle.stage_crew.specs.Keeping.{Collects};
+ghost use Rattle.stage_crew.specs.Working.{AreUnused, Drives, IsReady, SameLinks};
 
+use crate::crew::{Crew, CrewEnds, DriverEnds, Supplies, Work};
 use crate::frames::lead;
 use crate::idle::spins_for;
 use crate::permit::ReadPermit;
@@ -18,10 +17,9 @@ use crate::reader::Reader;
 use crate::status::{CrewStatus, DRIVER, READER, WorkerStatus};
 use crate::{MOST_STAGES, Pacer, PlainPacer, Turns};
 use decoder_core::RunEnd;
-use la_base::{Mark, NoMemory};
+use la_base::NoMemory;
 use la_io::{MarkTake, RunFeed};
 use stage_ring::{Rx, Tx, link, settle};
-use stage_run::Stretch;
 use std::alloc::Global;
 use std::sync::Wait;
 use std::thread;
@@ -32,8 +30,7 @@ struct FrameResult<'a, D, S, G> {
     take: &'a mut G,
     reader: D,
     done: Vec<S>,
-    marks: Vec<Rx<Mark>>,
-    stop: Tx<bool>,
+    ends: DriverEnds,
     end: RunEnd,
 }
 
@@ -46,80 +43,41 @@ fn within_scope<
     P: Pacer + Sync,
     G: MarkTake,
 >(
-    rt: &R,
+    crew: Crew<R, P>,
     reader: D,
-    readers: Vec<D>,
-    stages: Vec<S>,
-    done: Vec<S>,
-    own: Vec<S>,
-    marks: Vec<Rx<Mark>>,
-    stop: Tx<bool>,
-    crew: &CrewStatus,
-    pacer: &P,
+    work: Work<D, S>,
+    ends: DriverEnds,
     take: &'a mut G,
 ) -> FrameResult<'a, D, S, G>
-    requires reader { (vec_len readers < vec_capacity readers) × (vec_len readers ≡ 0) }
-    requires room { (vec_len stages ≤ vec_capacity done) × (vec_len stages ≤ vec_capacity own)
-        × (done.items ≡ []) × (own.items ≡ []) }
-    requires few { (vec_len stages ≤ vec_len crew.now.workers) × (vec_len crew.now.workers ≤ 24) }
-    requires marks { (vec_len marks ≡ G.instances take.old) × (vec_len marks ≤ 24) }
-    requires fresh { (k : ℕ) (m : List MarkIs)
-        → slice_get (map received marks.items) k ≡ Some m → m ≡ [] }
-    requires untold { sent stop ≡ [] }
-    ensures collects { Collects G.MarkTake take.old result.take.now result.end
-        (map received result.marks.items) (sent result.stop) }
-    ensures links { (map rx_link result.marks.items ≡ map rx_link marks.items)
-        × (tx_link result.stop ≡ tx_link stop) }
+    requires ready { IsReady work }
+    requires few { vec_len work.todo ≤ vec_len crew.status.now.workers }
+    requires unused { AreUnused (G.instances take.old) ends }
+    ensures drives { Drives G.MarkTake take.old result.take.now result.end ends result.ends }
     ensures same { result.take.ghost_name ≡ take.entry.ghost_name }
     ensures reader { Ends D.goes_on D.over reader result.reader }
-    ensures stages { Each (Ends S.goes_on S.over) stages.items result.done.items }
+    ensures stages { Each (Ends S.goes_on S.over) work.todo.items result.done.items }
 {
     thread::scope(
         thread::scope_env(),
-        rt,
+        crew.runtime,
         move |scope| -> FrameResult<D, S, G>
-            requires reader { (vec_len readers < vec_capacity readers) × (vec_len readers ≡ 0) }
-            requires room { (vec_len stages ≤ vec_capacity done)
-                × (vec_len stages ≤ vec_capacity own) × (done.items ≡ []) × (own.items ≡ []) }
-            requires few { (vec_len stages ≤ vec_len crew.now.workers)
-                × (vec_len crew.now.workers ≤ 24) }
-            requires marks { (vec_len marks ≡ G.instances take.now) × (vec_len marks ≤ 24) }
-            requires fresh { (k : ℕ) (m : List MarkIs)
-                → slice_get (map received marks.items) k ≡ Some m → m ≡ [] }
-            requires untold { sent stop ≡ [] }
-            ensures collects { Collects G.MarkTake take.entry.now result.take.now result.end
-                (map received result.marks.items) (sent result.stop) }
-            ensures links { (map rx_link result.marks.items ≡ map rx_link marks.items)
-                × (tx_link result.stop ≡ tx_link stop) }
+            requires ready { IsReady work }
+            requires few { vec_len work.todo ≤ vec_len crew.status.now.workers }
+            requires unused { AreUnused (G.instances take.now) ends }
+            ensures drives { Drives G.MarkTake take.entry.now result.take.now result.end ends
+                result.ends }
             ensures same { result.take.ghost_name ≡ take.entry.ghost_name }
             ensures reader { Ends D.goes_on D.over reader result.reader }
-            ensures stages { Each (Ends S.goes_on S.over) stages.items result.done.items }
+            ensures stages { Each (Ends S.goes_on S.over) work.todo.items result.done.items }
         {
-            let mut readers = readers;
-            let mut own = own;
-            let mut done = done;
-            let mut marks = marks;
-            let mut stop = stop;
-            let (reader, end) = lead(
-                scope,
-                rt,
-                reader,
-                &mut readers,
-                stages,
-                &mut done,
-                &mut own,
-                &mut marks,
-                &mut stop,
-                crew,
-                pacer,
-                take,
-            );
+            let mut work = work;
+            let mut ends = ends;
+            let (reader, end) = lead(scope, crew, reader, &mut work, &mut ends, take);
             FrameResult {
                 take,
                 reader,
-                done,
-                marks,
-                stop,
+                done: work.done,
+                ends,
                 end,
             }
         },
@@ -127,13 +85,10 @@ fn within_scope<
 }
 
 // What was lent to a crew, and what it gives back.
-struct Crew<'a, 'b, S, F, G> {
+struct CrewResult<'a, 'b, S, F, G> {
     feed: &'a mut F,
     take: &'b mut G,
-    done: Vec<S>,
-    feeds: Vec<Tx<Stretch>>,
-    marks: Vec<Rx<Mark>>,
-    end: RunEnd,
+    ran: Ran<S>,
 }
 
 // Lends the feed to a reader, and has it and the stages run.
@@ -147,64 +102,61 @@ fn read_within<
     F: RunFeed + Send,
     G: MarkTake,
 >(
-    rt: &R,
-    readers: Vec<Reader<'a, 'c, F>>,
-    stages: Vec<S>,
-    done: Vec<S>,
-    own: Vec<S>,
-    feeds: Vec<Tx<Stretch>>,
-    marks: Vec<Rx<Mark>>,
+    crew: Crew<'c, R, P>,
+    work: Work<Reader<'a, 'c, F>, S>,
+    ends: CrewEnds,
     stop: (Tx<bool>, Rx<bool>),
-    crew: &'c CrewStatus,
-    pacer: &P,
     feed: &'a mut F,
     take: &'b mut G,
-) -> Crew<'a, 'b, S, F, G>
-    requires reader { (vec_len readers < vec_capacity readers) × (vec_len readers ≡ 0) }
-    requires room { (vec_len stages ≤ vec_capacity done) × (vec_len stages ≤ vec_capacity own)
-        × (done.items ≡ []) × (own.items ≡ []) }
-    requires few { (vec_len stages ≤ vec_len crew.now.workers) × (vec_len crew.now.workers ≤ 24) }
-    requires marks { (vec_len marks ≡ G.instances take.old) × (vec_len marks ≤ 24) }
-    requires fresh { Fresh feeds.items marks.items }
+) -> CrewResult<'a, 'b, S, F, G>
+    requires ready { IsReady work }
+    requires few { vec_len work.todo ≤ vec_len crew.status.now.workers }
+    requires marks { (vec_len ends.marks ≡ G.instances take.old) × (vec_len ends.marks ≤ 24) }
+    requires fresh { Fresh ends.feeds.items ends.marks.items }
     requires stop { IsLink stop.0 stop.1 × (sent stop.0 ≡ []) }
     ensures drove { Drove (F.gave feed.old) (F.gave result.feed.now) (G.took take.old)
-        (G.took result.take.now) (F.at_end result.feed.now) result.end
-        (map sent result.feeds.items) (map received result.marks.items) }
+        (G.took result.take.now) (F.at_end result.feed.now) result.ran.end
+        (map sent result.ran.ends.feeds.items) (map received result.ran.ends.marks.items) }
     ensures origin { F.origin result.feed.now ≡ F.origin feed.old }
-    ensures at_end { result.end ≡ Ended → F.at_end result.feed.now ≡ true }
-    ensures takes { TakesOn G.MarkTake result.end take.old result.take.now }
-    ensures links { (map tx_link result.feeds.items ≡ map tx_link feeds.items)
-        × (map rx_link result.marks.items ≡ map rx_link marks.items) }
+    ensures at_end { result.ran.end ≡ Ended → F.at_end result.feed.now ≡ true }
+    ensures takes { TakesOn G.MarkTake result.ran.end take.old result.take.now }
+    ensures links { SameLinks ends result.ran.ends }
     ensures same { (result.feed.ghost_name ≡ feed.entry.ghost_name)
         × (result.take.ghost_name ≡ take.entry.ghost_name) }
-    ensures stages { Each (Ends S.goes_on S.over) stages.items result.done.items }
+    ensures stages { Each (Ends S.goes_on S.over) work.entry.todo.items
+        result.ran.stages.items }
 {
     let (stop, stopped) = stop;
-    let reader = Reader::new(feed, feeds, stopped, crew);
+    let reader = Reader::new(feed, ends.feeds, stopped, crew.status);
+    let ends = DriverEnds {
+        marks: ends.marks,
+        stop,
+    };
     let FrameResult {
         take,
         reader,
         done,
-        marks,
-        mut stop,
+        mut ends,
         end,
-    } = within_scope(
-        rt, reader, readers, stages, done, own, marks, stop, crew, pacer, take,
-    );
+    } = within_scope(crew, reader, work, ends, take);
     let Reader {
         feed,
         feeds,
         stop: mut stopped,
         ..
     } = reader;
-    settle(&mut stop, &mut stopped);
-    Crew {
+    settle(&mut ends.stop, &mut stopped);
+    CrewResult {
         feed,
         take,
-        done,
-        feeds,
-        marks,
-        end,
+        ran: Ran {
+            stages: done,
+            ends: CrewEnds {
+                feeds,
+                marks: ends.marks,
+            },
+            end,
+        },
     }
 }
 
@@ -276,12 +228,58 @@ fn statuses_of(
     Ok(workers)
 }
 
-/// The stages, each over, and the driver's ends of the links, in their order.
+// The statuses of a crew of so many stages, with links of this room.
+fn status_of<R: Threads>(
+    rt: &R,
+    alloc: Global,
+    parents: &[Option<u32>],
+    count: usize,
+    room: usize,
+) -> Result<CrewStatus, NoMemory>
+    requires { count ≤ 24 }
+    ensures { IfOk result (λ status. vec_len status.workers ≡ count) }
+{
+    // the stages, the reader and the driver
+    let spins = spins_for(rt, count + 2);
+    let workers = statuses_of(alloc, parents, count, spins, stage_turns(room))?;
+    let roots = children_of(parents, None);
+    Ok(CrewStatus {
+        workers,
+        reader: WorkerStatus::new(READER, 0, roots, spins, reader_turns(parents, room)),
+        driver: WorkerStatus::new(DRIVER, 0, 0, spins, 1),
+        permit: ReadPermit::new(),
+        plain: PlainPacer,
+        room,
+    })
+}
+
+// The room of a link to a root.
+fn room_of(ends: &CrewEnds) -> usize {
+    match ends.feeds.first() {
+        Some(link) => link.room(),
+        None => 0,
+    }
+}
+
+// Stages to be run, with all the room that is needed.
+fn work_of<D, S: Drop>(alloc: Global, stages: Vec<S>) -> Result<Work<D, S>, NoMemory>
+    requires { vec_len stages ≤ 24 }
+    ensures { IfOk result (λ work. (work.todo ≡ stages) × IsReady work) }
+{
+    let count = stages.len();
+    Ok(Work {
+        todo: stages,
+        done: Vec::with_capacity(alloc, count)?,
+        own: Vec::with_capacity(alloc, count)?,
+        readers: Vec::with_capacity(alloc, 1)?,
+    })
+}
+
+/// The stages, each over, and the ends of the links that were handed in, in their order.
 #[derive(Drop)]
 pub struct Ran<S> {
     pub stages: Vec<S>,
-    pub feeds: Vec<Tx<Stretch>>,
-    pub marks: Vec<Rx<Mark>>,
+    pub ends: CrewEnds,
     pub end: RunEnd,
 }
 
@@ -291,9 +289,8 @@ pub struct Ran<S> {
 /// takes the marks is told of the pause, once nothing is on its way any more.
 ///
 /// Who has nothing to do sleeps, and is woken by those at the other ends of its links: `parents` tells
-/// of each stage on which one it stands.
+/// of each stage on which one it stands, and `ends` are the other ends of the stages' links.
 ///
-/// `feeds` are the links to the roots, `marks` those of the instances' marks, in their order.
 /// `Stopped` is answered where `take` stopped, at the last mark that it was handed or in a pause after
 /// it: none is taken then. Once the reader has heard of that, the feed isn't read on, but what it gave
 /// is sent, and the stages run to their ends. Where no thread can be started for a stage, or the
@@ -305,22 +302,19 @@ pub fn run_crew<
     F: RunFeed + Send,
     G: MarkTake,
 >(
-    rt: &R,
-    alloc: Global,
+    supplies: Supplies<R, P>,
     stages: Vec<S>,
     parents: &[Option<u32>],
-    feeds: Vec<Tx<Stretch>>,
-    marks: Vec<Rx<Mark>>,
+    ends: CrewEnds,
     feed: &mut F,
     take: &mut G,
-    pacer: &P,
 ) -> Result<Ran<S>, NoMemory>
     requires few { vec_len stages ≤ 24 }
-    requires marks { (vec_len marks ≡ G.instances take.old) × (vec_len marks ≤ 24) }
-    requires fresh { Fresh feeds.items marks.items }
+    requires marks { (vec_len ends.marks ≡ G.instances take.old) × (vec_len ends.marks ≤ 24) }
+    requires fresh { Fresh ends.feeds.items ends.marks.items }
     ensures drove { IfOk result (λ ran. Drove (F.gave feed.old) (F.gave feed.new) (G.took take.old)
-        (G.took take.new) (F.at_end feed.new) ran.end (map sent ran.feeds.items)
-        (map received ran.marks.items)) }
+        (G.took take.new) (F.at_end feed.new) ran.end (map sent ran.ends.feeds.items)
+        (map received ran.ends.marks.items)) }
     ensures feed { F.origin feed.new ≡ F.origin feed.old }
     ensures at_end { IfOk result (λ ran. ran.end ≡ Ended → F.at_end feed.new ≡ true) }
     ensures take { (G.origin take.new ≡ G.origin take.old)
@@ -329,48 +323,30 @@ pub fn run_crew<
         × (ran.end ≡ RunStopped → Rose (G.stops take.old) (G.stops take.new))) }
     ensures going { IfOk result (λ ran. G.going take.old true
         → G.going take.new (is_ended ran.end)) }
-    ensures links { IfOk result (λ ran. (map tx_link ran.feeds.items ≡ map tx_link feeds.items)
-        × (map rx_link ran.marks.items ≡ map rx_link marks.items)) }
+    ensures links { IfOk result (λ ran. SameLinks ends ran.ends) }
     ensures stages { IfOk result (λ ran. Each (Ends S.goes_on S.over) stages.items
         ran.stages.items) }
     ensures none { OnErr result ((feed.new ≡ feed.old) × (take.new ≡ take.old)) }
 {
-    let done = Vec::with_capacity(alloc, stages.len())?;
-    let own = Vec::with_capacity(alloc, stages.len())?;
-    let readers = Vec::with_capacity(alloc, 1)?;
+    let Supplies {
+        runtime,
+        alloc,
+        pacer,
+    } = supplies;
+    let work = work_of(alloc, stages)?;
     let stop = link(alloc, 1)?;
-    let room = match feeds.first() {
-        Some(link) => link.room(),
-        None => 0,
+    let status = status_of(runtime, alloc, parents, work.todo.len(), room_of(&ends))?;
+    let crew = Crew {
+        runtime,
+        status: &status,
+        pacer,
     };
-    // the stages, the reader and the driver
-    let spins = spins_for(rt, stages.len() + 2);
-    let workers = statuses_of(alloc, parents, stages.len(), spins, stage_turns(room))?;
-    let roots = children_of(parents, None);
-    let crew = CrewStatus {
-        workers,
-        reader: WorkerStatus::new(READER, 0, roots, spins, reader_turns(parents, room)),
-        driver: WorkerStatus::new(DRIVER, 0, 0, spins, 1),
-        permit: ReadPermit::new(),
-        plain: PlainPacer,
-        room,
-    };
-    let Crew {
+    let CrewResult {
         feed: lent,
         take: given,
-        done,
-        feeds,
-        marks,
-        end,
-    } = read_within(
-        rt, readers, stages, done, own, feeds, marks, stop, &crew, pacer, feed, take,
-    );
+        ran,
+    } = read_within(crew, work, ends, stop, feed, take);
     goes_back(lent);
     goes_back(given);
-    Ok(Ran {
-        stages: done,
-        feeds,
-        marks,
-        end,
-    })
+    Ok(ran)
 }

@@ -2,6 +2,7 @@
 ghost use Rattle.std.specs.Prelude.{◌≡◌};
 ghost use Rattle.stage_crew.specs.Crew.{Ends};
 
+use crate::crew::Crew;
 use crate::idle::IdlePolicy;
 use crate::status::{CrewStatus, WorkerStatus};
 use crate::{Pacer, Turns};
@@ -22,19 +23,17 @@ impl<S: Turns> Promise<S> for Back<S> {
 
 /// A worker: it runs its stage until it is over, or gives it back untouched where it was refused.
 pub(crate) fn work<R: Wait, S: Turns, P: Pacer>(
-    rt: &R,
+    crew: Crew<R, P>,
     stage: S,
     number: u32,
     status: &WorkerStatus,
-    crew: &CrewStatus,
-    pacer: &P,
 ) -> S
     ensures { S.goes_on stage result }
 {
     if status.is_refused() {
         return stage;
     }
-    run_out(rt, stage, number, status, crew, pacer)
+    run_out(crew, stage, number, status)
 }
 
 /// Notifies those who may go on by what a stage gave and took.
@@ -72,31 +71,29 @@ fn rest<R: Wait, S: Turns>(
 
 /// Runs a stage until it is over.
 pub(crate) fn run_out<R: Wait, S: Turns, P: Pacer>(
-    rt: &R,
+    crew: Crew<R, P>,
     stage: S,
     number: u32,
     status: &WorkerStatus,
-    crew: &CrewStatus,
-    pacer: &P,
 ) -> S
     ensures { Ends S.goes_on S.over stage result }
 {
     let mut stage = stage;
     let policy = IdlePolicy::new();
     let mut turn: u64 = 0;
-    for _ in rt.forever() {
+    for _ in crew.runtime.forever() {
         if stage.is_over() {
             return stage;
         }
-        let budget = pacer.turn(number, turn).max(1);
+        let budget = crew.pacer.turn(number, turn).max(1);
         turn = turn.wrapping_add(1);
         match stage.turn(budget) {
             Turn::Ended => {
-                notify_touched(crew, status, &stage);
+                notify_touched(crew.status, status, &stage);
                 return stage;
             }
-            Turn::Moved => go_on(crew, status, &policy, &stage),
-            Turn::Idle => rest(rt, crew, status, &policy, &stage),
+            Turn::Moved => go_on(crew.status, status, &policy, &stage),
+            Turn::Idle => rest(crew.runtime, crew.status, status, &policy, &stage),
         }
     }
     unreachable!()

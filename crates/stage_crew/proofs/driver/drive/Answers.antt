@@ -12,7 +12,7 @@ loop-init g c =
       tt,
       tt,
       record {
-        kept = kept_none g.G.MarkTake c.args.take.now c.new-state.result (map received c.args.marks.now.items) (sent c.args.stop.now) s.over s.going c.requires.fresh c.requires.untold;
+        kept = kept_none g.G.MarkTake c.args.take.now c.new-state.result (map received c.args.ends.now.marks.items) (sent c.args.ends.now.stop) s.over s.going c.requires.unused.fresh c.requires.unused.untold;
         marks_same = refl;
         stop_same = refl;
         len = refl;
@@ -49,7 +49,7 @@ finish-requires g c =
     let kept = kept_next g.G.MarkTake i.kept (gathers_then g.G.MarkTake q.gathers (c.let_read.ensures (map received c.gather_all-gathered.new.marks.items))) c.tell_stop.ensures.untold in
     let same = kept.takes.instances in
     let count = c.len-then-all_over.ensures in
-    omega (arith, same, count, q.len, i.len, c.requires.marks.0)
+    omega (arith, same, count, q.len, i.len, c.requires.unused.count)
 
 pub returns-then-all_over-clause-readers : goal.returns-then-all_over-clause-readers
 returns-then-all_over-clause-readers g c = each_then g.D.Turns.goes_on c.turns_go_on.ensures.on c.args.readers.now.items c.loop.readers.items c.turn_own-read.new.own.items c.loop.invariant.2.readers_on c.turn_own-read.ensures.own
@@ -57,13 +57,17 @@ returns-then-all_over-clause-readers g c = each_then g.D.Turns.goes_on c.turns_g
 pub returns-then-all_over-clause-own : goal.returns-then-all_over-clause-own
 returns-then-all_over-clause-own g c = each_then g.S.Turns.goes_on c.turns_go_on-2.ensures.on c.args.own.now.items c.loop.own.items c.turn_own-turned.new.own.items c.loop.invariant.2.own_on c.turn_own-turned.ensures.own
 
-pub returns-then-all_over-clause-collects : goal.returns-then-all_over-clause-collects
-returns-then-all_over-clause-collects g c =
+pub returns-then-all_over-clause-drives : goal.returns-then-all_over-clause-drives
+returns-then-all_over-clause-drives g c =
     let i = c.loop.invariant.2 in
     let q = c.gather_all-gathered.ensures in
     let e = c.finish.ensures.took in
     let marks = c.gather_all-gathered.new.marks in
     let n : length (map received marks.items) ≡ c.len.result = length-map marks.items received ∙ sym marks.ok.0 ∙ sym c.len.ensures in
     let m : length (map received marks.items) ≡ c.len-then-all_over.result = length-map marks.items received ∙ sym marks.ok.0 ∙ sym c.len-then-all_over.ensures in
-    collects g.G.MarkTake c.finish.new.take c.finish.result e.0 (kept_next g.G.MarkTake i.kept (gathers_then g.G.MarkTake q.gathers (c.let_read.ensures (map received marks.items))) c.tell_stop.ensures.untold)
-    (λ j less. c.if-all_over.ensures refl j (omega (arith, n, less))) e.4 e.3 (λ is. let k = e.2 is in (omega (arith, k.0, m), k.1)) c.finish.ensures.takes
+    record {
+      collects = collects g.G.MarkTake c.finish.new.take c.finish.result e.0 (kept_next g.G.MarkTake i.kept (gathers_then g.G.MarkTake q.gathers (c.let_read.ensures (map received marks.items))) c.tell_stop.ensures.untold)
+          (λ j less. c.if-all_over.ensures refl j (omega (arith, n, less))) e.4 e.3 (λ is. let k = e.2 is in (omega (arith, k.0, m), k.1)) c.finish.ensures.takes;
+      marks = q.links ∙ i.marks_same;
+      stop = c.tell_stop.ensures.link ∙ i.stop_same;
+    }

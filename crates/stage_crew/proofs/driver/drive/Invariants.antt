@@ -8,10 +8,10 @@ abbrev pub invariant-loop : goal.invariant-loop
 invariant-loop g l =
     (goal.iterator-loop g).can_next l.iterator' × (goal.iterator-loop g).is_finite l.iterator'
     × record {
-      kept : Kept g.G.MarkTake l.fn.take l.take l.state (map received l.marks.items) (sent l.stop);
-      marks_same : map rx_link l.marks.items ≡ map rx_link l.fn.marks.items;
-      stop_same : tx_link l.stop ≡ tx_link l.fn.stop;
-      len : vec_len l.marks ≡ vec_len l.fn.marks;
+      kept : Kept g.G.MarkTake l.fn.take l.take l.state (map received l.ends.marks.items) (sent l.ends.stop);
+      marks_same : map rx_link l.ends.marks.items ≡ map rx_link l.fn.ends.marks.items;
+      stop_same : tx_link l.ends.stop ≡ tx_link l.fn.ends.stop;
+      len : vec_len l.ends.marks ≡ vec_len l.fn.ends.marks;
       readers_on : Each g.D.Turns.goes_on l.fn.readers.items l.readers.items;
       readers_len : vec_len l.readers ≡ vec_len l.fn.readers;
       own_on : Each g.S.Turns.goes_on l.fn.own.items l.own.items;

@@ -9,7 +9,7 @@ returns-clause-drove g c =
     let w = c.within_scope-take.ensures in
     let s = c.settle.ensures in
     let rx = c.settle.new.rx in
-    drove g.F.RunFeed g.G.MarkTake (w.reader.goes.keeps c.args.feed.now c.new-reader.ensures.fed) w.reader.is_over w.collects (λ none. sym s.rx.1 ∙ front_none (received rx) (known rx) (s.tied ∙ s.tx.2 ∙ none))
+    drove g.F.RunFeed g.G.MarkTake (w.reader.goes.keeps c.args.feed.now c.new-reader.ensures.fed) w.reader.is_over w.drives.collects (λ none. sym s.rx.1 ∙ front_none (received rx) (known rx) (s.tied ∙ s.tx.2 ∙ none))
 
 pub returns-clause-origin : goal.returns-clause-origin
 returns-clause-origin g c = (c.within_scope-take.ensures.reader.goes.keeps c.args.feed.now c.new-reader.ensures.fed).origin
@@ -19,4 +19,4 @@ returns-clause-at_end g c is =
     let w = c.within_scope-take.ensures in
     let s = c.settle.ensures in
     let rx = c.settle.new.rx in
-    read_all g.F.RunFeed g.G.MarkTake (w.reader.goes.keeps c.args.feed.now c.new-reader.ensures.fed) w.reader.is_over w.collects (λ none. sym s.rx.1 ∙ front_none (received rx) (known rx) (s.tied ∙ s.tx.2 ∙ none)) (w.collects.closes is).0
+    read_all g.F.RunFeed g.G.MarkTake (w.reader.goes.keeps c.args.feed.now c.new-reader.ensures.fed) w.reader.is_over w.drives.collects (λ none. sym s.rx.1 ∙ front_none (received rx) (known rx) (s.tied ∙ s.tx.2 ∙ none)) (w.drives.collects.closes is).0
