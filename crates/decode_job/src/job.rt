@@ -11,7 +11,7 @@ ghost use Rattle.decode_job.specs.Decoding.{Decodes};
 use crate::DecodeEnd;
 use crate::capture_feed::CaptureFeed;
 use crate::ending::{Ran, close, goes_back, hand_on};
-use crate::running::{InThreads, run_here};
+use crate::running::run_here;
 use annot_merge::Merge;
 use capture_any::Capture;
 use decoder_core::Machine;
@@ -20,6 +20,7 @@ use la_io::{Buffered, Sink, Source};
 use note_lister::{Lister, Watch};
 use stack_laws::laws::machines_are_a_tree;
 use stack_spec::Stack;
+use stack_threads::{InThreads, run_stages};
 use stage_crew::Pacer;
 use std::alloc::Global;
 use std::snapshot::Snapshot;
@@ -98,7 +99,7 @@ fn list_in_threads<
     let mut lister = Lister::over(stack, merge, sink, watch);
     let before = Snapshot::of(&machines);
     machines_are_a_tree(&machines, parents);
-    let ran = way.run(machines, parents, &mut feed, &mut lister);
+    let ran = run_stages(way, machines, parents, &mut feed, &mut lister);
     let Ran {
         capture: read,
         source: read_from,

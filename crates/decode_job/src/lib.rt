@@ -17,4 +17,4 @@ pub use job::{decode, decode_in_threads};
 pub use laws::parts_list_the_whole;
 pub use part_end::PartEnd;
 pub use part_job::part;
-pub use running::InThreads;
+pub use stack_threads::InThreads;

@@ -1,5 +1,5 @@
 // How a tree of decoders is run.
-ghost use Rattle.std.specs.Prelude.{◌≡◌, ◌≤◌, OnErr, IfOk, length, map, true};
+ghost use Rattle.std.specs.Prelude.{◌≡◌, OnErr, IfOk, length, map, true};
 ghost use Rattle.decoder_core.specs.declared.end.RunEnd.TheVariants.{Ended, Stopped};
 ghost use Rattle.la_io.specs.Causes.{Rose};
 ghost use Rattle.tree_runs.specs.Machines.{Stand};
@@ -11,12 +11,8 @@ use decoder_core::{Machine, RunEnd};
 use la_base::NoMemory;
 use la_io::{MarkTake, RunFeed};
 use stack_direct::run_direct;
-use stack_threads::{exact_runs_are_runs, run_stages};
-use stage_crew::Pacer;
-use std::alloc::Global;
+use stack_threads::exact_runs_are_runs;
 use std::snapshot::Snapshot;
-use std::sync::Wait;
-use std::thread::Threads;
 
 /// Runs the tree to the end of the feed, or until the one that takes the marks has stopped, on the
 /// thread that asks for it.
@@ -53,49 +49,4 @@ pub(crate) fn run_here<M: Machine + Drop, F: RunFeed, G: MarkTake>(
         take,
     );
     Ok(end)
-}
-
-/// With a thread for each machine, and links of so many slots between them, 1 to 16,384.
-#[derive(Drop)]
-pub struct InThreads<'a, R, P> {
-    pub runtime: &'a R,
-    pub alloc: Global,
-    pub slots: u32,
-    pub pacer: &'a P,
-    ghost room: { (1 ≤ slots) × (slots ≤ 16384) },
-}
-
-impl<R: Threads + Wait + Sync, P: Pacer + Sync> InThreads<'_, R, P> {
-    /// Runs the tree to the end of the feed, or until the one that takes the marks has stopped.
-    /// After `NoMemory` nothing was read and no mark was taken.
-    pub(crate) fn run<M: Machine + Send + Drop, F: RunFeed + Send, G: MarkTake>(
-        &self,
-        machines: Vec<M>,
-        parents: &[Option<u32>],
-        feed: &mut F,
-        take: &mut G,
-    ) -> Result<RunEnd, NoMemory>
-        requires tree { IsTree parents.now (length machines.items) (G.instances take.old) }
-        ensures runs { IfOk result (λ end. RunsBy M.outputs M.near (map M.setup machines.items)
-            parents.now (Stand M.consumed machines.items) (F.gave feed.old) (F.gave feed.new)
-            (G.took take.old) (G.took take.new) (F.at_end feed.new) end) }
-        ensures at_end { IfOk result (λ end. end ≡ Ended → F.at_end feed.new ≡ true) }
-        ensures feed_origin { F.origin feed.new ≡ F.origin feed.old }
-        ensures take_origin { G.origin take.new ≡ G.origin take.old }
-        ensures instances { G.instances take.new ≡ G.instances take.old }
-        ensures going { IfOk result (λ end. G.going take.old true
-            → G.going take.new (is_ended end)) }
-        ensures none { OnErr result ((feed.new ≡ feed.old) × (take.new ≡ take.old)) }
-    {
-        run_stages(
-            self.runtime,
-            self.alloc,
-            machines,
-            parents,
-            self.slots,
-            feed,
-            take,
-            self.pacer,
-        )
-    }
 }

@@ -1,6 +1,7 @@
 //! A tree of decoders, each in a thread of its own.
 #![tactic(auto)]
 
+mod in_threads;
 mod laws;
 mod rooms;
 mod run;
@@ -8,6 +9,7 @@ mod settle;
 mod stages;
 mod wiring;
 
+pub use in_threads::InThreads;
 pub use laws::{exact_runs_are_runs, inputs_grow_by_feeds};
 pub use run::run_stages;
 pub use settle::settle_tree;

@@ -1,5 +1,5 @@
 // A run of a tree, with a thread for each decoder.
-ghost use Rattle.std.specs.Prelude.{◌≡◌, ◌≤◌, IfOk, OnErr, map, true, vec_len};
+ghost use Rattle.std.specs.Prelude.{◌≡◌, IfOk, OnErr, map, true, vec_len};
 ghost use Rattle.decoder_core.specs.Promises.{KeepsFront};
 ghost use Rattle.decoder_core.specs.declared.end.RunEnd.TheVariants.{Ended, Stopped as RunStopped};
 ghost use Rattle.la_io.specs.Causes.{Rose};
@@ -8,6 +8,7 @@ ghost use Rattle.tree_runs.specs.Runs.{is_ended};
 ghost use Rattle.tree_runs.specs.Taking.{IsTree};
 ghost use Rattle.stack_threads.specs.Runs.{RunsBy};
 
+use crate::in_threads::InThreads;
 use crate::rooms::rooms_of;
 use crate::settle::settle_tree;
 use crate::stages::{open_all, take_apart};
@@ -16,8 +17,7 @@ use decoder_core::{Machine, RunEnd};
 use la_base::NoMemory;
 use la_io::{MarkTake, RunFeed};
 use stack_laws::laws::{machines_are_a_tree, machines_tell_their_inputs, settled_ends_fit};
-use stage_crew::{Pacer, Ran, run_crew};
-use std::alloc::Global;
+use stage_crew::{CrewEnds, Pacer, Ran, Supplies, run_crew};
 use std::sync::Wait;
 use std::thread::Threads;
 
@@ -32,10 +32,9 @@ fn keeps_front<M: Machine>()
 /// what a machine consumed, and at the end of the feed the end of each instance. The marks of one
 /// instance are taken in their order, those of several as they come.
 ///
-/// `parents` tells of each machine on which one it stands. `slots` is 1 to 16,384: each link has
-/// room for one item in its first slot, and in each other for 24 where runs are sent on it and for
-/// 8 where packets or marks are, but for no more than 16,384. `pacer` tells how much a machine
-/// does in a turn.
+/// `parents` tells of each machine on which one it stands. Each link has room for one item in its
+/// first slot, and in each other for 24 where runs are sent on it and for 8 where packets or marks
+/// are, but for no more than 16,384.
 ///
 /// The machines may already stand for samples: what is taken is what follows. A packet that doesn't
 /// count for a machine is passed over by it. `Stopped` is answered where `take` stopped, at the
@@ -48,17 +47,13 @@ pub fn run_stages<
     P: Pacer + Sync,
     R: Threads + Wait + Sync,
 >(
-    rt: &R,
-    alloc: Global,
+    way: &InThreads<R, P>,
     machines: Vec<M>,
     parents: &[Option<u32>],
-    slots: u32,
     feed: &mut F,
     take: &mut G,
-    pacer: &P,
 ) -> Result<RunEnd, NoMemory>
     requires tree { IsTree parents.now (vec_len machines) (G.instances take.old) }
-    requires slots { (1 ≤ slots) × (slots ≤ 16384) }
     ensures runs { IfOk result (λ end. RunsBy M.outputs M.near (map M.setup machines.items)
         parents.now (Stand M.consumed machines.items) (F.gave feed.old) (F.gave feed.new)
         (G.took take.old) (G.took take.new) (F.at_end feed.new) end) }
@@ -75,18 +70,24 @@ pub fn run_stages<
     settled_ends_fit();
     machines_are_a_tree(&machines, parents);
     machines_tell_their_inputs(&machines, parents);
+    let alloc = way.alloc;
     let count = machines.len();
-    let Wires { ends, feeds, marks } = wire(alloc, rooms_of(slots), parents)?;
+    let Wires { ends, feeds, marks } = wire(alloc, rooms_of(way.slots), parents)?;
     let mut stages = Vec::with_capacity(alloc, count)?;
     let mut parts = Vec::with_capacity(alloc, count)?;
     open_all(machines, ends, &mut stages);
+    let supplies = Supplies {
+        runtime: way.runtime,
+        alloc,
+        pacer: way.pacer,
+    };
+    let ends = CrewEnds { feeds, marks };
     let Ran {
         stages,
-        mut feeds,
-        mut marks,
+        mut ends,
         end,
-    } = run_crew(rt, alloc, stages, parents, feeds, marks, feed, take, pacer)?;
+    } = run_crew(supplies, stages, parents, ends, feed, take)?;
     take_apart(stages, &mut parts);
-    settle_tree(&mut parts, parents, &mut feeds, &mut marks);
+    settle_tree(&mut parts, parents, &mut ends.feeds, &mut ends.marks);
     Ok(end)
 }

@@ -4,7 +4,7 @@ ghost use Rattle.std.specs.Prelude.{◌≡◌};
 use crate::stages::bus::{Marks, Samples, opened};
 use decoder_core::RunEnd;
 use decoder_set::Kind;
-use stack_threads::run_stages;
+use stack_threads::{InThreads, run_stages};
 use stage_crew::Pacer;
 use std::sync::atomic::{AtomicBool, AtomicU64, Ordering};
 use std::test::Fail;
@@ -43,9 +43,13 @@ fn each_turn_asks(rt: HostRuntime) -> Result<(), Fail> {
     let mut feed = Samples::new(alloc)?;
     let mut take = Marks::new(alloc, 100_000);
     let parents = [None, Some(0), Some(0)];
-    match run_stages(
-        &rt, alloc, machines, &parents, 8, &mut feed, &mut take, &pacer,
-    ) {
+    let way = InThreads {
+        runtime: &rt,
+        alloc,
+        slots: 8,
+        pacer: &pacer,
+    };
+    match run_stages(&way, machines, &parents, &mut feed, &mut take) {
         Ok(end) => assert!(rt; end == RunEnd::Ended),
         Err(_) => return Err("no memory".into()),
     }

@@ -8,7 +8,7 @@ use decoder_set::Kind;
 use la_base::{Mark, Run};
 use la_io::{MarkTake, RunFeed, Stopped};
 use stack_direct::run_direct;
-use stack_threads::run_stages;
+use stack_threads::{InThreads, run_stages};
 use stage_crew::PlainPacer;
 use std::alloc::{AllocError, Global};
 use std::sync::Wait;
@@ -168,16 +168,13 @@ fn run<R: Threads + Wait + Sync>(
         let end = run_direct(&mut machines, &parents, &mut feed, &mut take);
         return Ok((end, feed, take));
     }
-    match run_stages(
-        rt,
+    let way = InThreads {
+        runtime: rt,
         alloc,
-        machines,
-        &parents,
-        16,
-        &mut feed,
-        &mut take,
-        &PlainPacer,
-    ) {
+        slots: 16,
+        pacer: &PlainPacer,
+    };
+    match run_stages(&way, machines, &parents, &mut feed, &mut take) {
         Ok(end) => Ok((end, feed, take)),
         Err(_) => Err("no memory".into()),
     }
@@ -320,15 +317,18 @@ fn all_marks_have_come_while_a_call_waits(rt: HostRuntime) -> Result<(), Fail> {
     machines.push(opened(Kind::I2c, Some(0), Some(1))?)?;
     machines.push(opened(Kind::Eeprom24, None, None)?)?;
     machines.push(opened(Kind::Eeprom24, Some(1), None)?)?;
-    match run_stages(
-        &rt,
+    let way = InThreads {
+        runtime: &rt,
         alloc,
+        slots: 16,
+        pacer: &PlainPacer,
+    };
+    match run_stages(
+        &way,
         machines,
         &[None, Some(0), Some(0)],
-        16,
         &mut feed,
         &mut take,
-        &PlainPacer,
     ) {
         Ok(end) => assert!(rt; end == RunEnd::Ended),
         Err(_) => return Err("no memory".into()),

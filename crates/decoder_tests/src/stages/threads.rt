@@ -7,7 +7,7 @@ use decoder_core::RunEnd;
 use decoder_set::Kind;
 use la_base::Mark;
 use stack_direct::run_direct;
-use stack_threads::run_stages;
+use stack_threads::{InThreads, run_stages};
 use stage_crew::{Pacer, PlainPacer};
 use std::alloc::Global;
 use std::sync::Wait;
@@ -48,9 +48,13 @@ fn run_until<R: Threads + Wait + Sync, P: Pacer + Sync>(
     let mut feed = Samples::new(alloc)?;
     let mut take = Marks::new(alloc, most);
     let slots = slots.clamp(1, 16384);
-    match run_stages(
-        rt, alloc, machines, &parents, slots, &mut feed, &mut take, pacer,
-    ) {
+    let way = InThreads {
+        runtime: rt,
+        alloc,
+        slots,
+        pacer,
+    };
+    match run_stages(&way, machines, &parents, &mut feed, &mut take) {
         Ok(end) => Ok((end, feed, take)),
         Err(_) => Err("no memory".into()),
     }

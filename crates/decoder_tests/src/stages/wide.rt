@@ -9,7 +9,7 @@ use decoder_core::{Driver, RunEnd};
 use la_base::{Run, Word};
 use la_io::RunFeed;
 use stack_direct::run_direct;
-use stack_threads::run_stages;
+use stack_threads::{InThreads, run_stages};
 use stage_crew::PlainPacer;
 use std::alloc::{AllocError, Global};
 use std::sync::Wait;
@@ -135,16 +135,13 @@ fn run_apart<R: Threads + Wait + Sync>(rt: &R, alloc: Global, slots: u32) -> Res
     }
     let mut feed = Listed::new(alloc)?;
     let mut take = Marks::new(alloc, ALL);
-    match run_stages(
-        rt,
+    let way = InThreads {
+        runtime: rt,
         alloc,
-        machines,
-        &[None, None, None],
-        slots.clamp(1, 16384),
-        &mut feed,
-        &mut take,
-        &PlainPacer,
-    ) {
+        slots: slots.clamp(1, 16384),
+        pacer: &PlainPacer,
+    };
+    match run_stages(&way, machines, &[None, None, None], &mut feed, &mut take) {
         Ok(RunEnd::Ended) => Ok(take),
         Ok(RunEnd::Stopped) => Err("stopped".into()),
         Err(_) => Err("no memory".into()),

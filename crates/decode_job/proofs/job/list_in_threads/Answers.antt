@@ -6,21 +6,21 @@ use Rattle.decode_job.proofs.Flushing.{decodes_moved, relation_moved}
 use Rattle.decode_job.proofs.Sending.{feed_sent}
 use Rattle.decode_job.proofs.job.list_in_threads.Goals as goal
 
-pub run-ran-requires-send-F : goal.run-ran-requires-send-F
-run-ran-requires-send-F g c κs within = param_send _ _ (arg_send _ no _ (feed_sent _ _ _ _ _ c.type_bounds.send-S))
+pub run_stages-ran-requires-send-F : goal.run_stages-ran-requires-send-F
+run_stages-ran-requires-send-F g c κs within = param_send _ _ (arg_send _ no _ (feed_sent _ _ _ _ _ c.type_bounds.send-S))
 
 pub close-read-requires-clause-ran : goal.close-read-requires-clause-ran
 close-read-requires-clause-ran g c =
     let feed = c.new-feed in
     let lister = c.over-lister in
-    let run = c.run-ran in
+    let run = c.run_stages-ran in
     ran_to g.M.Machine g.S.Source g.K.Sink g.W.Watch.saw c.args.machines.items c.of-before.result.value.items (sym (ap (λ v. v.items) c.of-before.ensures)) c.args.parents.now feed.result run.new.feed lister.result run.new.take
     (record { gave = feed.ensures.gave; took = lister.ensures.took; source = feed.ensures.source_now ∙ sym feed.ensures.source; sink = lister.ensures.now ∙ sym lister.ensures.first; unseen = subst (λ w. g.W.Watch.saw w []) (sym lister.ensures.watch) c.requires.unseen })
     lister.ensures.goes run.result run.ensures.runs run.ensures.at_end run.ensures.going run.ensures.none
 
 pub returns-clause-decodes : goal.returns-clause-decodes
 returns-clause-decodes g c =
-    let run = c.run-ran.ensures in
+    let run = c.run_stages-ran.ensures in
     let feed = c.new-feed.ensures in
     let lister = c.over-lister.ensures in
     let close = c.close-read in
@@ -31,12 +31,12 @@ returns-clause-decodes g c =
 
 pub returns-clause-origin : goal.returns-clause-origin
 returns-clause-origin g c =
-    let run = c.run-ran.ensures in
+    let run = c.run_stages-ran.ensures in
     ap g.W.Watch.origin c.close-read.ensures.watch ∙ (ap (λ o. o.2) run.take_origin ∙ ap g.W.Watch.origin c.over-lister.ensures.watch)
 
 pub returns-clause-goes_on : goal.returns-clause-goes_on
 returns-clause-goes_on g c =
-    let run = c.run-ran.ensures in
+    let run = c.run_stages-ran.ensures in
     let lister = c.over-lister.ensures in
     let close = c.close-read in
     let same_sink = close.ensures.same_sink ∙ (ap (λ o. o.1.value.ghost_name) run.take_origin ∙ lister.same) in

@@ -36,10 +36,10 @@ settle_tree-requires-clause-counts g c =
     let opened = c.open_all.ensures.stages in
     let parted = c.take_apart.ensures.parts in
     let same = each_len (RanOut m) c.open_all.new.stages.items ran.stages.items c.in_ok-stages-2.ensures.stages in
-    let marks = ap length c.in_ok-stages-2.ensures.links.1 in
+    let marks = ap length c.in_ok-stages-2.ensures.links.marks in
     let gathers = c.in_ok-ends.ensures.gathers in (
       ap length c.deref_mut.ensures.value ∙ omega (arith, c.take_apart.new.parts.ok.0, c.take_apart.ensures.room.1, c.in_ok-parts.ensures.len, ran.stages.ok.0, same, c.open_all.new.stages.ok.0, c.open_all.ensures.room.1, c.in_ok-stages.ensures.len, c.requires.tree.each),
-      ap length c.deref_mut-3.ensures.value ∙ omega (arith, marks, gathers, length-map ran.marks.items rx_link),
+      ap length c.deref_mut-3.ensures.value ∙ omega (arith, marks, gathers, length-map ran.ends.marks.items rx_link),
     )
 
 pub settle_tree-requires-clause-wired : goal.settle_tree-requires-clause-wired
@@ -52,7 +52,7 @@ settle_tree-requires-clause-wired g c =
     let parted = c.take_apart.ensures.parts in
     let parts : c.deref_mut.result.now ≡ parted.0 = c.deref_mut.ensures.value ∙ made_all c.in_ok-parts.parts.items c.take_apart.new.parts.items parted.0 parted.1 c.in_ok-parts.ensures.items in
     let all = parted_links m c.keeps_front.ensures c.args.machines.items c.in_ok-ends.field-0 opened.0 ran.stages.items parted.0 opened.2 opened.3 (subst (λ (l : List (Stage _)). Each (RanOut m) l ran.stages.items) stages goes.stages) parted.2 in
-    wired_parts c.rooms_of.result c.args.parents.now c.in_ok-ends.field-0 parted.0 c.deref_mut.result.now ran.feeds.items c.deref_mut-2.result.now ran.marks.items c.deref_mut-3.result.now c.in_ok-ends.ensures all parts c.deref_mut-2.ensures.value goes.links.0 c.deref_mut-3.ensures.value goes.links.1
+    wired_parts c.rooms_of.result c.args.parents.now c.in_ok-ends.field-0 parted.0 c.deref_mut.result.now ran.ends.feeds.items c.deref_mut-2.result.now ran.ends.marks.items c.deref_mut-3.result.now c.in_ok-ends.ensures all parts c.deref_mut-2.ensures.value goes.links.feeds c.deref_mut-3.ensures.value goes.links.marks
 
 pub returns-clause-runs : goal.returns-clause-runs
 returns-clause-runs g c =
@@ -70,8 +70,8 @@ returns-clause-runs g c =
     (subst (λ (l : List (Stage _)). Each (RanOut m) l ran.stages.items) stages goes.stages) parted.2
     c.args.parents.now c.requires.tree.forest (omega (arith, c.args.machines.ok.0, c.requires.tree.each)) c.rooms_of.result c.in_ok-ends.ensures c.settle_tree.new.parts
     (subst (λ (l : List (Parts _)). AllZip Alike l c.settle_tree.new.parts) parts c.settle_tree.ensures.parts)
-    c.settle_tree.new.feeds (ends.feeds.1 ∙ ap (map tx_link) c.deref_mut-2.ensures.value ∙ goes.links.0)
-    c.settle_tree.new.marks (ends.marks.1 ∙ ap (map rx_link) c.deref_mut-3.ensures.value ∙ goes.links.1)
+    c.settle_tree.new.feeds (ends.feeds.1 ∙ ap (map tx_link) c.deref_mut-2.ensures.value ∙ goes.links.feeds)
+    c.settle_tree.new.marks (ends.marks.1 ∙ ap (map rx_link) c.deref_mut-3.ensures.value ∙ goes.links.marks)
     c.settle_tree.ensures.tied
     (drove_tied old_feeds c.settle_tree.new.feeds old_marks c.settle_tree.new.marks ends (drove_same (ap (map sent) c.deref_mut-2.ensures.value) (ap (map received) c.deref_mut-3.ensures.value) goes.drove))
     (subst (λ (l : List _). IsLawful c.args.parents.now (defined m.outputs m.near (map m.setup l))) c.deref.ensures.value c.machines_are_a_tree.ensures)
