@@ -1,8 +1,8 @@
 use Rattle.std.proofs.Common.{ℕ, ◌≡◌, ◌++◌, ◌∙◌, ◌==◌, Bor, List, [], ◌∷◌, length, map, codes, false, refl, sym, ap, rules}
 use Rattle.std.specs.List.{concat}
-use Rattle.ldecode_program.specs.Decoders.{classes_told, joined}
-use Rattle.ldecode_program.proofs.Telling.{if_ok}
-use Rattle.ldecode_program.proofs.decoders.classes_told.Goals as goal
+use Rattle.help_text.specs.Decoders.{classes_told, joined}
+use Rattle.help_text.proofs.Telling.{if_ok}
+use Rattle.help_text.proofs.decoders.classes_told.Goals as goal
 
 -- where there are classes, this is told of them
 some_told : (classes : List (Bor (List ℕ))) → (length classes == 0) ≡ false → classes_told (map (λ class. class.now) classes) ≡ concat (codes "      binary data: " ∷ joined (codes ", ") (map (λ class. class.now) classes) ∷ codes "\n" ∷ [])

@@ -4,10 +4,10 @@ use Rattle.decoder_set.specs.declared.kinds.Kind.TheVariants.{I2c}
 use Rattle.decoder_set.specs.declared.table.TheConstants.{KINDS}
 use Rattle.words.specs.declared.options.Name.TheVariants.{Job}
 use Rattle.words.specs.declared.options.TheConstants.{OPTIONS}
-use Rattle.ldecode_program.specs.declared.help.TheConstants.{CLOSING, DECODERS, USAGE}
-use Rattle.ldecode_program.specs.Help.{TellsEach, TellsKind, TellsOption}
-use Rattle.ldecode_program.proofs.Telling.{tells_next}
-use Rattle.ldecode_program.proofs.help.help_text.Goals as goal
+use Rattle.help_text.specs.declared.help.TheConstants.{CLOSING, DECODERS, USAGE}
+use Rattle.help_text.specs.Help.{TellsEach, TellsKind, TellsOption}
+use Rattle.help_text.proofs.Telling.{tells_next}
+use Rattle.help_text.proofs.help.help_text.Goals as goal
 
 pub loop-name-preserved : goal.loop-name-preserved
 loop-name-preserved c =

@@ -2,7 +2,7 @@
 use Rattle.std.proofs.Common.{ℕ, suc, ◌≡◌, ◌∙◌, ◌+◌, ◌<◌, List, ◌++◌, length, map, drop, get_or, slice_get, ap, drop-cons, arith}
 use Rattle.decoder_set.specs.Kinds.{opt_row}
 use Rattle.decoder_set.specs.declared.kinds.OptRow.{OptRow}
-use Rattle.ldecode_program.specs.Decoders.{option_told, options_told, text_in}
+use Rattle.help_text.specs.Decoders.{option_told, options_told, text_in}
 
 -- the next of some options, and those behind it
 pub options_next : (meanings : List (List ℕ)) (rows : List OptRow) (n : ℕ) (default : OptRow) → n < length rows

@@ -3,11 +3,11 @@ ghost use Rattle.std.specs.Prelude.{◌≡◌, IfOk, map, slice_get};
 ghost use Rattle.std.specs.List.{flat_map};
 ghost use Rattle.std.specs.String.{string_bytes};
 ghost use Rattle.decoder_set.specs.Kinds.{Choice, form_of, opt_row};
-ghost use Rattle.ldecode_program.specs.Decoders.{asked_told, classes_told, first_word, giver_of};
-ghost use Rattle.ldecode_program.specs.Decoders.{group_told, joined, kind_line, name_at};
-ghost use Rattle.ldecode_program.specs.Decoders.{option_told, options_told, stands_on, takes_text};
-ghost use Rattle.ldecode_program.specs.Decoders.{text_in};
-ghost use Rattle.ldecode_program.specs.Help.{TellsKind};
+ghost use Rattle.help_text.specs.Decoders.{asked_told, classes_told, first_word, giver_of};
+ghost use Rattle.help_text.specs.Decoders.{group_told, joined, kind_line, name_at};
+ghost use Rattle.help_text.specs.Decoders.{option_told, options_told, stands_on, takes_text};
+ghost use Rattle.help_text.specs.Decoders.{text_in};
+ghost use Rattle.help_text.specs.Help.{TellsKind};
 
 use crate::meanings::{meanings_of, what_of};
 use decoder_set::{

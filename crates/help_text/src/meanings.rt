@@ -1,7 +1,7 @@
 // What each decoder is, and what its options mean, in words: what the table of kinds doesn't say.
 ghost use Rattle.std.specs.Prelude.{◌≡◌, length, map};
 ghost use Rattle.decoder_set.specs.Kinds.{kind_row};
-ghost use Rattle.ldecode_program.specs.Meanings.{meanings_of, what_of};
+ghost use Rattle.help_text.specs.Meanings.{meanings_of, what_of};
 
 use decoder_set::Kind;
 

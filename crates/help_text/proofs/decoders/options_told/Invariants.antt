@@ -1,8 +1,8 @@
 use Rattle.std.proofs.Common.{◌≡◌, ◌++◌, drop, map}
 use Rattle.std.specs.String.{string_bytes}
 use Rattle.decoder_set.specs.Kinds.{opt_row}
-use Rattle.ldecode_program.specs.Decoders.{options_told}
-use Rattle.ldecode_program.proofs.decoders.options_told.Given as goal
+use Rattle.help_text.specs.Decoders.{options_told}
+use Rattle.help_text.proofs.decoders.options_told.Given as goal
 
 abbrev pub invariant-loop-place : goal.invariant-loop-place
 invariant-loop-place l =

@@ -7,7 +7,7 @@ use Rattle.la_base.specs.declared.wires.Wire.{Wire}
 use Rattle.decoder_set.specs.declared.kinds.Asked.{Asked}
 use Rattle.decoder_set.specs.declared.kinds.Kind.{Kind}
 use Rattle.decoder_set.specs.Kinds.{Text, Form, Pin, Number, Choice, OptionRow, kind_row, kinds}
-use Rattle.ldecode_program.specs.Meanings.{meanings_of, what_of}
+use Rattle.help_text.specs.Meanings.{meanings_of, what_of}
 
 -- words, with this between two of them
 abbrev pub joined : Text → List Text → Text

@@ -2,8 +2,8 @@ use Rattle.std.proofs.Common.{◌≡◌, map, take}
 use Rattle.std.specs.List.{flat_map}
 use Rattle.std.specs.String.{string_bytes}
 use Rattle.decoder_set.specs.Kinds.{opt_row}
-use Rattle.ldecode_program.specs.Decoders.{group_told}
-use Rattle.ldecode_program.proofs.decoders.groups_told.Given as goal
+use Rattle.help_text.specs.Decoders.{group_told}
+use Rattle.help_text.proofs.decoders.groups_told.Given as goal
 
 abbrev pub invariant-loop-group : goal.invariant-loop-group
 invariant-loop-group l = string_bytes l.text ≡ flat_map (λ group. group_told (map opt_row l.fn.rows) group.now) (take l.group-index l.fn.groups)

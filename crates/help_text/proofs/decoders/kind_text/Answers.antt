@@ -4,9 +4,9 @@ use Rattle.std.proofs.lemmas.List.Folds.{flat_map-map}
 use Rattle.std.specs.List.{concat, flat_map}
 use Rattle.std.specs.String.{string_bytes}
 use Rattle.decoder_set.specs.Kinds.{OptionRow, kind_row, opt_row}
-use Rattle.ldecode_program.specs.Decoders.{classes_told, group_told, kind_line, options_told}
-use Rattle.ldecode_program.specs.Meanings.{meanings_of}
-use Rattle.ldecode_program.proofs.decoders.kind_text.Goals as goal
+use Rattle.help_text.specs.Decoders.{classes_told, group_told, kind_line, options_told}
+use Rattle.help_text.specs.Meanings.{meanings_of}
+use Rattle.help_text.proofs.decoders.kind_text.Goals as goal
 
 -- three parts behind a first one
 in_order : (text one two three told_one told_two told_three first second third : List ℕ) → told_one ≡ first → told_two ≡ second → told_three ≡ third → one ≡ text ++ told_one → two ≡ one ++ told_two → three ≡ two ++ told_three

@@ -1,7 +1,7 @@
 use Rattle.std.proofs.Common.{◌≡◌, map, take}
 use Rattle.decoder_set.specs.Kinds.{opt_row}
-use Rattle.ldecode_program.specs.Decoders.{name_at}
-use Rattle.ldecode_program.proofs.decoders.group_names.Given as goal
+use Rattle.help_text.specs.Decoders.{name_at}
+use Rattle.help_text.proofs.decoders.group_names.Given as goal
 
 abbrev pub invariant-loop-place : goal.invariant-loop-place
 invariant-loop-place l = map (λ name. name.now) l.names.items ≡ map (λ place. name_at (map opt_row l.fn.rows) place) (take l.place-index l.fn.group)

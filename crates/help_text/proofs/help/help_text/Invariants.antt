@@ -1,7 +1,7 @@
 use Rattle.std.proofs.Common.{◌≡◌, ◌++◌, ℕ, List, take}
 use Rattle.std.specs.String.{string_bytes}
-use Rattle.ldecode_program.specs.Help.{TellsEach, TellsKind, TellsOption}
-use Rattle.ldecode_program.proofs.help.help_text.Given as goal
+use Rattle.help_text.specs.Help.{TellsEach, TellsKind, TellsOption}
+use Rattle.help_text.proofs.help.help_text.Given as goal
 
 abbrev pub invariant-loop-name : goal.invariant-loop-name
 invariant-loop-name l = (told : List ℕ) × (string_bytes l.text ≡ string_bytes l.initial.text ++ told) × TellsEach TellsOption (take l.name-index l.name-items) told

@@ -2,9 +2,9 @@ use Rattle.std.proofs.Common.{◌≡◌, Bor, List, MatchOption, None, Option, S
 use Rattle.std.specs.Prelude.{codes, option_map, unwrap_or}
 use Rattle.std.specs.String.{string_bytes}
 use Rattle.words.specs.Options.{Row}
-use Rattle.ldecode_program.specs.Help.{TellsOption, option_lines}
-use Rattle.ldecode_program.proofs.Telling.{if_ok}
-use Rattle.ldecode_program.proofs.help.option_text.Goals as goal
+use Rattle.help_text.specs.Help.{TellsOption, option_lines}
+use Rattle.help_text.proofs.Telling.{if_ok}
+use Rattle.help_text.proofs.help.option_text.Goals as goal
 
 usual_is : (usual : Option (Bor (List ℕ))) (text : List ℕ) → MatchOption usual (text ≡ codes "none") (λ given. text ≡ given.now) → text ≡ unwrap_or (option_map (λ (given : Bor (List ℕ)). given.now) usual) (codes "none")
 usual_is None text is = is

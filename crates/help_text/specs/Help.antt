@@ -4,7 +4,7 @@ use Rattle.std.specs.List.{concat}
 use Rattle.decoder_set.specs.declared.kinds.Kind.{Kind}
 use Rattle.words.specs.Options.{row}
 use Rattle.words.specs.declared.options.Name.{Name}
-use Rattle.ldecode_program.specs.Decoders.{kind_told}
+use Rattle.help_text.specs.Decoders.{kind_told}
 
 -- the lines of an option: its name, what it sets, its values and its usual value
 abbrev pub option_lines : List ℕ → List ℕ → List ℕ → List ℕ → List ℕ

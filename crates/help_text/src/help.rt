@@ -3,8 +3,8 @@ ghost use Rattle.std.specs.Prelude.{◌≡◌, IfOk, MatchOption, codes};
 ghost use Rattle.std.specs.String.{string_bytes};
 ghost use Rattle.decoder_set.specs.declared.table.TheConstants.{KINDS};
 ghost use Rattle.words.specs.declared.options.TheConstants.{OPTIONS};
-ghost use Rattle.ldecode_program.specs.Help.{IsHelp, TellsOption, option_lines};
-ghost use Rattle.ldecode_program.specs.declared.help.TheConstants.{USAGE, DECODERS, CLOSING};
+ghost use Rattle.help_text.specs.Help.{IsHelp, TellsOption, option_lines};
+ghost use Rattle.help_text.specs.declared.help.TheConstants.{USAGE, DECODERS, CLOSING};
 
 use crate::decoders::kind_text;
 use decoder_set::KINDS;
@@ -14,8 +14,8 @@ use words::{Name, OPTIONS};
 /// What `--version` tells.
 pub const VERSION: &str = "ldecode 0.1.0\n";
 
-// What the program does, and how its words are put.
-const USAGE: &str = "\
+/// What the program does, and how its words are put.
+pub const USAGE: &str = "\
 ldecode reads a recorded logic capture on standard input.
 
 ldecode [OPTION..] CHAIN..
@@ -49,13 +49,13 @@ words:
 // The columns for what an option sets, after six blanks.
 const MOST_SETS: usize = 74;
 
-// The heading of the decoders.
-const DECODERS: &str = "
+/// The heading of the decoders.
+pub const DECODERS: &str = "
 Decoders, and what each stands on, its options and its binary data:
 ";
 
-// A whole example of each job, and what an exit status says.
-const CLOSING: &str = "
+/// A whole example of each job, and what an exit status says.
+pub const CLOSING: &str = "
 An I2C bus on the first two of eight channels, a byte a sample; and with an
 EEPROM:
     ldecode i2c:scl=D0:sda=D1 < capture.raw

@@ -4,7 +4,7 @@ use Rattle.std.proofs.lemmas.List.{append-nil, map-append, take_more}
 use Rattle.std.proofs.lemmas.List.Folds.{flat_map-map}
 use Rattle.std.proofs.lemmas.Grind.{flat_map-append}
 use Rattle.std.specs.List.{flat_map, join_by}
-use Rattle.ldecode_program.specs.Help.{TellsEach}
+use Rattle.help_text.specs.Help.{TellsEach}
 
 tells_more : {A : Type 0} (Tells : A → List ℕ → Type 0) (xs : List A) (x : A) (told part : List ℕ) → TellsEach Tells xs told → Tells x part → TellsEach Tells (xs ++ x ∷ []) (told ++ part)
 tells_more Tells [] x told part none tells = (part, [], ap (λ (l : List ℕ). l ++ part) none ∙ sym (append-nil part), tells, refl)
