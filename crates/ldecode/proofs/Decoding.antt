@@ -16,13 +16,13 @@ use Rattle.stack_spec.specs.Accepting.{Accepted}
 use Rattle.stack_spec.specs.Stacks.{stack_meaning}
 use Rattle.words.specs.Settings.{Values}
 use Rattle.words.specs.declared.kinds.Job.TheVariants.{Decode}
+use Rattle.run_status.specs.Notices.{status_by, status_of}
+use Rattle.run_status.specs.declared.status.Status.{Status}
 use Rattle.ldecode.specs.Headline.{DecodesOn, IsBegun, IsListed, RefusesOn, WorksOn}
-use Rattle.ldecode.specs.Notices.{status_by, status_of}
 use Rattle.ldecode.specs.Opening.{IsOpened}
 use Rattle.ldecode.specs.Parting.{Saves}
 use Rattle.ldecode.specs.Watching.{IsSeen, IsSeenFront, is_whole}
 use Rattle.ldecode.specs.declared.open_stack.Opened.{Opened}
-use Rattle.ldecode.specs.declared.status.Status.{Status}
 use Rattle.ldecode.proofs.Working.{head_later, read_is_cut, worked, works_refused}
 
 -- a decoding of what was opened, told of a copy of its parents

@@ -17,11 +17,12 @@ use Rattle.stack_spec.specs.declared.faults.StackFault.{StackFault}
 use Rattle.check_point.specs.declared.faults.CheckFault.{CheckFault}
 use Rattle.la_io.specs.declared.fault.CaptureFault.TheVariants.{Past}
 use Rattle.stack_spec.specs.Binding as binding
+use Rattle.run_status.specs.Causes.{SinkCause, SourceCause, WhereUnread}
+use Rattle.run_status.specs.declared.status.Status.{Status}
+use Rattle.run_status.specs.declared.status.Status.TheVariants.{Bind, Capture, Check, Done, NoMemory, ReadFault, Stack, Words, WriteFault}
+use Rattle.run_status.specs.Notices.{line_of, notice_of}
 use Rattle.ldecode.specs.Asking.{CanBind, CannotBind, CheckRefused, EndsAs, GoesPast, HasFault, HasStack, HasStackFault, HeadIs, IsFormOf, IsJudged, NamesNoHead}
-use Rattle.ldecode.specs.Headline.{DidFail, Does, Good, IsLine, IsMade, Makes, Notified, OrNoMemory, Parted, Promises, RunTells, Saw, SinkCause, SourceCause, Stream, Tells, WhereUnread, Worked, Works}
-use Rattle.ldecode.specs.declared.status.Status.{Status}
-use Rattle.ldecode.specs.declared.status.Status.TheVariants.{Bind, Capture, Check, Done, NoMemory, ReadFault, Stack, Words, WriteFault}
-use Rattle.ldecode.specs.Notices.{line_of, notice_of}
+use Rattle.ldecode.specs.Headline.{DidFail, Does, Good, IsLine, IsMade, Makes, Notified, OrNoMemory, Parted, Promises, RunTells, Saw, Stream, Tells, Worked, Works}
 use Rattle.ldecode.specs.Parting.{Saves, most_samples}
 use Rattle.ldecode.specs.Watching.{RunsShelved, WatchedHeadline}
 use Rattle.view_store.specs.Listings.{Listing}

@@ -26,14 +26,15 @@ use Rattle.decode_job.specs.Parting.{Behind, CutsCheck, PartLists as JobLists, W
 use Rattle.decode_job.specs.declared.part_end.PartEnd.{PartEnd}
 use Rattle.words.specs.Settings.{Values}
 use Rattle.words.specs.declared.kinds.Job.TheVariants.{Part}
+use Rattle.run_status.specs.Notices.{status_of}
+use Rattle.run_status.specs.declared.status.Status.TheVariants.{Check}
 use Rattle.ldecode.specs.Asking.{AsksStack, IsFormOf, IsJudged, StackBound, setups_in}
 use Rattle.ldecode.specs.Headline.{WorksOn}
-use Rattle.ldecode.specs.Notices.{end_of_part, status_of}
+use Rattle.ldecode.specs.PartStatus.{end_of_part}
 use Rattle.ldecode.specs.Opening.{IsOpened}
 use Rattle.ldecode.specs.Parting.{Begun, CanBegin, CantBegin, Saves, places_of}
 use Rattle.ldecode.specs.Parts.{CameBefore, IsCheckAt, PartLists, parents_on, part_listing, setups_on}
 use Rattle.ldecode.specs.declared.open_stack.Opened.{Opened}
-use Rattle.ldecode.specs.declared.status.Status.TheVariants.{Check}
 use Rattle.ldecode.proofs.Begun.{begun_behind, begun_few, begun_setups, parents_of_nodes, setups_of_nodes}
 use Rattle.ldecode.proofs.PartTold.{part_ended, part_wrote}
 use Rattle.ldecode.proofs.Working.{checking_fails, part_ends}

@@ -9,15 +9,16 @@ use Rattle.words.specs.Given.{word_fault_in}
 use Rattle.words.specs.declared.kinds.WordsError.{WordsError}
 use Rattle.words.specs.declared.kinds.WordsError.TheVariants as error
 use Rattle.view_store.specs.Listings.{Listing, nothing}
+use Rattle.run_status.specs.Causes.{WhereUnread}
+use Rattle.run_status.specs.Notices.{status_at_words}
+use Rattle.run_status.specs.declared.outcome.Outcome.{Outcome}
+use Rattle.run_status.specs.declared.status.Status.{Status}
+use Rattle.run_status.specs.declared.status.Status.TheVariants.{Bind, Capture, Check, Done, NoMemory, ReadFault, Stack, Words, WriteFault}
 use Rattle.ldecode.specs.Asking.{NamesNoHead, lists_notes}
-use Rattle.ldecode.specs.Headline.{Does, DoesOn, Good, IsMade, IsWatched, RunTells, Saw, Tells, WhereUnread, WorksOn}
+use Rattle.ldecode.specs.Headline.{Does, DoesOn, Good, IsMade, IsWatched, RunTells, Saw, Tells, WorksOn}
 use Rattle.ldecode.specs.Making.{MadeBy}
-use Rattle.ldecode.specs.Notices.{status_at_words}
 use Rattle.ldecode.specs.Parting.{Saves}
 use Rattle.ldecode.specs.Watching.{IsShelved, RunsShelved, RunsViewed, SawOf, ShelvesOn, ViewsOn}
-use Rattle.ldecode.specs.declared.outcome.Outcome.{Outcome}
-use Rattle.ldecode.specs.declared.status.Status.{Status}
-use Rattle.ldecode.specs.declared.status.Status.TheVariants.{Bind, Capture, Check, Done, NoMemory, ReadFault, Stack, Words, WriteFault}
 use Rattle.ldecode.proofs.Shelving.{works_shelved}
 
 -- what work and shelf say of a run

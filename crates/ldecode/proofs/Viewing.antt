@@ -12,13 +12,13 @@ use Rattle.stack_spec.specs.Accepting.{Accepted}
 use Rattle.words.specs.Settings.{Values}
 use Rattle.view_store.specs.Listings.{Listing}
 use Rattle.shelf_watch.specs.Shelves.{pair_of}
+use Rattle.run_status.specs.Notices.{is_done, status_by, status_of}
+use Rattle.run_status.specs.declared.status.Status.{Status}
+use Rattle.run_status.specs.declared.status.Status.TheVariants.{Bind, Capture, Check, Done, NoMemory, ReadFault, Stack, Words, WriteFault}
 use Rattle.ldecode.specs.Decoding.{decode_listing, decode_notes}
 use Rattle.ldecode.specs.Headline.{DecodedAs, DecodesOn, HasNotes, HasSoMany, IsBegun, IsListed, IsWatched, RefusesOn, WorksOn}
-use Rattle.ldecode.specs.Notices.{is_done, status_by, status_of}
 use Rattle.ldecode.specs.Parting.{Saves}
 use Rattle.ldecode.specs.Watching.{IsSeen, IsSeenFront, IsShelved, IsShown, IsShownFront, ShelvesOn, ViewsOn}
-use Rattle.ldecode.specs.declared.status.Status.{Status}
-use Rattle.ldecode.specs.declared.status.Status.TheVariants.{Bind, Capture, Check, Done, NoMemory, ReadFault, Stack, Words, WriteFault}
 use Rattle.ldecode.proofs.Decoding.{by_says, decodes_cut, decodes_less, works_decoded, written}
 use Rattle.ldecode.proofs.Shelving.{works_shelved}
 use Rattle.ldecode.proofs.Working.{no_room, works_refused}

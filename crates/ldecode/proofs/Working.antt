@@ -25,17 +25,18 @@ use Rattle.words.specs.Settings.{Values}
 use Rattle.stack_spec.specs.Accepting.{Accepted}
 use Rattle.check_point.specs.declared.faults.CheckFault.{CheckFault}
 use Rattle.words.specs.declared.kinds.Job.TheVariants.{Part}
+use Rattle.run_status.specs.Causes.{SinkCause, SourceCause, WhereUnread}
+use Rattle.run_status.specs.Notices.{status_at_head, status_of}
+use Rattle.run_status.specs.declared.status.Status.{Status}
+use Rattle.run_status.specs.declared.status.Status.TheVariants.{Bind, Capture as CaptureStatus, Check, Done, NoMemory, ReadFault, Stack, Words, WriteFault}
 use Rattle.ldecode.specs.Asking.{AsksFor, AsksStack, HasHead, IsFormOf, IsJudged, NamesNoHead, PartRefused, SearchRefused, StackRefused, setups_in}
 use Rattle.std.specs.Io.KnownBytes.{Appends}
 use Rattle.std.proofs.Math.Path.{transport}
 use Rattle.decoder_core.specs.Trees.{Node}
 use Rattle.decoder_set.specs.declared.setup.Setup.{Setup}
-use Rattle.ldecode.specs.Headline.{Refuses, RefusesOn, SinkCause, SourceCause, WhereUnread, Worked, Works, WorksOn}
-use Rattle.ldecode.specs.Notices.{status_at_head, status_of}
+use Rattle.ldecode.specs.Headline.{Refuses, RefusesOn, Worked, Works, WorksOn}
 use Rattle.ldecode.specs.Parting.{CanBegin, Saves}
 use Rattle.ldecode.specs.Parts.{PartEnds, PartLists}
-use Rattle.ldecode.specs.declared.status.Status.{Status}
-use Rattle.ldecode.specs.declared.status.Status.TheVariants.{Bind, Capture as CaptureStatus, Check, Done, NoMemory, ReadFault, Stack, Words, WriteFault}
 use Rattle.stack_spec.specs.declared.faults.BindFault.{BindFault}
 
 -- rates with the same numbers are one

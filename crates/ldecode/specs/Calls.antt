@@ -1,4 +1,4 @@
--- What the calls of a run ask of the settings, and what they say of the causes of their status.
+-- What the calls of a run ask of the settings, and what a decoding says.
 use Rattle.std.specs.Prelude.{ℕ, ◌≡◌, ◌≤◌, List, Option, Result, IfErr, IfOk, IfSome, length}
 use Rattle.std.specs.String.{string_bytes}
 use Rattle.capture_any.specs.declared.end.ListingEnd.{ListingEnd}
@@ -6,9 +6,9 @@ use Rattle.note_order.specs.declared.entry.Entry.{Entry}
 use Rattle.words.specs.Readable.{IsReadable, IsShort}
 use Rattle.words.specs.Settings.{Values}
 use Rattle.words.specs.declared.settings.Settings.{Settings}
-use Rattle.ldecode.specs.Headline.{DecodesOn, RefusesOn, SinkCause, SourceCause, WhereUnread}
+use Rattle.run_status.specs.declared.status.Status.{Status}
+use Rattle.ldecode.specs.Headline.{DecodesOn, RefusesOn}
 use Rattle.ldecode.specs.Watching.{IsSeen, IsSeenFront}
-use Rattle.ldecode.specs.declared.status.Status.{Status}
 
 -- settings are as words are read: as many as their job takes, and none too long
 pub record AreRead (settings : Settings) : Type 0 where
@@ -16,14 +16,6 @@ pub record AreRead (settings : Settings) : Type 0 where
   pub shown : IfSome settings.show IsShort
   pub binary : IfSome settings.binary IsShort
   pub checkpoint : IfSome settings.from (λ text. length (string_bytes text) ≤ 4096)
-
--- a status has its causes: where it is a refusal nothing was read, and it says whether the source
--- failed, and whether the sink did
-pub record HasCauses (NoHead Unread : Type 0) (read_old read_new write_old write_new : ℕ)
-    (status : Status) : Type 0 where
-  pub unread : WhereUnread NoHead status Unread
-  pub read : SourceCause read_old read_new status
-  pub write : SinkCause write_old write_new status
 
 -- a decoding wrote what was asked for, and what looks on saw its notes; one that couldn't begin wrote
 -- nothing, and nothing was seen

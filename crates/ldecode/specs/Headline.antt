@@ -6,14 +6,14 @@
 -- a listing is (`Decoding`, and `Listing` of decode_job), how the bytes of a capture settle samples
 -- (`Captures` and `Listings` of capture_any), parts and their checkpoints (`Parting`, `Parts`), made
 -- captures (`Making`), the lines that tell of a run (`Notices`), and what viewers see (`Watching`).
-use Rattle.std.specs.Prelude.{ℕ, ◌≡◌, ◌≢◌, ◌≤◌, ◌⊎◌, true, List, [], Option, Some, None, Ok, Err}
+use Rattle.std.specs.Prelude.{ℕ, ◌≡◌, ◌≢◌, ◌⊎◌, true, List, [], Option, Some, None, Ok, Err}
 use Rattle.std.specs.Prelude.{length}
 use Rattle.std.specs.Io.KnownBytes.{Appends, Consumes}
 use Rattle.la_io.specs.Capture.{Told, AtEnd, Cut, Bad, Unread, Clean}
 use Rattle.la_io.specs.Causes.{AppendsFront, Rose}
 use Rattle.la_io.specs.declared.fault.CaptureFault.{CaptureFault}
 use Rattle.capture_any.specs.Captures.{IsForm, TakesNoMemory, ToldAt}
-use Rattle.capture_any.specs.Listings.{Fails, Says}
+use Rattle.capture_any.specs.Listings.{Says}
 use Rattle.capture_any.specs.declared.end.ListingEnd.{ListingEnd}
 use Rattle.capture_any.specs.declared.end.ListingEnd.TheVariants as end
 use Rattle.capture_any.specs.declared.end.ListingEnd.TheVariants.{NoMemory as Short}
@@ -29,17 +29,18 @@ use Rattle.stack_spec.specs.declared.faults.BindFault.{BindFault}
 use Rattle.stack_spec.specs.declared.faults.StackFault.{StackFault}
 use Rattle.decoder_core.specs.Trees.{Node}
 use Rattle.decoder_set.specs.declared.setup.Setup.{Setup}
+use Rattle.run_status.specs.Notices.{line_of}
+use Rattle.run_status.specs.declared.status.Status.{Status}
+use Rattle.run_status.specs.declared.status.Status.TheVariants.{Done, Words, Stack, Bind, ReadFault}
+use Rattle.run_status.specs.declared.status.Status.TheVariants.{Check, Capture, WriteFault, NoMemory}
+use Rattle.run_status.specs.Causes.{SinkCause, SourceCause, WhereUnread}
 use Rattle.ldecode.specs.Asking.{AsksFor, AsksStack, CannotBind, CheckRefused, EndsAs, HasFault}
 use Rattle.ldecode.specs.Asking.{HasStackFault, HeadIs, NamesNoHead, ReadHead, setups_in}
 use Rattle.ldecode.specs.Asking.{lists_notes}
 use Rattle.ldecode.specs.Decoding.{decode_listing, decode_notes}
 use Rattle.ldecode.specs.Making.{MadeBy}
-use Rattle.ldecode.specs.Notices.{line_of}
 use Rattle.ldecode.specs.Parting.{CanBegin, Saves}
 use Rattle.ldecode.specs.Parts.{CameBefore, IsCheckAt, PartEnds, PartWrites, part_listing}
-use Rattle.ldecode.specs.declared.status.Status.{Status}
-use Rattle.ldecode.specs.declared.status.Status.TheVariants.{Done, Words, Stack, Bind, ReadFault}
-use Rattle.ldecode.specs.declared.status.Status.TheVariants.{Check, Capture, WriteFault, NoMemory}
 
 -- a stream before and after a run: its bytes, where it tells them (those that a source has left,
 -- those that a sink has got), and its count of failures
@@ -248,46 +249,9 @@ pub record RunTells (saves : Saves) (words : List Text)
   pub at_end : ToldAt told left_new
   pub tells : Tells saves words bytes told old new status
 
--- ReadFault comes only where the source failed; where it failed it is this, WriteFault or NoMemory
-abbrev pub SourceCause : ℕ → ℕ → Status → Type 0
-SourceCause before now Done = now ≡ before
-SourceCause before now (Words fault) = now ≡ before
-SourceCause before now (Stack fault) = now ≡ before
-SourceCause before now (Bind fault) = now ≡ before
-SourceCause before now (Check fault) = now ≡ before
-SourceCause before now ReadFault = Fails before now
-SourceCause before now (Capture fault) = now ≡ before
-SourceCause before now WriteFault = before ≤ now
-SourceCause before now NoMemory = before ≤ now
-
--- WriteFault comes exactly where the sink failed
-abbrev pub SinkCause : ℕ → ℕ → Status → Type 0
-SinkCause before now Done = now ≡ before
-SinkCause before now (Words fault) = now ≡ before
-SinkCause before now (Stack fault) = now ≡ before
-SinkCause before now (Bind fault) = now ≡ before
-SinkCause before now (Check fault) = now ≡ before
-SinkCause before now ReadFault = now ≡ before
-SinkCause before now (Capture fault) = now ≡ before
-SinkCause before now WriteFault = Fails before now
-SinkCause before now NoMemory = now ≡ before
-
 -- this status, or want of memory
 abbrev pub OrNoMemory : Status → Status → Type 0
 OrNoMemory expected status = (status ≡ expected) ⊎ (status ≡ NoMemory)
-
--- what holds where nothing was read: behind a fault of words or stack, and behind one of binding
--- or of a checkpoint where the head takes no bytes
-abbrev pub WhereUnread : Type 0 → Status → Type 0 → Type 0
-WhereUnread NoHead Done P = Unit {0}
-WhereUnread NoHead (Words fault) P = P
-WhereUnread NoHead (Stack fault) P = P
-WhereUnread NoHead (Bind fault) P = NoHead → P
-WhereUnread NoHead (Check fault) P = NoHead → P
-WhereUnread NoHead ReadFault P = Unit {0}
-WhereUnread NoHead (Capture fault) P = Unit {0}
-WhereUnread NoHead WriteFault P = Unit {0}
-WhereUnread NoHead NoMemory P = Unit {0}
 
 -- a viewer looks on where a decoding is asked for that is to have one, and lists notes
 abbrev pub IsWatched : Values → Type 0

@@ -3,7 +3,7 @@ pub mod Parting
 pub mod Parts
 pub mod Asking
 pub mod Chosen
-pub mod Notices
+pub mod PartStatus
 pub mod Headline
 pub mod Making
 pub mod Tallies

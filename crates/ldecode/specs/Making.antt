@@ -16,9 +16,9 @@ use Rattle.decoder_set.specs.declared.setup.Setup.{Setup}
 use Rattle.listing_out.specs.Summaries.{summary}
 use Rattle.listing_out.specs.declared.summaries.Tally.{Tally}
 use Rattle.tree_runs.specs.Listings.{notes_of}
-use Rattle.ldecode.specs.declared.status.Status.{Status}
-use Rattle.ldecode.specs.declared.status.Status.TheVariants.{Done, Words, Stack, Bind, ReadFault}
-use Rattle.ldecode.specs.declared.status.Status.TheVariants.{Check, Capture, WriteFault, NoMemory}
+use Rattle.run_status.specs.declared.status.Status.{Status}
+use Rattle.run_status.specs.declared.status.Status.TheVariants.{Done, Words, Stack, Bind, ReadFault}
+use Rattle.run_status.specs.declared.status.Status.TheVariants.{Check, Capture, WriteFault, NoMemory}
 
 -- the stack that reads a made capture, as its words
 abbrev pub made_chains : List WordText

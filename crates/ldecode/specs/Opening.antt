@@ -14,12 +14,12 @@ use Rattle.decode_job.specs.Asking.{WantsOf}
 use Rattle.check_point.specs.declared.faults.CheckFault.{CheckFault}
 use Rattle.words.specs.Settings.{Values}
 use Rattle.words.specs.declared.kinds.Job.TheVariants.{Part}
+use Rattle.run_status.specs.Notices.{status_of}
+use Rattle.run_status.specs.declared.status.Status.TheVariants.{Check}
 use Rattle.ldecode.specs.Asking.{AsksStack, HasHead, IsFormOf}
 use Rattle.ldecode.specs.Headline.{WorksOn}
-use Rattle.ldecode.specs.Notices.{status_of}
 use Rattle.ldecode.specs.Parting.{CanBegin, CantBegin, Saves}
 use Rattle.ldecode.specs.Parts.{PartLists}
-use Rattle.ldecode.specs.declared.status.Status.TheVariants.{Check}
 use Rattle.ldecode.specs.declared.open_stack.Opened.{Opened}
 
 -- a tree of decoders to which nothing has come stands at a capture behind its head, from which

@@ -16,16 +16,16 @@ use Rattle.decoder_set.specs.declared.setup.Setup.{Setup}
 use Rattle.decode_job.specs.Seen.{WritesFrontSeen, WritesSeen}
 use Rattle.view_store.specs.Listings.{Listing, nothing}
 use Rattle.shelf_watch.specs.Shelves.{IsFrontOf, ended_with, pairs_of}
+use Rattle.run_status.specs.Notices.{notice_of, status_of}
+use Rattle.run_status.specs.declared.outcome.Outcome.{Outcome}
+use Rattle.run_status.specs.declared.status.Status.{Status}
+use Rattle.run_status.specs.declared.status.Status.TheVariants.{Done, Words, Stack, Bind, ReadFault}
+use Rattle.run_status.specs.declared.status.Status.TheVariants.{Check, Capture, WriteFault, NoMemory}
 use Rattle.ldecode.specs.Asking.{lists_notes}
 use Rattle.ldecode.specs.Decoding.{decode_listing, decode_notes}
 use Rattle.ldecode.specs.Headline.{DecodedAs, HasNotes, IsWatched, Promises, Refuses, RunTells}
 use Rattle.ldecode.specs.Headline.{Saw, Stream, WorksOn}
-use Rattle.ldecode.specs.Notices.{notice_of, status_of}
 use Rattle.ldecode.specs.Parting.{Saves}
-use Rattle.ldecode.specs.declared.outcome.Outcome.{Outcome}
-use Rattle.ldecode.specs.declared.status.Status.{Status}
-use Rattle.ldecode.specs.declared.status.Status.TheVariants.{Done, Words, Stack, Bind, ReadFault}
-use Rattle.ldecode.specs.declared.status.Status.TheVariants.{Check, Capture, WriteFault, NoMemory}
 
 -- the listing of a stack was written, and its notes were seen; or a front of it, and the first of
 -- them

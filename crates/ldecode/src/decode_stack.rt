@@ -2,15 +2,16 @@
 ghost use Rattle.std.specs.Prelude.{◌≡◌, []};
 ghost use Rattle.words.specs.Settings.{meaning_of};
 ghost use Rattle.words.specs.declared.kinds.Job.TheVariants.{Decode};
+ghost use Rattle.run_status.specs.Causes.{HasCauses};
+ghost use Rattle.run_status.specs.Notices.{status_by};
 ghost use Rattle.ldecode.specs.Asking.{NamesNoHead};
-ghost use Rattle.ldecode.specs.Calls.{AreRead, DecodesAs, HasCauses};
-ghost use Rattle.ldecode.specs.Notices.{status_by};
+ghost use Rattle.ldecode.specs.Calls.{AreRead, DecodesAs};
 
 use crate::open_stack::{Opened, open_stack};
-use crate::status::Status;
 use decode_job::{DecodeEnd, InThreads, decode, decode_in_threads};
 use la_io::{Sink, Source};
 use note_lister::Watch;
+use run_status::Status;
 use stage_crew::Pacer;
 use std::alloc::Global;
 use std::sync::Wait;

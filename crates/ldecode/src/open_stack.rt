@@ -2,16 +2,17 @@
 ghost use Rattle.std.specs.Prelude.{◌≡◌, ℕ, All, IfErr, IfOk, IfSome};
 ghost use Rattle.words.specs.Readable.{IsShort};
 ghost use Rattle.words.specs.Settings.{meaning_of};
+ghost use Rattle.run_status.specs.Causes.{SinkCause, SourceCause, WhereUnread};
 ghost use Rattle.ldecode.specs.Asking.{HasStack, NamesNoHead};
-ghost use Rattle.ldecode.specs.Headline.{RefusesOn, SinkCause, SourceCause, WhereUnread};
+ghost use Rattle.ldecode.specs.Headline.{RefusesOn};
 ghost use Rattle.ldecode.specs.Opening.{IsOpened};
 
 use crate::form::form_of;
-use crate::status::{Status, status_at_head};
 use capture_any::Capture;
 use decoder_core::Keep;
 use decoder_set::AnyDecoder;
 use la_io::Source;
+use run_status::{Status, status_at_head};
 use stack_spec::{BindError, Stack, StackError, bind, read_stack};
 use std::alloc::Global;
 use words::Settings;

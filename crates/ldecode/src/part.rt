@@ -7,19 +7,21 @@ ghost use Rattle.decoder_set.specs.Opening.{setup_of};
 ghost use Rattle.stack_spec.specs.Stacks.{instances_in};
 ghost use Rattle.words.specs.Settings.{meaning_of};
 ghost use Rattle.words.specs.declared.kinds.Job.TheVariants.{Part};
+ghost use Rattle.run_status.specs.Causes.{HasCauses};
 ghost use Rattle.ldecode.specs.Asking.{NamesNoHead};
-ghost use Rattle.ldecode.specs.Calls.{AreRead, HasCauses};
+ghost use Rattle.ldecode.specs.Calls.{AreRead};
 ghost use Rattle.ldecode.specs.Headline.{WorksOn};
 ghost use Rattle.ldecode.specs.Parting.{Begun, CanBegin, CantBegin};
 
 use crate::open_stack::{Opened, open_stack};
-use crate::status::Status;
+use crate::part_status::status_of_part;
 use arrayvec::ArrayVec;
 use check_point::{CheckFault, CheckWhy, read_check};
 use decode_job::part;
 use decoder_core::Keep;
 use decoder_set::{AnyDecoder, place_of};
 use la_io::{Sink, Source};
+use run_status::Status;
 use stack_spec::Stack;
 use std::alloc::Global;
 use tree_runs::new_machines_stand;
@@ -104,7 +106,7 @@ pub fn part_stack<S: Source, K: Sink>(
         Err(fault) => return Status::Check(fault),
     };
     let mut capture = capture;
-    Status::from(part(
+    status_of_part(part(
         alloc,
         &stack,
         &mut capture,

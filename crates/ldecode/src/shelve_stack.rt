@@ -5,15 +5,16 @@ ghost use Rattle.view_store.specs.Views.{pending, published, shelf_of};
 ghost use Rattle.words.specs.Settings.{meaning_of};
 ghost use Rattle.words.specs.declared.kinds.Job.TheVariants.{Decode};
 ghost use Rattle.shelf_watch.specs.Watches.{shelf_ref};
+ghost use Rattle.run_status.specs.Causes.{HasCauses};
 ghost use Rattle.ldecode.specs.Asking.{NamesNoHead};
-ghost use Rattle.ldecode.specs.Calls.{AreRead, HasCauses};
+ghost use Rattle.ldecode.specs.Calls.{AreRead};
 ghost use Rattle.ldecode.specs.Watching.{EndsShelf, ShelvesOn};
 
 use crate::decode_stack::decode_stack_as_asked;
-use crate::status::{Status, status_by};
 use crossbeam_utils::sync::EventCount;
 use la_base::NoMemory;
 use la_io::{Sink, Source};
+use run_status::{Status, status_by};
 use shelf_watch::ShelfWatch;
 use stage_crew::Pacer;
 use std::alloc::Global;

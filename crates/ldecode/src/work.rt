@@ -2,19 +2,20 @@
 ghost use Rattle.std.specs.Prelude.{◌≡◌};
 ghost use Rattle.words.specs.Settings.{meaning_of};
 ghost use Rattle.words.specs.declared.kinds.Job.TheVariants.{Decode};
+ghost use Rattle.run_status.specs.Causes.{HasCauses};
 ghost use Rattle.ldecode.specs.Asking.{NamesNoHead};
-ghost use Rattle.ldecode.specs.Calls.{AreRead, HasCauses};
+ghost use Rattle.ldecode.specs.Calls.{AreRead};
 ghost use Rattle.ldecode.specs.Headline.{DoesOn, IsMade, WorksOn};
 
 use crate::decode_stack::{decode_stack, decode_stack_as_asked};
 use crate::make::make;
 use crate::part::part_stack;
 use crate::search::search;
-use crate::status::{Status, status_by};
 use decoder_core::Keep;
 use decoder_set::AnyDecoder;
 use la_io::{Sink, Source};
 use note_lister::Unwatched;
+use run_status::{Status, status_by};
 use stage_crew::Pacer;
 use std::alloc::Global;
 use std::sync::Wait;

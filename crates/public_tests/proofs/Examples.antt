@@ -13,12 +13,12 @@ use Rattle.decoder_set.specs.Kinds.{OptionRow, Text, Pin, Number, Choice}
 use Rattle.decoder_set.specs.declared.kinds.Asked.{Asked}
 use Rattle.stack_spec.specs.Instances.{Given, has_numbers}
 use Rattle.stack_spec.specs.Options.{options_at}
-use Rattle.ldecode.specs.Notices.{notice_of}
-use Rattle.ldecode.specs.declared.status.Status.TheVariants.{Capture, NoMemory}
 use Rattle.la_io.specs.declared.fault.CaptureFault.TheVariants as capture
 use Rattle.stack_spec.specs.declared.faults.StackFault.{StackFault}
 use Rattle.stack_spec.specs.declared.faults.StackWhy.{StackWhy}
 use Rattle.stack_spec.specs.declared.faults.StackWhy.TheVariants as stack_why
+use Rattle.run_status.specs.Notices.{notice_of}
+use Rattle.run_status.specs.declared.status.Status.TheVariants.{Capture, NoMemory}
 
 -- A job that takes no words that are no options, as `make` does, and one that takes two or three, as no job does. There
 -- are 9 words in all, and the first of those that are no options is word 3.

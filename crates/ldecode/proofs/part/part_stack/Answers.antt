@@ -30,7 +30,7 @@ returns-clause-works g c =
     let parents : c.deref-2.result.now ≡ opened.parents.items = c.deref-2.ensures.value in
     let kinds : c.as_slice.result.now ≡ places_of (map setup_of decoders) = c.as_slice.ensures.value ∙ (c.places.ensures ∙ (sym (places_same opened.machines.items (instances_in opened.stack) is.kinds) ∙ ap (λ (l : List AnyDecoder). places_of (map setup_of l)) (sym same))) in
     let lists = c.part.ensures.lists is.bytes is.told is.at is.stands in
-    subst (WorksOn _ (meaning_of settings) (g.S.Source.left c.args.source.now) (g.S.Source.left c.part.new.source) (g.K.Sink.written c.args.sink.now) (g.K.Sink.written c.part.new.sink)) (sym c.from.ensures)
+    subst (WorksOn _ (meaning_of settings) (g.S.Source.left c.args.source.now) (g.S.Source.left c.part.new.source) (g.K.Sink.written c.args.sink.now) (g.K.Sink.written c.part.new.sink)) (sym c.status_of_part.ensures)
     (part_comes_by _ (meaning_of settings) c.requires.job (g.S.Source.left c.args.source.now) (g.S.Source.left c.open_stack.new.source) (g.S.Source.left c.part.new.source) (g.K.Sink.written c.args.sink.now) (g.K.Sink.written c.part.new.sink) opened is
     _ refl refl refl _ (seen_text c.as_ref.result settings.from c.as_ref.ensures.value) c.begin.new.machines c.in-Ok-begin.earlier c.as_slice.result.now decoders same c.deref-2.result.now parents kinds
     c.in-Ok-begin.ensures.begun c.in-Ok-begin.ensures.begins c.deref.result.now c.deref.ensures.value c.new_machines_stand.ensures c.part.result lists)

@@ -6,9 +6,9 @@ use Rattle.capture_any.specs.Reading.{names_of, rate_of}
 use Rattle.stack_spec.specs.declared.faults.BindError.{BindError}
 use Rattle.stack_spec.specs.declared.faults.BindError.TheVariants.{Fault}
 use Rattle.text_parts.specs.declared.chain.ChainWord.{ChainWord}
+use Rattle.run_status.specs.declared.status.Status.{Status}
 use Rattle.ldecode.specs.Chosen.{AreTerms, Chooses}
 use Rattle.ldecode.specs.Headline.{WorksOn}
-use Rattle.ldecode.specs.declared.status.Status.{Status}
 use Rattle.ldecode.proofs.Asked.{search_asks, search_refused, the_search}
 use Rattle.ldecode.proofs.Working.{binding_fails, no_head_here, opening_fails, search_ends, works_refused}
 use Rattle.ldecode.proofs.search.search.Goals as goal

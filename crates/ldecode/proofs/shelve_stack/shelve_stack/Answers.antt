@@ -3,10 +3,10 @@ use Rattle.words.specs.Settings.{meaning_of}
 use Rattle.shelf_watch.specs.Watches.{Saw, lent_ref, shelf_ref}
 use Rattle.view_store.specs.Views.{pending, published, shelf_of}
 use Rattle.view_store.specs.declared.views.ViewWriter.{ViewWriter}
+use Rattle.run_status.specs.Causes.{HasCauses}
+use Rattle.run_status.specs.declared.status.Status.{Status}
 use Rattle.ldecode.specs.Asking.{NamesNoHead}
-use Rattle.ldecode.specs.Calls.{HasCauses}
 use Rattle.ldecode.specs.Watching.{EndsShelf, ShelvesOn}
-use Rattle.ldecode.specs.declared.status.Status.{Status}
 use Rattle.ldecode.proofs.Shelving.{none_seen, shelf_sink, shelf_source, shelf_unread, shelved, some_seen}
 use Rattle.ldecode.proofs.shelve_stack.shelve_stack.Goals as goal
 

@@ -1,9 +1,9 @@
 use Rattle.std.proofs.Common.{◌≡◌, Some, length, sym, ◌∙◌, ap, subst}
 use Rattle.words.specs.Settings.{meaning_of}
+use Rattle.run_status.specs.Notices.{is_done}
+use Rattle.run_status.specs.declared.status.Status.{Status}
 use Rattle.ldecode.specs.Headline.{WorksOn}
-use Rattle.ldecode.specs.Notices.{is_done}
 use Rattle.ldecode.specs.Watching.{ViewsOn}
-use Rattle.ldecode.specs.declared.status.Status.{Status}
 use Rattle.ldecode.proofs.Decoding.{works_by}
 use Rattle.ldecode.proofs.Viewing.{counted, not_done}
 use Rattle.ldecode.proofs.view_stack.count_stack.Goals as goal

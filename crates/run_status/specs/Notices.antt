@@ -17,11 +17,9 @@ use Rattle.check_point.specs.declared.faults.CheckWhy.{CheckWhy}
 use Rattle.check_point.specs.declared.faults.CheckWhy.TheVariants as check
 use Rattle.capture_any.specs.declared.end.ListingEnd.{ListingEnd}
 use Rattle.capture_any.specs.declared.end.ListingEnd.TheVariants as end
-use Rattle.decode_job.specs.declared.part_end.PartEnd.{PartEnd}
-use Rattle.decode_job.specs.declared.part_end.PartEnd.TheVariants as part
-use Rattle.ldecode.specs.declared.status.Status.{Status}
-use Rattle.ldecode.specs.declared.status.Status.TheVariants.{Done, Words, Stack, Bind, ReadFault}
-use Rattle.ldecode.specs.declared.status.Status.TheVariants.{Check, Capture, WriteFault, NoMemory}
+use Rattle.run_status.specs.declared.status.Status.{Status}
+use Rattle.run_status.specs.declared.status.Status.TheVariants.{Done, Words, Stack, Bind, ReadFault}
+use Rattle.run_status.specs.declared.status.Status.TheVariants.{Check, Capture, WriteFault, NoMemory}
 
 -- the status of a run whose work ended so
 abbrev pub status_of : ListingEnd → Status
@@ -30,12 +28,6 @@ status_of end.Read = ReadFault
 status_of end.Write = WriteFault
 status_of (end.Fault fault) = Capture fault
 status_of end.NoMemory = NoMemory
-
--- how the listing of a part ends that ended so: samples past the most that parts may have are a
--- fault of its capture
-abbrev pub end_of_part : PartEnd → ListingEnd
-end_of_part (part.Ended end) = end
-end_of_part part.Past = end.Fault capture.Past
 
 -- the status of a run whose words can't be read
 abbrev pub status_at_words : WordsError → Status

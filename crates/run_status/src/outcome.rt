@@ -4,7 +4,7 @@ use crate::status::Status;
 
 /// How a run ended, and of one that is done how many notes a viewer saw, where one looked on.
 #[derive(Clone, Copy, PartialEq, Eq)]
-pub(crate) struct Outcome {
-    pub(crate) status: Status,
-    pub(crate) seen: Option<u64>,
+pub struct Outcome {
+    pub status: Status,
+    pub seen: Option<u64>,
 }

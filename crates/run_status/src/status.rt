@@ -1,10 +1,9 @@
 // How a run ends.
 ghost use Rattle.std.specs.Prelude.{◌≡◌};
-ghost use Rattle.ldecode.specs.Notices.{code_of, status_at_head, status_by};
+ghost use Rattle.run_status.specs.Notices.{code_of, status_at_head, status_by};
 
 use capture_any::ListingEnd;
 use check_point::CheckFault;
-use decode_job::PartEnd;
 use la_io::{CaptureError, CaptureFault};
 use stack_spec::{BindFault, StackFault};
 use words::WordFault;
@@ -34,10 +33,10 @@ pub enum Status {
 }
 
 impl Status {
-    ghost use Rattle.ldecode.specs.Notices.{is_done};
+    ghost use Rattle.run_status.specs.Notices.{is_done};
 
-    // Whether the run is done.
-    pub(crate) fn is_done(&self) -> bool
+    /// Whether the run is done.
+    pub fn is_done(&self) -> bool
         ensures { result ≡ is_done self.now }
     {
         match self {
@@ -80,7 +79,7 @@ pub fn status_at_head(error: CaptureError) -> Status
 }
 
 /// The status of a decoding that came to this end, or couldn't begin.
-pub(crate) fn status_by(ended: Result<ListingEnd, Status>) -> Status
+pub fn status_by(ended: Result<ListingEnd, Status>) -> Status
     ensures { result ≡ status_by ended }
 {
     match ended {
@@ -90,7 +89,7 @@ pub(crate) fn status_by(ended: Result<ListingEnd, Status>) -> Status
 }
 
 impl From<ListingEnd> for Status {
-    ghost use Rattle.ldecode.specs.Notices.{status_of};
+    ghost use Rattle.run_status.specs.Notices.{status_of};
 
     ghost from_gives = { λ end status. status ≡ status_of end };
 
@@ -101,19 +100,6 @@ impl From<ListingEnd> for Status {
             ListingEnd::Write => Status::WriteFault,
             ListingEnd::Fault(fault) => Status::Capture(fault),
             ListingEnd::NoMemory => Status::NoMemory,
-        }
-    }
-}
-
-impl From<PartEnd> for Status {
-    ghost use Rattle.ldecode.specs.Notices.{end_of_part, status_of};
-
-    ghost from_gives = { λ end status. status ≡ status_of (end_of_part end) };
-
-    fn from(end: PartEnd) -> Status {
-        match end {
-            PartEnd::Ended(end) => Status::from(end),
-            PartEnd::Past => Status::Capture(CaptureFault::Past),
         }
     }
 }

@@ -1,8 +1,8 @@
 // The line that tells of a status.
 ghost use Rattle.std.specs.Prelude.{◌≡◌, ◌≤◌, ◌++◌, [], codes, length};
 ghost use Rattle.std.specs.Fmt.{decimal};
-ghost use Rattle.ldecode.specs.Notices.{word_why, stack_why, bind_why, capture_why, capture_at};
-ghost use Rattle.ldecode.specs.Notices.{check_why, line_of, notice_of, viewer_saw};
+ghost use Rattle.run_status.specs.Notices.{word_why, stack_why, bind_why, capture_why, capture_at};
+ghost use Rattle.run_status.specs.Notices.{check_why, line_of, notice_of, viewer_saw};
 
 use crate::outcome::Outcome;
 use crate::status::Status;
@@ -203,7 +203,7 @@ fn viewer_saw(count: u64) -> LineBuf
 }
 
 /// The line that tells of a run: that of its status, or how many notes a viewer saw.
-pub(crate) fn line_of(outcome: &Outcome) -> LineBuf
+pub fn line_of(outcome: &Outcome) -> LineBuf
     ensures { result ≡ line_of outcome.now.status outcome.now.seen }
 {
     match outcome.seen {
