@@ -6,11 +6,6 @@ pub mod Running
 pub mod Begun
 pub mod Exact
 pub mod Headlines
-mod MadeLaws
-mod MadeTree
-mod MadeGiving
-mod Counting
-mod Tallying
 mod Opened
 mod PartTold
 mod Decoding

@@ -14,9 +14,9 @@ use Rattle.run_status.specs.Notices.{status_at_words}
 use Rattle.run_status.specs.declared.outcome.Outcome.{Outcome}
 use Rattle.run_status.specs.declared.status.Status.{Status}
 use Rattle.run_status.specs.declared.status.Status.TheVariants.{Bind, Capture, Check, Done, NoMemory, ReadFault, Stack, Words, WriteFault}
+use Rattle.make_job.specs.Making.{MadeBy}
 use Rattle.ldecode.specs.Asking.{NamesNoHead, lists_notes}
 use Rattle.ldecode.specs.Headline.{Does, DoesOn, Good, IsMade, IsWatched, RunTells, Saw, Tells, WorksOn}
-use Rattle.ldecode.specs.Making.{MadeBy}
 use Rattle.ldecode.specs.Parting.{Saves}
 use Rattle.ldecode.specs.Watching.{IsShelved, RunsShelved, RunsViewed, SawOf, ShelvesOn, ViewsOn}
 use Rattle.ldecode.proofs.Shelving.{works_shelved}

@@ -33,12 +33,12 @@ use Rattle.run_status.specs.Notices.{line_of}
 use Rattle.run_status.specs.declared.status.Status.{Status}
 use Rattle.run_status.specs.declared.status.Status.TheVariants.{Done, Words, Stack, Bind, ReadFault}
 use Rattle.run_status.specs.declared.status.Status.TheVariants.{Check, Capture, WriteFault, NoMemory}
+use Rattle.make_job.specs.Making.{MadeBy}
 use Rattle.run_status.specs.Causes.{SinkCause, SourceCause, WhereUnread}
 use Rattle.ldecode.specs.Asking.{AsksFor, AsksStack, CannotBind, CheckRefused, EndsAs, HasFault}
 use Rattle.ldecode.specs.Asking.{HasStackFault, HeadIs, NamesNoHead, ReadHead, setups_in}
 use Rattle.ldecode.specs.Asking.{lists_notes}
 use Rattle.ldecode.specs.Decoding.{decode_listing, decode_notes}
-use Rattle.ldecode.specs.Making.{MadeBy}
 use Rattle.ldecode.specs.Parting.{CanBegin, Saves}
 use Rattle.ldecode.specs.Parts.{CameBefore, IsCheckAt, PartEnds, PartWrites, part_listing}
 

@@ -5,11 +5,6 @@ pub mod Asking
 pub mod Chosen
 pub mod PartStatus
 pub mod Headline
-pub mod Making
-pub mod Tallies
-pub mod MadeFeeding
-pub mod MadeTrees
-pub mod Sums
 pub mod Opening
 pub mod Watching
 pub mod Calls

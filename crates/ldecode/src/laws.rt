@@ -1,22 +1,14 @@
-// Laws of what runs write, each on a function that does nothing.
+// A law of what runs write, on a function that does nothing.
 ghost use Rattle.std.specs.Prelude.{◌≡◌, List, ◌∷◌, None};
 ghost use Rattle.decoder_core.specs.Trees.{Node};
 ghost use Rattle.decoder_set.specs.declared.setup.Setup.{Setup};
 ghost use Rattle.stack_spec.specs.Accepting.{Accepted};
 ghost use Rattle.tree_runs.specs.Passing.{IsForest};
 ghost use Rattle.ldecode.specs.Parts.{parents_on};
-ghost use Rattle.ldecode.specs.Sums.{ReadBack};
 ghost use Rattle.ldecode.specs.Together.{ArePartRuns, PartRun, WriteTheWhole};
 
 use decoder_core::Keep;
 use decoder_set::AnyDecoder;
-
-/// What `make` writes of a made capture is known from what was sent: for every seed and count, the
-/// definitions of I2C and of a serial line give on its samples the addresses and bytes that were
-/// drawn, and nothing else.
-pub fn made_captures_are_read_back()
-    ensures { ReadBack }
-{}
 
 /// Runs over the parts of a capture, each given the word of the checkpoint that the run before
 /// wrote, write together the listing of the whole: put into the order of a listing, their lines are

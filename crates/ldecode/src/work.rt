@@ -8,12 +8,12 @@ ghost use Rattle.ldecode.specs.Calls.{AreRead};
 ghost use Rattle.ldecode.specs.Headline.{DoesOn, IsMade, WorksOn};
 
 use crate::decode_stack::{decode_stack, decode_stack_as_asked};
-use crate::make::make;
 use crate::part::part_stack;
 use crate::search::search;
 use decoder_core::Keep;
 use decoder_set::AnyDecoder;
 use la_io::{Sink, Source};
+use make_job::make;
 use note_lister::Unwatched;
 use run_status::{Status, status_by};
 use stage_crew::Pacer;

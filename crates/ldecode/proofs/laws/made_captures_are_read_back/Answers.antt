@@ -1,5 +1,0 @@
-use Rattle.ldecode.proofs.MadeLaws.{read_back}
-use Rattle.ldecode.proofs.laws.made_captures_are_read_back.Goals as goal
-
-pub returns : goal.returns
-returns c = read_back

@@ -1,0 +1,5 @@
+mod MadeLaws
+mod MadeTree
+mod MadeGiving
+mod Counting
+mod Tallying
