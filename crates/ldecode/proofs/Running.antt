@@ -1,5 +1,5 @@
 -- What a whole run says, from what its words and its work say.
-use Rattle.std.proofs.Common.{◌≡◌, ℕ, true, false, List, [], Option, Some, None, IfSome, Ok, Err, refl, sym, ◌∙◌, ap, subst, inl, inr}
+use Rattle.std.proofs.Common.{◌≡◌, ℕ, Bool, ◌&&◌, is_none, true, false, List, [], Option, Some, None, IfSome, Ok, Err, refl, sym, ◌∙◌, ap, subst, inl, inr}
 use Rattle.std.proofs.KnownBytes.{Consumes-nil}
 use Rattle.la_io.specs.Capture.{Told, Cut}
 use Rattle.la_io.specs.Grown.{appends_nothing}
@@ -9,25 +9,40 @@ use Rattle.words.specs.Given.{word_fault_in}
 use Rattle.words.specs.declared.kinds.WordsError.{WordsError}
 use Rattle.words.specs.declared.kinds.WordsError.TheVariants as error
 use Rattle.view_store.specs.Listings.{Listing, nothing}
+use Rattle.ldecode.specs.Asking.{NamesNoHead, is_decode, lists_notes}
+use Rattle.ldecode.specs.Headline.{Does, DoesOn, Good, IsMade, IsWatched, RunTells, Saw, Tells, WorksOn}
 use Rattle.run_status.specs.Causes.{WhereUnread}
+use Rattle.make_job.specs.Making.{MadeBy}
 use Rattle.run_status.specs.Notices.{status_at_words}
 use Rattle.run_status.specs.declared.outcome.Outcome.{Outcome}
 use Rattle.run_status.specs.declared.status.Status.{Status}
 use Rattle.run_status.specs.declared.status.Status.TheVariants.{Bind, Capture, Check, Done, NoMemory, ReadFault, Stack, Words, WriteFault}
-use Rattle.make_job.specs.Making.{MadeBy}
-use Rattle.ldecode.specs.Asking.{NamesNoHead, lists_notes}
-use Rattle.ldecode.specs.Headline.{Does, DoesOn, Good, IsMade, IsWatched, RunTells, Saw, Tells, WorksOn}
 use Rattle.ldecode.specs.Parting.{Saves}
 use Rattle.ldecode.specs.Watching.{IsShelved, RunsShelved, RunsViewed, SawOf, ShelvesOn, ViewsOn}
 use Rattle.ldecode.proofs.Shelving.{works_shelved}
 
 -- what work and shelf say of a run
-pub does_work : (saves : Saves) (values : Values) (left_old left_new old new : Option (List ℕ)) (status : Status) → WorksOn saves values left_old left_new old new status → DoesOn saves values left_old left_new old new status
+unfoldable pub does_work : (saves : Saves) (values : Values) (left_old left_new old new : Option (List ℕ)) (status : Status) → WorksOn saves values left_old left_new old new status → DoesOn saves values left_old left_new old new status
 does_work saves values left_old left_new old new status w = record { bytes = w.bytes; told = w.told; taken = w.taken; at_end = w.at_end; does = inl w.works }
 
 -- of a made capture nothing was read
 pub does_make : (saves : Saves) (values : Values) → IsMade values → (left old new : Option (List ℕ)) (status : Status) → MadeBy values.seed values.count old new status → DoesOn saves values left left old new status
 does_make saves values made left old new status m = record { bytes = []; told = Cut; taken = Consumes-nil left; at_end = λ e. cc; does = inr (record { job = made; none = refl; wrote = m }) }
+
+-- where no viewer looks on, none saw any
+pub unseen_does : (saves : Saves) (values : Values) → (IsWatched values → ⊥) → (left_old left_new old new : Option (List ℕ)) (status : Status) → DoesOn saves values left_old left_new old new status → ViewsOn saves values left_old left_new old new (record { status = status; seen = None })
+unseen_does saves values not left_old left_new old new status d = record { does = d; saw = λ done watched. not watched }
+
+pub unseen_is : (saves : Saves) (values : Values) → (IsWatched values → ⊥) → (left_old left_new old new : Option (List ℕ)) (status : Status) → DoesOn saves values left_old left_new old new status → (outcome : Outcome) → outcome ≡ record { status = status; seen = None } → ViewsOn saves values left_old left_new old new outcome
+unseen_is saves values not left_old left_new old new status d outcome is = subst (ViewsOn saves values left_old left_new old new) (sym is) (unseen_does saves values not left_old left_new old new status d)
+
+-- only a decoding of a whole capture has a viewer
+pub not_watched : (values : Values) → is_decode values.job ≡ false → IsWatched values → ⊥
+not_watched values not watched = by (is_decode values.job) not watched.1
+  where
+    by : (b : Bool) → b ≡ false → (b && is_none values.binary) ≡ true → ⊥
+    by true is both = cc
+    by false is both = cc
 
 module _ (saves : Saves) (words : List Text) where
   -- the words have a fault, or there was no memory to read them
@@ -43,11 +58,8 @@ module _ (saves : Saves) (words : List Text) where
   not_done error.NoMemory is = cc
 
   -- no viewer saw any
-  pub refused_viewed : (why : WordsError) → IfSome (word_fault_in why) (λ fault. settings_of words ≡ Err fault) → (left old : Option (List ℕ)) (status : Status) → status ≡ status_at_words why → RunsViewed saves words left left old old (record { status = status; seen = None })
-  refused_viewed why is left old status same = record {
-    runs = subst (RunTells saves words left left old old) (sym same) (words_refused why is left old);
-    saw = λ done g. not_done why (sym same ∙ done);
-  }
+  pub refused_viewed : (why : WordsError) → IfSome (word_fault_in why) (λ fault. settings_of words ≡ Err fault) → (left old : Option (List ℕ)) (outcome : Outcome) → outcome ≡ record { status = status_at_words why; seen = None } → RunsViewed saves words left left old old outcome
+  refused_viewed why is left old outcome same = subst (RunsViewed saves words left left old old) (sym same) (record { runs = words_refused why is left old; saw = λ done g. not_done why done })
 
   -- and a new shelf has none
   pub refused_shelved : (why : WordsError) → IfSome (word_fault_in why) (λ fault. settings_of words ≡ Err fault) → (left old : Option (List ℕ)) (shelf : Listing) → shelf ≡ nothing → (status : Status) → status ≡ status_at_words why → RunsShelved saves words left left old old shelf status
@@ -101,24 +113,16 @@ module _ (saves : Saves) (words : List Text) where
     unread_of WriteFault P u = tt
     unread_of NoMemory P u = tt
 
-    -- where nobody looks on, no viewer saw any
-    pub unwatched : (IsWatched values → ⊥) → (left_old left_new old new : Option (List ℕ)) (outcome : Outcome) → outcome.seen ≡ None → DoesOn saves values left_old left_new old new outcome.status → RunsViewed saves words left_old left_new old new outcome
-    unfolding runs_of
-    unwatched not left_old left_new old new outcome none d = record {
-      runs = runs_of left_old left_new old new outcome.status d;
-      saw = subst (λ (seen : Option ℕ). Saw words d.bytes d.told outcome.status seen) (sym none) (λ done g. not (of_these IsWatched g));
-    }
-
     saw_of : (bytes : List ℕ) (told : Told) (status : Status) (seen : Option ℕ) → SawOf values bytes told status seen → Saw words bytes told status seen
     saw_of bytes told status None saw = λ done g. saw done (of_these IsWatched g)
     saw_of bytes told status (Some count) saw = (saw.0, (values, good, (saw.1, saw.2)))
 
     -- a viewer saw what it saw
     pub viewed : (left_old left_new old new : Option (List ℕ)) (outcome : Outcome) → ViewsOn saves values left_old left_new old new outcome → RunsViewed saves words left_old left_new old new outcome
-    unfolding runs_of does_work
+    unfolding runs_of
     viewed left_old left_new old new outcome v = record {
-      runs = runs_of left_old left_new old new outcome.status (does_work saves values left_old left_new old new outcome.status v.works);
-      saw = saw_of v.works.bytes v.works.told outcome.status outcome.seen v.saw;
+      runs = runs_of left_old left_new old new outcome.status v.does;
+      saw = saw_of v.does.bytes v.does.told outcome.status outcome.seen v.saw;
     }
 
     -- a shelf has what it has

@@ -20,6 +20,7 @@ use Rattle.ldecode.specs.Headline.{DecodedAs, DecodesOn, HasNotes, HasSoMany, Is
 use Rattle.ldecode.specs.Parting.{Saves}
 use Rattle.ldecode.specs.Watching.{IsSeen, IsSeenFront, IsShelved, IsShown, IsShownFront, ShelvesOn, ViewsOn}
 use Rattle.ldecode.proofs.Decoding.{by_says, decodes_cut, decodes_less, works_decoded, written}
+use Rattle.ldecode.proofs.Running.{does_work}
 use Rattle.ldecode.proofs.Shelving.{works_shelved}
 use Rattle.ldecode.proofs.Working.{no_room, works_refused}
 
@@ -44,15 +45,15 @@ end_is ends.NoMemory is = cc
 module _ (saves : Saves) (values : Values) (left_old left_new old new : Option (List ℕ)) where
   -- a run that isn't done
   pub not_done : (status : Status) → is_done status ≡ false → WorksOn saves values left_old left_new old new status → ViewsOn saves values left_old left_new old new (record { status = status; seen = None })
-  not_done status not works = record { works = works; saw = λ is. let same = ap is_done is in cc }
+  not_done status not works = record { does = does_work saves values left_old left_new old new status works; saw = λ is. let same = ap is_done is in cc }
 
   module _ (watched : IsWatched values) (count : ℕ) where
     -- all notes were counted
     module _ (saw : List Entry → Type 0) (counts : (notes : List Entry) → saw notes → count ≡ length notes) where
       counted_done : (d : DecodesOn values (IsSeen saw old new) (IsSeenFront saw old new) left_old left_new ends.Done) → ViewsOn saves values left_old left_new old new (record { status = Done; seen = Some count })
-      unfolding works_decoded decodes_less written by_says
+      unfolding does_work works_decoded decodes_less written by_says
       counted_done d = record {
-        works = works_decoded saves values left_old left_new old new ends.Done (written values saw left_old left_new old new ends.Done d);
+        does = does_work saves values left_old left_new old new Done (works_decoded saves values left_old left_new old new ends.Done (written values saw left_old left_new old new ends.Done d));
         saw = (refl, watched, (decodes_less values (IsSeen saw old new) (IsSeenFront saw old new) left_old left_new ends.Done d (HasSoMany count) (λ a n l. Unit {0}) (λ a n l all. counts (decode_notes a n l) all.seen) (λ a n l front. tt)).decoded);
       }
 
@@ -90,9 +91,9 @@ module _ (saves : Saves) (values : Values) (left_old left_new old new : Option (
       }
 
       pub all_seen : (status : Status) → is_done status ≡ true → ShelvesOn values left_old left_new old new shelf status → ViewsOn saves values left_old left_new old new (record { status = status; seen = Some count })
-      unfolding works_shelved
+      unfolding does_work works_shelved
       all_seen status is s = record {
-        works = works_shelved saves values left_old left_new old new shelf status s;
+        does = does_work saves values left_old left_new old new status (works_shelved saves values left_old left_new old new shelf status s);
         saw = (done_is status is, watched, by (subst (IsShelved values s.bytes s.told old new shelf) (done_is status is) s.shelved));
       }
         where
@@ -102,7 +103,7 @@ module _ (saves : Saves) (values : Values) (left_old left_new old new : Option (
 
   -- there was no memory to look at the whole listing
   pub not_seen : (shelf : Listing) (status : Status) → is_done status ≡ true → ShelvesOn values left_old left_new old new shelf status → ViewsOn saves values left_old left_new old new (record { status = NoMemory; seen = None })
-  not_seen shelf status is s = record { works = by (subst (IsShelved values s.bytes s.told old new shelf) (done_is status is) s.shelved); saw = λ done. cc }
+  not_seen shelf status is s = record { does = does_work saves values left_old left_new old new NoMemory (by (subst (IsShelved values s.bytes s.told old new shelf) (done_is status is) s.shelved)); saw = λ done. cc }
     where
       by : IsShelved values s.bytes s.told old new shelf Done → WorksOn saves values left_old left_new old new NoMemory
       by (inl (end, same, d)) =
@@ -124,4 +125,4 @@ done_ended values left_old left_new old new shelf status is s = by (subst (IsShe
 
 -- there was no memory for a shelf, and nothing was read
 pub no_shelf : (saves : Saves) (values : Values) (left written : Option (List ℕ)) → ViewsOn saves values left left written written (record { status = NoMemory; seen = None })
-no_shelf saves values left written = record { works = works_refused saves values left left written NoMemory (no_room values left); saw = λ done. cc }
+no_shelf saves values left written = record { does = does_work saves values left left written written NoMemory (works_refused saves values left left written NoMemory (no_room values left)); saw = λ done. cc }

@@ -23,8 +23,8 @@ use Rattle.run_status.specs.declared.status.Status.TheVariants.{Done, Words, Sta
 use Rattle.run_status.specs.declared.status.Status.TheVariants.{Check, Capture, WriteFault, NoMemory}
 use Rattle.ldecode.specs.Asking.{lists_notes}
 use Rattle.ldecode.specs.Decoding.{decode_listing, decode_notes}
-use Rattle.ldecode.specs.Headline.{DecodedAs, HasNotes, IsWatched, Promises, Refuses, RunTells}
-use Rattle.ldecode.specs.Headline.{Saw, Stream, WorksOn}
+use Rattle.ldecode.specs.Headline.{DecodedAs, DoesOn, HasNotes, IsWatched, Promises, Refuses}
+use Rattle.ldecode.specs.Headline.{RunTells, Saw, Stream}
 use Rattle.ldecode.specs.Parting.{Saves}
 
 -- the listing of a stack was written, and its notes were seen; or a front of it, and the first of
@@ -133,11 +133,11 @@ SawOf values bytes told status None = status ≡ Done → IsWatched values → �
 SawOf values bytes told status (Some count) =
     (status ≡ Done) × IsWatched values × HasNotes values bytes told count
 
--- a decoding at which a viewer may look on
+-- the work that the values ask for, of which a viewer may have seen notes
 pub record ViewsOn (saves : Saves) (values : Values) (left_old left_new old new : Option (List ℕ))
     (outcome : Outcome) : Type 0 where
-  pub works : WorksOn saves values left_old left_new old new outcome.status
-  pub saw : SawOf values works.bytes works.told outcome.status outcome.seen
+  pub does : DoesOn saves values left_old left_new old new outcome.status
+  pub saw : SawOf values does.bytes does.told outcome.status outcome.seen
 
 -- a whole run, with how many notes a viewer saw of it
 pub record RunsViewed (saves : Saves) (words : List Text)

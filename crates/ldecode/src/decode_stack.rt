@@ -61,21 +61,18 @@ pub(crate) fn decode_stack<S: Source, K: Sink, W: Watch>(
     (Ok(end), watch)
 }
 
-// The same with a thread for each decoder, and rings of as many slots as the settings say. The
-// pacer says how much a decoder does in a turn.
-fn decode_stack_in_threads<
+/// The same with a thread for each decoder, as `way` says.
+pub(crate) fn decode_stack_in_threads<
     R: Threads + Wait + Sync,
     P: Pacer + Sync,
     S: Source + Send,
     K: Sink,
     W: Watch,
 >(
-    rt: &R,
-    alloc: Global,
+    way: &InThreads<R, P>,
     settings: &Settings,
     source: &mut S,
     sink: &mut K,
-    pacer: &P,
     watch: W,
 ) -> (Result<DecodeEnd, Status>, W)
     requires job { settings.now.job ≡ Decode }
@@ -93,19 +90,13 @@ fn decode_stack_in_threads<
         capture,
         machines,
         parents,
-    } = match open_stack(alloc, settings, source) {
+    } = match open_stack(way.alloc, settings, source) {
         Ok(opened) => opened,
         Err(status) => return (Err(status), watch),
     };
     let mut capture = capture;
-    let way = InThreads {
-        runtime: rt,
-        alloc,
-        slots: settings.ring.clamp(1, 16384),
-        pacer,
-    };
     let (end, watch) = decode_in_threads(
-        &way,
+        way,
         &stack,
         &mut capture,
         machines,
@@ -117,35 +108,18 @@ fn decode_stack_in_threads<
     (Ok(end), watch)
 }
 
-/// Decodes with a thread for each decoder where the settings ask for threads, and else on this one.
-pub(crate) fn decode_stack_as_asked<
-    R: Threads + Wait + Sync,
-    P: Pacer + Sync,
-    S: Source + Send,
-    K: Sink,
-    W: Watch,
->(
-    rt: &R,
+/// With a thread for each decoder, and rings of as many slots as the settings say. The pacer says
+/// how much a decoder does in a turn.
+pub(crate) fn in_threads<'a, R, P>(
+    rt: &'a R,
     alloc: Global,
     settings: &Settings,
-    source: &mut S,
-    sink: &mut K,
-    pacer: &P,
-    watch: W,
-) -> (Result<DecodeEnd, Status>, W)
-    requires job { settings.now.job ≡ Decode }
-    requires read { AreRead settings.now }
-    requires unseen { W.saw watch [] }
-    ensures decodes { DecodesAs (meaning_of settings.now) W.saw K.written (S.left source.old)
-        (S.left source.new) sink.old sink.new watch result.1 result.0 }
-    ensures origin { W.origin result.1 ≡ W.origin watch }
-    ensures causes { HasCauses (NamesNoHead (meaning_of settings.now)) (source.new ≡ source.old)
-        (S.faults source.old) (S.faults source.new) (K.faults sink.old) (K.faults sink.new)
-        (status_by result.0) }
-{
-    if settings.threads {
-        decode_stack_in_threads(rt, alloc, settings, source, sink, pacer, watch)
-    } else {
-        decode_stack(alloc, settings, source, sink, watch)
+    pacer: &'a P,
+) -> InThreads<'a, R, P> {
+    InThreads {
+        runtime: rt,
+        alloc,
+        slots: settings.ring.clamp(1, 16384),
+        pacer,
     }
 }

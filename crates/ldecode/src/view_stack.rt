@@ -5,16 +5,17 @@ ghost use Rattle.view_store.specs.Listings.{nothing};
 ghost use Rattle.view_store.specs.Views.{pending, published, reader_shelf, shelf_of};
 ghost use Rattle.words.specs.Settings.{meaning_of};
 ghost use Rattle.words.specs.declared.kinds.Job.TheVariants.{Decode};
-ghost use Rattle.run_status.specs.Causes.{HasCauses};
-ghost use Rattle.ldecode.specs.Asking.{NamesNoHead, lists_notes};
+ghost use Rattle.ldecode.specs.Asking.{NamesNoHead};
 ghost use Rattle.ldecode.specs.Calls.{AreRead};
+ghost use Rattle.run_status.specs.Causes.{HasCauses};
 ghost use Rattle.ldecode.specs.Headline.{IsWatched};
 ghost use Rattle.ldecode.specs.Watching.{ShelvesOn, ViewsOn};
 
 use crate::decode_stack::decode_stack;
 use crate::note_count::NoteCount;
-use crate::shelve_stack::shelve_stack;
+use crate::shelve_stack::shelve_in_threads;
 use crossbeam_utils::sync::EventCount;
+use decode_job::InThreads;
 use decoder_core::Keep;
 use decoder_set::AnyDecoder;
 use la_base::NoMemory;
@@ -26,26 +27,15 @@ use std::sync::Wait;
 use std::sync::atomic::{AtomicBool, Ordering};
 use std::thread::{Threads, join_mut};
 use view_store::{ViewReader, ViewWriter, shelf};
-use words::{Job, Settings};
+use words::Settings;
 
-/// Whether a listing of notes is asked for: a whole capture is decoded, and not for binary data.
-pub(crate) fn lists_notes(settings: &Settings) -> bool
-    ensures is { result ≡ lists_notes (meaning_of settings.now) }
-    ensures job { result ≡ true → settings.now.job ≡ Decode }
-{
-    match settings.job {
-        Job::Decode => settings.binary.is_none(),
-        Job::Find | Job::Part | Job::Make => false,
-    }
-}
-
-/// Whether a viewer is asked for, and there are notes for it to see.
+/// Whether a decoding is to have a viewer, and lists notes for it to see.
 pub(crate) fn is_watched(settings: &Settings) -> bool
+    requires job { settings.now.job ≡ Decode }
     ensures yes { result ≡ true → IsWatched (meaning_of settings.now) }
     ensures no { result ≡ false → IsWatched (meaning_of settings.now) → ⊥ }
-    ensures job { result ≡ true → settings.now.job ≡ Decode }
 {
-    settings.watch && lists_notes(settings)
+    settings.watch && settings.binary.is_none()
 }
 
 /// Decodes on this one thread, and counts the notes of the listing as a viewer does that sees them
@@ -101,12 +91,10 @@ fn view<R: Wait>(rt: &R, reader: &mut ViewReader, over: &AtomicBool, shown: &Eve
 
 // Decodes onto a new shelf, beside a thread in which a viewer asks for what is on it.
 fn shelve_beside<R: Threads + Wait + Sync, P: Pacer + Sync, S: Source + Send, K: Sink>(
-    rt: &R,
-    alloc: Global,
+    way: &InThreads<R, P>,
     settings: &Settings,
     source: &mut S,
     sink: &mut K,
-    pacer: &P,
     writer: &mut ViewWriter,
     reader: &mut ViewReader,
 ) -> Status
@@ -127,10 +115,10 @@ fn shelve_beside<R: Threads + Wait + Sync, P: Pacer + Sync, S: Source + Send, K:
     let longer = EventCount::new();
     let shown = &longer;
     let (_, status) = join_mut(
-        rt,
+        way.runtime,
         &mut ||
             ensures { reader_shelf reader.exit.now ≡ reader_shelf reader.entry.now }
-        { view(rt, reader, flag, shown) },
+        { view(way.runtime, reader, flag, shown) },
         &mut || -> Status
             requires sync { IsSync R.row × IsSync P.row }
             requires job { settings.now.job ≡ Decode }
@@ -145,7 +133,7 @@ fn shelve_beside<R: Threads + Wait + Sync, P: Pacer + Sync, S: Source + Send, K:
                 (S.faults source.exit.now) (K.faults sink.entry.now) (K.faults sink.exit.now)
                 result }
         {
-            let status = shelve_stack(rt, alloc, settings, source, sink, pacer, writer, shown);
+            let status = shelve_in_threads(way, settings, source, sink, writer, shown);
             flag.store(true, Ordering::SeqCst);
             shown.notify_all();
             status
@@ -156,12 +144,10 @@ fn shelve_beside<R: Threads + Wait + Sync, P: Pacer + Sync, S: Source + Send, K:
 
 // The same; where the run is done the viewer then learns the end, and asks once more.
 fn view_beside<R: Threads + Wait + Sync, P: Pacer + Sync, S: Source + Send, K: Sink>(
-    rt: &R,
-    alloc: Global,
+    way: &InThreads<R, P>,
     settings: &Settings,
     source: &mut S,
     sink: &mut K,
-    pacer: &P,
     writer: &mut ViewWriter,
     reader: &mut ViewReader,
 ) -> Outcome
@@ -177,12 +163,12 @@ fn view_beside<R: Threads + Wait + Sync, P: Pacer + Sync, S: Source + Send, K: S
         (S.faults source.old) (S.faults source.new) (K.faults sink.old) (K.faults sink.new)
         result.status }
 {
-    let status = shelve_beside(rt, alloc, settings, source, sink, pacer, writer, reader);
+    let status = shelve_beside(way, settings, source, sink, writer, reader);
     if !status.is_done() {
         return Outcome { status, seen: None };
     }
     reader.learn(writer.tell());
-    match reader.ask(rt, 0, 0) {
+    match reader.ask(way.runtime, 0, 0) {
         Ok(answer) => Outcome {
             status,
             seen: Some(answer.seen),
@@ -196,12 +182,10 @@ fn view_beside<R: Threads + Wait + Sync, P: Pacer + Sync, S: Source + Send, K: S
 
 // The same, with the one reader of the shelf.
 fn view_shelf<R: Threads + Wait + Sync, P: Pacer + Sync, S: Source + Send, K: Sink>(
-    rt: &R,
-    alloc: Global,
+    way: &InThreads<R, P>,
     settings: &Settings,
     source: &mut S,
     sink: &mut K,
-    pacer: &P,
     writer: &mut ViewWriter,
     mut readers: Vec<ViewReader>,
 ) -> Outcome
@@ -223,27 +207,16 @@ fn view_shelf<R: Threads + Wait + Sync, P: Pacer + Sync, S: Source + Send, K: Si
             seen: None,
         };
     };
-    view_beside(
-        rt,
-        alloc,
-        settings,
-        source,
-        sink,
-        pacer,
-        writer,
-        &mut reader,
-    )
+    view_beside(way, settings, source, sink, writer, &mut reader)
 }
 
-/// Decodes with a thread for each decoder where the settings ask for threads, and one more in which
-/// a viewer looks at the listing while it grows.
+/// Decodes with a thread for each decoder, and one more in which a viewer looks at the listing while
+/// it grows.
 pub(crate) fn view_stack<R: Threads + Wait + Sync, P: Pacer + Sync, S: Source + Send, K: Sink>(
-    rt: &R,
-    alloc: Global,
+    way: &InThreads<R, P>,
     settings: &Settings,
     source: &mut S,
     sink: &mut K,
-    pacer: &P,
 ) -> Outcome
     requires job { settings.now.job ≡ Decode }
     requires read { AreRead settings.now }
@@ -254,22 +227,13 @@ pub(crate) fn view_stack<R: Threads + Wait + Sync, P: Pacer + Sync, S: Source + 
         (S.faults source.old) (S.faults source.new) (K.faults sink.old) (K.faults sink.new)
         result.status }
 {
-    let Ok((mut writer, readers)) = shelf(rt, alloc, 1) else {
+    let Ok((mut writer, readers)) = shelf(way.runtime, way.alloc, 1) else {
         return Outcome {
             status: Status::NoMemory,
             seen: None,
         };
     };
-    let outcome = view_shelf(
-        rt,
-        alloc,
-        settings,
-        source,
-        sink,
-        pacer,
-        &mut writer,
-        readers,
-    );
-    writer.close(rt);
+    let outcome = view_shelf(way, settings, source, sink, &mut writer, readers);
+    writer.close(way.runtime);
     outcome
 }

@@ -1,5 +1,5 @@
 // A whole run.
-ghost use Rattle.std.specs.Prelude.{◌≡◌, map};
+ghost use Rattle.std.specs.Prelude.{◌≡◌, None as NoneSeen, map};
 ghost use Rattle.std.specs.String.{string_bytes};
 ghost use Rattle.view_store.specs.Listings.{nothing};
 ghost use Rattle.view_store.specs.Views.{pending, published, shelf_of};
@@ -9,10 +9,8 @@ ghost use Rattle.ldecode.specs.Asking.{ListsNotes, NamesNoHead};
 ghost use Rattle.ldecode.specs.Headline.{Good, Headline, IsMade, Notified, stream};
 ghost use Rattle.ldecode.specs.Watching.{RunsShelved, RunsViewed, WatchedHeadline};
 
-use crate::shelve_stack::shelve_stack;
-use crate::view_stack::{count_stack, is_watched, lists_notes, view_stack};
-use crate::work::{work_aside, work_here};
-use crossbeam_utils::sync::EventCount;
+use crate::shelve_stack::{lists_notes, shelve_as_asked};
+use crate::work::{work_as_asked, work_here};
 use decoder_core::Keep;
 use decoder_set::AnyDecoder;
 use la_io::{Failed, Sink, Source, write_whole};
@@ -24,17 +22,18 @@ use std::thread::Threads;
 use view_store::ViewWriter;
 use words::{WordsError, read_words};
 
-// The status of words that can't be read.
-fn refused(error: WordsError) -> Status
-    ensures { result ≡ status_at_words error }
+// How a run ends whose words can't be read.
+fn refused(error: WordsError) -> Outcome
+    ensures { result ≡ record { status = status_at_words error; seen = NoneSeen } }
 {
-    match error {
+    let status = match error {
         WordsError::Fault(fault) => Status::Words(fault),
         WordsError::NoMemory => Status::NoMemory,
-    }
+    };
+    Outcome { status, seen: None }
 }
 
-// Runs what the words say, and counts notes as a viewer does where they ask for one.
+// Runs what the words say, on this one thread.
 fn run_words<S: Source, K: Sink>(
     alloc: Global,
     words: &[String],
@@ -48,25 +47,13 @@ fn run_words<S: Source, K: Sink>(
         (source.new ≡ source.old) (S.faults source.old) (S.faults source.new)
         (K.faults sink.old) (K.faults sink.new) result.status }
 {
-    let settings = match read_words(alloc, words) {
-        Ok(settings) => settings,
-        Err(error) => {
-            return Outcome {
-                status: refused(error),
-                seen: None,
-            };
-        }
-    };
-    if is_watched(&settings) {
-        return count_stack(alloc, &settings, source, sink);
-    }
-    Outcome {
-        status: work_here(alloc, &settings, source, sink),
-        seen: None,
+    match read_words(alloc, words) {
+        Ok(settings) => work_here(alloc, &settings, source, sink),
+        Err(error) => refused(error),
     }
 }
 
-// The same with threads, where the words ask for them, and with a viewer in a thread of its own.
+// The same with threads, where the words ask for them.
 fn run_words_in_threads<R: Threads + Wait + Sync, S: Source + Send, K: Sink, P: Pacer + Sync>(
     rt: &R,
     alloc: Global,
@@ -82,24 +69,9 @@ fn run_words_in_threads<R: Threads + Wait + Sync, S: Source + Send, K: Sink, P: 
         (source.new ≡ source.old) (S.faults source.old) (S.faults source.new)
         (K.faults sink.old) (K.faults sink.new) result.status }
 {
-    let settings = match read_words(alloc, words) {
-        Ok(settings) => settings,
-        Err(error) => {
-            return Outcome {
-                status: refused(error),
-                seen: None,
-            };
-        }
-    };
-    if is_watched(&settings) {
-        if settings.threads {
-            return view_stack(rt, alloc, &settings, source, sink, pacer);
-        }
-        return count_stack(alloc, &settings, source, sink);
-    }
-    Outcome {
-        status: work_aside(rt, alloc, &settings, source, sink, pacer),
-        seen: None,
+    match read_words(alloc, words) {
+        Ok(settings) => work_as_asked(rt, alloc, &settings, source, sink, pacer),
+        Err(error) => refused(error),
     }
 }
 
@@ -127,13 +99,12 @@ fn shelve_words<R: Threads + Wait + Sync, S: Source + Send, K: Sink, P: Pacer + 
 {
     let settings = match read_words(alloc, words) {
         Ok(settings) => settings,
-        Err(error) => return refused(error),
+        Err(error) => return refused(error).status,
     };
     if lists_notes(&settings) {
-        let shown = EventCount::new();
-        return shelve_stack(rt, alloc, &settings, source, sink, pacer, shelf, &shown);
+        return shelve_as_asked(rt, alloc, &settings, source, sink, pacer, shelf);
     }
-    work_aside(rt, alloc, &settings, source, sink, pacer)
+    work_as_asked(rt, alloc, &settings, source, sink, pacer).status
 }
 
 // Writes the line that tells of a run. Where the notices fail, a front of it is written.

@@ -3,16 +3,16 @@ use Rattle.words.specs.Settings.{meaning_of}
 use Rattle.shelf_watch.specs.Watches.{Saw, lent_ref, shelf_ref}
 use Rattle.view_store.specs.Views.{pending, published, shelf_of}
 use Rattle.view_store.specs.declared.views.ViewWriter.{ViewWriter}
-use Rattle.run_status.specs.Causes.{HasCauses}
-use Rattle.run_status.specs.declared.status.Status.{Status}
 use Rattle.ldecode.specs.Asking.{NamesNoHead}
+use Rattle.run_status.specs.Causes.{HasCauses}
 use Rattle.ldecode.specs.Watching.{EndsShelf, ShelvesOn}
+use Rattle.run_status.specs.declared.status.Status.{Status}
 use Rattle.ldecode.proofs.Shelving.{none_seen, shelf_sink, shelf_source, shelf_unread, shelved, some_seen}
-use Rattle.ldecode.proofs.shelve_stack.shelve_stack.Goals as goal
+use Rattle.ldecode.proofs.shelve_stack.shelve_in_threads.Goals as goal
 
 pub returns-clause-shelved : goal.returns-clause-shelved
 returns-clause-shelved g c =
-    let ran = c.decode_stack_as_asked-ended in
+    let ran = c.decode_stack_in_threads-ended in
     let values = meaning_of c.args.settings.now in
     let watch = ran.result.1 in
     let left_old = g.S.Source.left c.args.source.now in
@@ -30,7 +30,7 @@ returns-clause-shelved g c =
 
 pub returns-clause-shelf : goal.returns-clause-shelf
 returns-clause-shelf g c =
-    let ran = c.decode_stack_as_asked-ended in
+    let ran = c.decode_stack_in_threads-ended in
     let watch = ran.result.1 in
     let k = g.K.Sink in
     let none = none_seen k.written Saw c.args.sink.now ran.new.sink c.new-watch.result watch c.new-watch.ensures.saw ran.result.0 ran.ensures.decodes.untouched in
@@ -41,7 +41,7 @@ returns-clause-shelf g c =
 
 pub returns-clause-causes : goal.returns-clause-causes
 returns-clause-causes g c =
-    let ran = c.decode_stack_as_asked-ended in
+    let ran = c.decode_stack_in_threads-ended in
     let headless = NamesNoHead (meaning_of c.args.settings.now) in
     let same = ran.new.source ≡ c.args.source.now in
     let source_old = g.S.Source.faults c.args.source.now in
