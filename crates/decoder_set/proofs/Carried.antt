@@ -24,12 +24,12 @@ use Rattle.dec_modbus.specs.Modbus.{gap_of, modbus_outs}
 use Rattle.dec_spi.specs.Bus.{spi_outs}
 use Rattle.dec_uart.specs.Frames.{uart_outs}
 use Rattle.decoder_core.specs.Inputs.{Item, Sample, Pack, counted_samples, samples_in}
-use Rattle.decoder_set.specs.Kinds.{kind_row}
+use Rattle.kind_table.specs.Kinds.{kind_row}
 use Rattle.decoder_set.specs.Options.{clock_options, eeprom_options, i2c_options, link_options, lm75_options, modbus_options, spi_options, uart_options}
 use Rattle.decoder_set.specs.Setups.{outs_by}
 use Rattle.decoder_set.specs.Whole.{carried, carries}
-use Rattle.decoder_set.specs.declared.kinds.Kind.{Kind}
-use Rattle.decoder_set.specs.declared.kinds.Kind.TheVariants.{I2c, Spi, Uart, OwLink, OwNet, Eeprom24, Ds1307, Lm75, Ds18b20, Flash25, Modbus, Midi}
+use Rattle.kind_table.specs.declared.kinds.Kind.{Kind}
+use Rattle.kind_table.specs.declared.kinds.Kind.TheVariants.{I2c, Spi, Uart, OwLink, OwNet, Eeprom24, Ds1307, Lm75, Ds18b20, Flash25, Modbus, Midi}
 
 samples_carried : (input : List Item) → samples_in (carried Logic input) ≡ samples_in input
 samples_carried [] = refl

@@ -8,7 +8,7 @@ use Rattle.decoder_core.specs.Driving.{ReachesStop, Steps, StepsRuns, StopsFirst
 use Rattle.decoder_core.specs.Inputs.{Item}
 use Rattle.decoder_core.specs.Packets.{IsFloorOver}
 use Rattle.decoder_set.specs.declared.any_machine.AnyMachine.{AnyMachine}
-use Rattle.decoder_set.specs.declared.kinds.Kind.{Kind}
+use Rattle.kind_table.specs.declared.kinds.Kind.{Kind}
 use Rattle.decoder_set.specs.declared.setup.Setup.{Setup}
 use Rattle.decoder_set.specs.Members.{IsMember}
 use Rattle.decoder_set.specs.Opening.{Consumed, ConsumedAs, SleepsBy}

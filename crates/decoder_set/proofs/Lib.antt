@@ -1,5 +1,3 @@
-pub mod ListLemmas
-pub mod WholeRows
 pub mod Carried
 pub mod Seen
 pub mod Held

@@ -6,15 +6,15 @@ use Rattle.la_base.specs.declared.samples.TheConstants.{MOST_PINS}
 use Rattle.decoder_core.specs.declared.faults.OptFault.{OptFault}
 use Rattle.decoder_core.specs.declared.faults.OptFault.TheVariants.{Range}
 use Rattle.decoder_core.specs.declared.faults.OptFault.TheVariants as fault
-use Rattle.decoder_set.specs.declared.kinds.Kind.{Kind}
-use Rattle.decoder_set.specs.declared.kinds.Kind.TheVariants.{I2c, Spi, Uart, OwLink, OwNet}
-use Rattle.decoder_set.specs.declared.kinds.Kind.TheVariants.{Eeprom24, Ds1307, Lm75, Ds18b20}
-use Rattle.decoder_set.specs.declared.kinds.Kind.TheVariants.{Flash25, Modbus, Midi}
+use Rattle.kind_table.specs.declared.kinds.Kind.{Kind}
+use Rattle.kind_table.specs.declared.kinds.Kind.TheVariants.{I2c, Spi, Uart, OwLink, OwNet}
+use Rattle.kind_table.specs.declared.kinds.Kind.TheVariants.{Eeprom24, Ds1307, Lm75, Ds18b20}
+use Rattle.kind_table.specs.declared.kinds.Kind.TheVariants.{Flash25, Modbus, Midi}
 use Rattle.decoder_set.specs.declared.setup.Setup.{Setup}
 use Rattle.dec_onewire.specs.Link.{lengths_of}
 use Rattle.dec_onewire.specs.declared.link.options.Lengths.{Lengths}
 use Rattle.decoder_set.specs.Options.{link_options, uart_options}
-use Rattle.decoder_set.specs.Values.{in_range}
+use Rattle.kind_table.specs.Values.{in_range}
 
 -- a 0 of 1-Wire has two samples and more, and a reset more than a 0
 abbrev pub tells_apart : Lengths → Bool

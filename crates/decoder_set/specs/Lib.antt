@@ -1,5 +1,3 @@
-pub mod Kinds
-pub mod Values
 pub mod Options
 pub mod Setups
 pub mod laws

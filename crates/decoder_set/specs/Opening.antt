@@ -3,8 +3,8 @@ use Rattle.std.specs.Prelude.{ℕ, ◌≡◌, List, [], Option, Some, None, Resu
 use Rattle.decoder_core.specs.Inputs.{Item}
 use Rattle.decoder_core.specs.declared.faults.OptFault.{OptFault}
 use Rattle.la_base.specs.declared.samples.Rate.{Rate}
-use Rattle.decoder_set.specs.declared.kinds.Kind.{Kind}
-use Rattle.decoder_set.specs.declared.setup.OptValues.{OptValues}
+use Rattle.kind_table.specs.declared.kinds.Kind.{Kind}
+use Rattle.kind_table.specs.declared.values.OptValues.{OptValues}
 use Rattle.decoder_set.specs.declared.setup.Setup.{Setup}
 use Rattle.decoder_set.specs.declared.any.AnyDecoder.{AnyDecoder}
 use Rattle.decoder_set.specs.declared.any_machine.AnyMachine.{AnyMachine}

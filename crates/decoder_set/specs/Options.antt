@@ -8,11 +8,11 @@ use Rattle.dec_uart.specs.declared.options.UartOpts.{UartOpts}
 use Rattle.dev_ds1307.specs.declared.chip.ClockOpts.{ClockOpts}
 use Rattle.dev_eeprom24.specs.declared.chip.EepromOpts.{EepromOpts}
 use Rattle.dev_lm75.specs.declared.chip.Lm75Opts.{Lm75Opts}
-use Rattle.decoder_set.specs.Kinds.{kind_row}
-use Rattle.decoder_set.specs.Values.{channel_at, maybe_channel_at, number_at}
-use Rattle.decoder_set.specs.declared.kinds.Kind.{Kind}
-use Rattle.decoder_set.specs.declared.kinds.Kind.TheVariants.{Spi, Uart, OwLink, Eeprom24, Ds1307}
-use Rattle.decoder_set.specs.declared.kinds.Kind.TheVariants.{Lm75, Modbus}
+use Rattle.kind_table.specs.Kinds.{kind_row}
+use Rattle.kind_table.specs.Values.{channel_at, maybe_channel_at, number_at}
+use Rattle.kind_table.specs.declared.kinds.Kind.{Kind}
+use Rattle.kind_table.specs.declared.kinds.Kind.TheVariants.{Spi, Uart, OwLink, Eeprom24, Ds1307}
+use Rattle.kind_table.specs.declared.kinds.Kind.TheVariants.{Lm75, Modbus}
 
 -- the bits of the two lines of an I2C bus
 abbrev pub i2c_options : List (Option ℕ) → I2cOpts

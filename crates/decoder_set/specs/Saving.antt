@@ -1,7 +1,7 @@
 -- What a decoder of any kind saves: what its machine saves.
 use Rattle.std.specs.Prelude.{ℕ, List}
 use Rattle.decoder_set.specs.declared.any_machine.AnyMachine.{AnyMachine}
-use Rattle.decoder_set.specs.declared.kinds.Kind.{Kind}
+use Rattle.kind_table.specs.declared.kinds.Kind.{Kind}
 use Rattle.decoder_set.specs.Views.{Inner, inner, kind_in}
 
 -- which bytes a machine of each kind saves

@@ -35,12 +35,12 @@ use Rattle.dev_lm75.specs.Opening as lm75
 use Rattle.dev_lm75.specs.Texts as lm75_texts
 use Rattle.i2c_phases.specs.Phases.{phase_near}
 use Rattle.la_base.specs.declared.wires.Wire.TheVariants as wire
-use Rattle.decoder_set.specs.declared.kinds.Kind.{Kind}
-use Rattle.decoder_set.specs.declared.kinds.Kind.TheVariants.{I2c, Spi, Uart, OwLink, OwNet}
-use Rattle.decoder_set.specs.declared.kinds.Kind.TheVariants.{Eeprom24, Ds1307, Lm75, Ds18b20}
-use Rattle.decoder_set.specs.declared.kinds.Kind.TheVariants.{Flash25, Modbus, Midi}
+use Rattle.kind_table.specs.declared.kinds.Kind.{Kind}
+use Rattle.kind_table.specs.declared.kinds.Kind.TheVariants.{I2c, Spi, Uart, OwLink, OwNet}
+use Rattle.kind_table.specs.declared.kinds.Kind.TheVariants.{Eeprom24, Ds1307, Lm75, Ds18b20}
+use Rattle.kind_table.specs.declared.kinds.Kind.TheVariants.{Flash25, Modbus, Midi}
 use Rattle.decoder_set.specs.declared.setup.Setup.{Setup}
-use Rattle.decoder_set.specs.Kinds.{Text}
+use Rattle.kind_table.specs.Kinds.{Text}
 use Rattle.decoder_set.specs.Options.{clock_options, eeprom_options, i2c_options, link_options}
 use Rattle.decoder_set.specs.Options.{lm75_options, modbus_options, spi_options, uart_options}
 

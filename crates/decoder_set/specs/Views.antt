@@ -29,8 +29,8 @@ use Rattle.dev_eeprom24.specs.declared.chip.EepromOpts.{EepromOpts}
 use Rattle.dev_eeprom24.specs.declared.held.Eeprom.{Eeprom}
 use Rattle.i2c_phases.specs.declared.phased.Phased.{Phased}
 use Rattle.la_base.specs.declared.samples.Rate.{Rate}
-use Rattle.decoder_set.specs.declared.kinds.Kind.{Kind}
-use Rattle.decoder_set.specs.declared.kinds.Kind.TheVariants as kind
+use Rattle.kind_table.specs.declared.kinds.Kind.{Kind}
+use Rattle.kind_table.specs.declared.kinds.Kind.TheVariants as kind
 use Rattle.decoder_set.specs.declared.any_machine.AnyMachine.{AnyMachine}
 use Rattle.decoder_set.specs.declared.any_machine.AnyMachine.TheVariants as machine
 use Rattle.decoder_set.specs.Options.{clock_options, eeprom_options, i2c_options, link_options}

@@ -1,6 +1,6 @@
--- What holds of each row of the table, and of two decoders of one setup.
-use Rattle.std.specs.Prelude.{ℕ, ◌≡◌, ◌≤◌, ◌<◌, Bool, true, nat_lt, nat_le, ◌&&◌, List, length}
-use Rattle.std.specs.List.{filter, list_all}
+-- What a wire carries of an input, and what holds of two decoders of one setup.
+use Rattle.std.specs.Prelude.{◌≡◌, Bool, List}
+use Rattle.std.specs.List.{filter}
 use Rattle.la_base.specs.Kinds.{same_wire, wire_of}
 use Rattle.la_base.specs.declared.wires.Wire.{Wire}
 use Rattle.la_base.specs.declared.wires.Wire.TheVariants.{Logic}
@@ -11,29 +11,9 @@ use Rattle.decoder_core.specs.declared.follower.Follower.{Follower}
 use Rattle.decoder_set.specs.declared.any_machine.AnyMachine.{AnyMachine}
 use Rattle.decoder_set.specs.declared.any.AnyDecoder.{AnyDecoder}
 use Rattle.decoder_set.specs.Opening.{setup_of}
-use Rattle.decoder_set.specs.Kinds.{Form, Pin, Number, Choice, Row}
 use Rattle.decoder_set.specs.Views.{Inner, inner, kind_in, parts_of}
-use Rattle.decoder_set.specs.declared.kinds.Kind.{Kind}
-use Rattle.decoder_set.specs.declared.kinds.Kind.TheVariants as kind
-
--- the usual value of an option is one that it takes
-abbrev pub usual_fits : Form → Bool
-usual_fits (Pin required) = true
-usual_fits (Number least most usual) = nat_le least usual && nat_le usual most
-usual_fits (Choice words) = nat_lt 0 (length words)
-
--- a number that an option may have: of a choice the place of a word
-abbrev pub NumberFits : Form → ℕ → Type 0
-NumberFits (Pin required) number = Unit {0}
-NumberFits (Number least most usual) number = (least ≤ number) × (number ≤ most)
-NumberFits (Choice words) number = number < length words
-
--- a row of the table: no more than eight options, each with a usual value that it takes, and groups
--- of these
-pub record IsWhole (row : Row) : Type 0 where
-  pub few : length row.options ≤ 8
-  pub usual : list_all (λ option. usual_fits option.form) row.options ≡ true
-  pub groups : list_all (list_all (λ place. nat_lt place (length row.options))) row.groups ≡ true
+use Rattle.kind_table.specs.declared.kinds.Kind.{Kind}
+use Rattle.kind_table.specs.declared.kinds.Kind.TheVariants as kind
 
 -- a wire carries samples, or the packets of its own
 abbrev pub carries : Wire → Item → Bool

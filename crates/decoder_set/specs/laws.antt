@@ -1,5 +1,4 @@
 -- Lemmas that laws of machines cite.
-pub mod RangeLaws
 pub mod FitLaws
 pub mod KindLaws
 pub mod OwnLaws

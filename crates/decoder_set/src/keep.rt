@@ -1,7 +1,7 @@
 // A decoder of any kind is kept as its machine is.
 ghost use Rattle.std.proofs.Common.{sym, ◌∙◌};
 ghost use Rattle.decoder_set.specs.Saving.{SavedBy};
-ghost use Rattle.decoder_set.specs.declared.kinds.Kind.TheVariants as kind;
+ghost use Rattle.kind_table.specs.declared.kinds.Kind.TheVariants as kind;
 ghost use Rattle.decoder_set.specs.laws.SavedLaws.{any_one_saved, drivers_alike, followers_alike};
 
 use crate::AnyDecoder;

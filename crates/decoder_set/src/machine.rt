@@ -1,12 +1,13 @@
 // A decoder of any kind as a machine.
 ghost use Rattle.decoder_set.specs.Setups.{outs_of, near_of};
 ghost use Rattle.decoder_set.specs.Opening.{HasConsumed, IsAsleep, opened_by, setup_of};
-ghost use Rattle.decoder_set.specs.Kinds.{kind_row};
+ghost use Rattle.kind_table.specs.Kinds.{kind_row};
 ghost use Rattle.decoder_set.specs.laws.KindLaws.{promises_of};
 
 use crate::stepping::{floor_any, step_any, step_run_any, step_runs_any};
-use crate::{AnyDecoder, Setup, input_of};
+use crate::{AnyDecoder, Setup};
 use decoder_core::{Machine, Outs, Taken};
+use kind_table::input_of;
 use la_base::{Feed, Run, Wire};
 
 impl Machine for AnyDecoder {

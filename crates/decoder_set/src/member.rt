@@ -7,7 +7,7 @@ ghost use Rattle.la_base.specs.declared.wires.Feed.TheVariants as feed;
 ghost use Rattle.decoder_core.specs.Driving.{LeavesFewer};
 ghost use Rattle.decoder_core.specs.Inputs.{Item, left_feed};
 ghost use Rattle.decoder_set.specs.declared.any_machine.AnyMachine.{AnyMachine};
-ghost use Rattle.decoder_set.specs.declared.kinds.Kind.{Kind};
+ghost use Rattle.kind_table.specs.declared.kinds.Kind.{Kind};
 ghost use Rattle.decoder_set.specs.declared.setup.Setup.{Setup};
 ghost use Rattle.decoder_set.specs.Members.{Floored, IsMember, Stepped, SteppedRun};
 ghost use Rattle.decoder_set.specs.Members.{SteppedRuns};

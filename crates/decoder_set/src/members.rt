@@ -15,7 +15,7 @@ ghost use Rattle.dev_eeprom24.specs.laws.EepromLaws as eeprom_laws;
 ghost use Rattle.dev_lm75.specs.Thermometer.{lm75_outs};
 ghost use Rattle.dev_lm75.specs.laws.GivenLaws as lm75_laws;
 ghost use Rattle.decoder_set.specs.declared.any_machine.AnyMachine.TheVariants as machine;
-ghost use Rattle.decoder_set.specs.declared.kinds.Kind.TheVariants as kind;
+ghost use Rattle.kind_table.specs.declared.kinds.Kind.TheVariants as kind;
 ghost use Rattle.decoder_set.specs.Options.{clock_options, eeprom_options, i2c_options};
 ghost use Rattle.decoder_set.specs.Options.{link_options, lm75_options, modbus_options};
 ghost use Rattle.decoder_set.specs.Options.{spi_options, uart_options};

@@ -5,15 +5,14 @@ ghost use Rattle.decoder_core.specs.declared.faults.OptFault.TheVariants.{Rate a
 ghost use Rattle.decoder_set.specs.Faults.{too_slow};
 ghost use Rattle.decoder_set.specs.Opening.{Consumed, ConsumedAs, Opens};
 ghost use Rattle.decoder_set.specs.declared.any_machine.AnyMachine.TheVariants as AnyMachine;
-ghost use Rattle.decoder_set.specs.Values.{in_range};
+ghost use Rattle.kind_table.specs.Values.{in_range};
 
 use crate::any_machine::AnyMachine;
 use crate::options::{
     clock_options, eeprom_options, i2c_options, link_options, lm75_options, modbus_options,
     spi_options, uart_options,
 };
-use crate::values::in_range;
-use crate::{AnyDecoder, Kind, OptValues, Setup};
+use crate::{AnyDecoder, Setup};
 use dec_i2c::I2c;
 use dec_midi::{Midi, MidiOpts};
 use dec_modbus::Modbus;
@@ -27,6 +26,7 @@ use dev_eeprom24::Eeprom;
 use dev_flash25::{Flash, FlashOpts};
 use dev_lm75::Lm75;
 use i2c_phases::Phased;
+use kind_table::{Kind, OptValues, in_range};
 use la_base::Rate;
 
 // An I2C decoder of values in range.

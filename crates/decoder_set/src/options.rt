@@ -12,11 +12,8 @@ ghost use Rattle.dev_lm75.specs.Opening.{InRange as Lm75InRange};
 ghost use Rattle.decoder_set.specs.Options.{clock_options, eeprom_options, i2c_options};
 ghost use Rattle.decoder_set.specs.Options.{link_options, lm75_options, modbus_options};
 ghost use Rattle.decoder_set.specs.Options.{spi_options, uart_options};
-ghost use Rattle.decoder_set.specs.Values.{in_range};
+ghost use Rattle.kind_table.specs.Values.{in_range};
 
-use crate::Kind;
-use crate::setup::OptValues;
-use crate::table::options_of;
 use dec_i2c::I2cOpts;
 use dec_modbus::ModbusOpts;
 use dec_onewire::OwLinkOpts;
@@ -25,6 +22,7 @@ use dec_uart::UartOpts;
 use dev_ds1307::ClockOpts;
 use dev_eeprom24::EepromOpts;
 use dev_lm75::Lm75Opts;
+use kind_table::{Kind, OptValues, options_of};
 
 /// The lines of an I2C bus.
 pub fn i2c_options(values: &OptValues) -> I2cOpts

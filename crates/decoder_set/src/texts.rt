@@ -2,7 +2,7 @@
 ghost use Rattle.std.specs.Prelude.{◌≡◌, ◌+◌, ◌≤◌, ◌++◌, length};
 ghost use Rattle.decoder_set.specs.Setups.{note_text};
 
-use crate::Kind;
+use kind_table::Kind;
 use la_base::Note;
 use line_text::LineBuf;
 

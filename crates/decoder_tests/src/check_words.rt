@@ -1,7 +1,8 @@
 // Checkpoints that no run shows: a word without digits, and what a refusal leaves.
 use check_point::{CheckFault, CheckWhy, a_word_is_one_check, read_check, write_check};
 use decoder_core::{Machine, Outs};
-use decoder_set::{AnyDecoder, Kind};
+use decoder_set::AnyDecoder;
+use kind_table::Kind;
 use la_base::{Feed, Run};
 use la_io::MemSink;
 use std::alloc::Global;

@@ -10,8 +10,9 @@ mod traffic;
 mod trees;
 mod uart;
 
-use decoder_set::{kind_of, note_text};
+use decoder_set::note_text;
 use feeds::{floors_hold, holds};
+use kind_table::kind_of;
 use la_base::Note;
 use line_text::LineBuf;
 use std::test::Fail;

@@ -2,10 +2,10 @@
 use crate::decoders::feeds::{RATE, holds, opened, setup_of};
 use crate::moving::is_send;
 use decoder_core::{Machine, OptFault, Outs, Taken};
-use decoder_set::{
-    AnyDecoder, Kind, MOST_OPTIONS, OptValues, Setup, asked_of, class_of, groups_of, input_of,
-    kind_name, kind_of, kinds_are_whole, kinds_read_their_wires, number_of,
-    one_input_makes_one_decoder, options_of, output_of, place_of, values_in_range_fit,
+use decoder_set::{AnyDecoder, Setup, kinds_read_their_wires, one_input_makes_one_decoder};
+use kind_table::{
+    Kind, MOST_OPTIONS, OptValues, asked_of, class_of, groups_of, input_of, kind_name, kind_of,
+    kinds_are_whole, number_of, options_of, output_of, place_of, values_in_range_fit,
 };
 use la_base::{Feed, Run, Wire};
 use std::alloc::{AllocError, Global};

@@ -1,7 +1,7 @@
 -- One more option that is told.
 use Rattle.std.proofs.Common.{ℕ, suc, ◌≡◌, ◌∙◌, ◌+◌, ◌<◌, List, ◌++◌, length, map, drop, get_or, slice_get, ap, drop-cons, arith}
-use Rattle.decoder_set.specs.Kinds.{opt_row}
-use Rattle.decoder_set.specs.declared.kinds.OptRow.{OptRow}
+use Rattle.kind_table.specs.Kinds.{opt_row}
+use Rattle.kind_table.specs.declared.kinds.OptRow.{OptRow}
 use Rattle.help_text.specs.Decoders.{option_told, options_told, text_in}
 
 -- the next of some options, and those behind it

@@ -4,9 +4,9 @@ use Rattle.std.specs.Prelude.{Option, None, Some, slice_get}
 use Rattle.std.specs.List.{concat, find, flat_map, join_by}
 use Rattle.la_base.specs.Kinds.{same_wire}
 use Rattle.la_base.specs.declared.wires.Wire.{Wire}
-use Rattle.decoder_set.specs.declared.kinds.Asked.{Asked}
-use Rattle.decoder_set.specs.declared.kinds.Kind.{Kind}
-use Rattle.decoder_set.specs.Kinds.{Text, Form, Pin, Number, Choice, OptionRow, kind_row, kinds}
+use Rattle.kind_table.specs.declared.kinds.Asked.{Asked}
+use Rattle.kind_table.specs.declared.kinds.Kind.{Kind}
+use Rattle.kind_table.specs.Kinds.{Text, Form, Pin, Number, Choice, OptionRow, kind_row, kinds}
 use Rattle.help_text.specs.Meanings.{meanings_of, what_of}
 
 -- words, with this between two of them

@@ -1,7 +1,7 @@
 -- What the help tells.
 use Rattle.std.specs.Prelude.{ℕ, ◌≡◌, List, [], ◌∷◌, ◌++◌, codes, unwrap_or}
 use Rattle.std.specs.List.{concat}
-use Rattle.decoder_set.specs.declared.kinds.Kind.{Kind}
+use Rattle.kind_table.specs.declared.kinds.Kind.{Kind}
 use Rattle.words.specs.Options.{row}
 use Rattle.words.specs.declared.options.Name.{Name}
 use Rattle.help_text.specs.Decoders.{kind_told}

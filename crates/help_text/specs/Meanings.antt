@@ -1,10 +1,10 @@
 -- What each decoder is, and what its options mean, in words.
 use Rattle.std.specs.Prelude.{List, [], ◌∷◌, codes}
-use Rattle.decoder_set.specs.Kinds.{Text}
-use Rattle.decoder_set.specs.declared.kinds.Kind.{Kind}
-use Rattle.decoder_set.specs.declared.kinds.Kind.TheVariants.{I2c, Spi, Uart, OwLink, OwNet}
-use Rattle.decoder_set.specs.declared.kinds.Kind.TheVariants.{Eeprom24, Ds1307, Lm75, Ds18b20}
-use Rattle.decoder_set.specs.declared.kinds.Kind.TheVariants.{Flash25, Modbus, Midi}
+use Rattle.kind_table.specs.Kinds.{Text}
+use Rattle.kind_table.specs.declared.kinds.Kind.{Kind}
+use Rattle.kind_table.specs.declared.kinds.Kind.TheVariants.{I2c, Spi, Uart, OwLink, OwNet}
+use Rattle.kind_table.specs.declared.kinds.Kind.TheVariants.{Eeprom24, Ds1307, Lm75, Ds18b20}
+use Rattle.kind_table.specs.declared.kinds.Kind.TheVariants.{Flash25, Modbus, Midi}
 
 -- what a decoder decodes
 abbrev pub what_of : Kind → Text

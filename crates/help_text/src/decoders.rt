@@ -2,7 +2,7 @@
 ghost use Rattle.std.specs.Prelude.{◌≡◌, IfOk, map, slice_get};
 ghost use Rattle.std.specs.List.{flat_map};
 ghost use Rattle.std.specs.String.{string_bytes};
-ghost use Rattle.decoder_set.specs.Kinds.{Choice, form_of, opt_row};
+ghost use Rattle.kind_table.specs.Kinds.{Choice, form_of, opt_row};
 ghost use Rattle.help_text.specs.Decoders.{asked_told, classes_told, first_word, giver_of};
 ghost use Rattle.help_text.specs.Decoders.{group_told, joined, kind_line, name_at};
 ghost use Rattle.help_text.specs.Decoders.{option_told, options_told, stands_on, takes_text};
@@ -10,7 +10,7 @@ ghost use Rattle.help_text.specs.Decoders.{text_in};
 ghost use Rattle.help_text.specs.Help.{TellsKind};
 
 use crate::meanings::{meanings_of, what_of};
-use decoder_set::{
+use kind_table::{
     Asked, KINDS, Kind, OptForm, OptRow, asked_of, classes_of, groups_of, input_of, kind_name,
     options_of, output_of,
 };

@@ -1,13 +1,13 @@
 // What `--help` and `--version` tell.
 ghost use Rattle.std.specs.Prelude.{◌≡◌, IfOk, MatchOption, codes};
 ghost use Rattle.std.specs.String.{string_bytes};
-ghost use Rattle.decoder_set.specs.declared.table.TheConstants.{KINDS};
+ghost use Rattle.kind_table.specs.declared.table.TheConstants.{KINDS};
 ghost use Rattle.words.specs.declared.options.TheConstants.{OPTIONS};
 ghost use Rattle.help_text.specs.Help.{IsHelp, TellsOption, option_lines};
 ghost use Rattle.help_text.specs.declared.help.TheConstants.{USAGE, DECODERS, CLOSING};
 
 use crate::decoders::kind_text;
-use decoder_set::KINDS;
+use kind_table::KINDS;
 use std::alloc::{AllocError, Global};
 use words::{Name, OPTIONS};
 

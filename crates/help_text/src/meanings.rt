@@ -1,9 +1,9 @@
 // What each decoder is, and what its options mean, in words: what the table of kinds doesn't say.
 ghost use Rattle.std.specs.Prelude.{◌≡◌, length, map};
-ghost use Rattle.decoder_set.specs.Kinds.{kind_row};
+ghost use Rattle.kind_table.specs.Kinds.{kind_row};
 ghost use Rattle.help_text.specs.Meanings.{meanings_of, what_of};
 
-use decoder_set::Kind;
+use kind_table::Kind;
 
 // The low bits of a device's address.
 const LOW_ADDRESS: &str = "the lowest three bits of its address";

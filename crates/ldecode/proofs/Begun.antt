@@ -10,7 +10,7 @@ use Rattle.check_point.specs.declared.faults.CheckWhy.TheVariants.{Many, Form, F
 use Rattle.check_point.specs.laws.EntryLaws.{one_word}
 use Rattle.decoder_set.specs.Opening.{HasConsumed, setup_of}
 use Rattle.decoder_set.specs.declared.any.AnyDecoder.{AnyDecoder}
-use Rattle.decoder_set.specs.declared.kinds.Kind.{Kind}
+use Rattle.kind_table.specs.declared.kinds.Kind.{Kind}
 use Rattle.decoder_set.specs.declared.setup.Setup.{Setup}
 use Rattle.stack_spec.specs.Instances.{Instance}
 use Rattle.std.proofs.Math.Path.{transport}
@@ -20,7 +20,7 @@ use Rattle.decoder_set.specs.Setups.{outs_of}
 use Rattle.tree_runs.specs.Machines.{Stand}
 use Rattle.tree_runs.specs.Runs.{StandOn, nodes_of}
 use Rattle.ldecode.specs.Parting.{AreSaved, Begun, CanBegin, CantBegin, IsRefused, IsTaken, Saves, most_samples, places_of}
-use Rattle.decoder_set.specs.Kinds.{place_of}
+use Rattle.kind_table.specs.Kinds.{place_of}
 use Rattle.ldecode.specs.Parts.{CameBefore, parents_on, setups_on}
 
 -- the decoder at a place has the setup at that place

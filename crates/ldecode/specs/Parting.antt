@@ -8,7 +8,7 @@ use Rattle.check_point.specs.declared.faults.CheckWhy.{CheckWhy}
 use Rattle.check_point.specs.declared.faults.CheckWhy.TheVariants.{Many, Form, Fit}
 use Rattle.decoder_set.specs.Opening.{HasConsumed, setup_of}
 use Rattle.decoder_set.specs.declared.any.AnyDecoder.{AnyDecoder}
-use Rattle.decoder_set.specs.Kinds.{place_of}
+use Rattle.kind_table.specs.Kinds.{place_of}
 use Rattle.decoder_set.specs.declared.setup.Setup.{Setup}
 
 -- which bytes a decoder saves

@@ -2,7 +2,7 @@
 ghost use Rattle.std.specs.Prelude.{◌≡◌, ◌≤◌, length, map, IfSome, IfOk, IfErr};
 ghost use Rattle.std.specs.Prelude.{option_map};
 ghost use Rattle.std.specs.String.{string_bytes};
-ghost use Rattle.decoder_set.specs.Kinds.{place_of};
+ghost use Rattle.kind_table.specs.Kinds.{place_of};
 ghost use Rattle.decoder_set.specs.Opening.{setup_of};
 ghost use Rattle.stack_spec.specs.Stacks.{instances_in};
 ghost use Rattle.words.specs.Settings.{meaning_of};
@@ -19,7 +19,8 @@ use arrayvec::ArrayVec;
 use check_point::{CheckFault, CheckWhy, read_check};
 use decode_job::part;
 use decoder_core::Keep;
-use decoder_set::{AnyDecoder, place_of};
+use decoder_set::AnyDecoder;
+use kind_table::place_of;
 use la_io::{Sink, Source};
 use run_status::Status;
 use stack_spec::Stack;

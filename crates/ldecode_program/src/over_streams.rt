@@ -1,7 +1,7 @@
 // The program over any streams.
 ghost use Rattle.std.specs.Prelude.{◌≡◌, map};
 ghost use Rattle.std.specs.String.{string_bytes};
-ghost use Rattle.decoder_set.specs.declared.table.TheConstants.{KINDS};
+ghost use Rattle.kind_table.specs.declared.table.TheConstants.{KINDS};
 ghost use Rattle.words.specs.declared.options.TheConstants.{OPTIONS};
 ghost use Rattle.ldecode.specs.Headline.{stream};
 ghost use Rattle.help_text.specs.Help.{IsHelp};

@@ -2,8 +2,8 @@
 use Rattle.std.specs.Prelude.{ℕ, List, ◌++◌, codes}
 use Rattle.std.specs.Fmt.{decimal}
 use Rattle.la_base.specs.declared.wires.Note.{Note}
-use Rattle.decoder_set.specs.Kinds.{kind_row}
-use Rattle.decoder_set.specs.declared.kinds.Kind.{Kind}
+use Rattle.kind_table.specs.Kinds.{kind_row}
+use Rattle.kind_table.specs.declared.kinds.Kind.{Kind}
 use Rattle.decoder_set.specs.Setups.{note_text}
 
 -- the name of an instance within a line: the kind, and the number of the instance within its kind

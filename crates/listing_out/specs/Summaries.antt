@@ -1,9 +1,9 @@
 -- What decoders gave, in numbers.
 use Rattle.std.specs.Prelude.{ℕ, List, ◌++◌, codes}
 use Rattle.std.specs.Fmt.{decimal}
-use Rattle.decoder_set.specs.Kinds.{kind_row}
-use Rattle.decoder_set.specs.declared.kinds.Kind.{Kind}
-use Rattle.decoder_set.specs.declared.kinds.Kind.TheVariants.{I2c, Uart}
+use Rattle.kind_table.specs.Kinds.{kind_row}
+use Rattle.kind_table.specs.declared.kinds.Kind.{Kind}
+use Rattle.kind_table.specs.declared.kinds.Kind.TheVariants.{I2c, Uart}
 use Rattle.listing_out.specs.declared.summaries.Tally.{Tally}
 
 -- the line of the first instance of a kind

@@ -1,10 +1,10 @@
 // The names of instances, with their texts.
 ghost use Rattle.std.specs.Prelude.{◌≡◌, ◌≤◌, ◌<◌, ◌++◌, ℕ, length, true};
-ghost use Rattle.decoder_set.specs.declared.kinds.Kind.{Kind};
+ghost use Rattle.kind_table.specs.declared.kinds.Kind.{Kind};
 ghost use Rattle.listing_out.specs.NoteLines.{name_as};
 
 use crate::text::push_text;
-use decoder_set::{Kind, kind_name};
+use kind_table::{Kind, kind_name};
 use line_text::{LineBuf, MOST_SHORT, ShortText};
 use std::array;
 use std::marker::Model;

@@ -6,7 +6,8 @@ ghost use Rattle.listing_out.specs.NoteLines.{line_as};
 
 use crate::name::Names;
 use crate::text::push_text;
-use decoder_set::{Kind, note_text};
+use decoder_set::note_text;
+use kind_table::Kind;
 use la_base::Note;
 use la_io::{Failed, Sink, write_whole};
 use line_text::{Decimal, LineBuf};

@@ -5,7 +5,7 @@ ghost use Rattle.la_io.specs.Causes.{AppendsFront, HasCause};
 ghost use Rattle.listing_out.specs.Summaries.{summary, tally_line};
 
 use crate::text::push_text;
-use decoder_set::{Kind, kind_name};
+use kind_table::{Kind, kind_name};
 use la_io::{Failed, Sink, write_whole};
 use line_text::LineBuf;
 

@@ -11,7 +11,7 @@ use Rattle.text_parts.specs.Chains.{WordText}
 use Rattle.capture_make.specs.Made.{made}
 use Rattle.decoder_core.specs.Trees.{Node, given}
 use Rattle.decoder_set.specs.Setups.{outs_of}
-use Rattle.decoder_set.specs.declared.kinds.Kind.TheVariants.{I2c, Uart}
+use Rattle.kind_table.specs.declared.kinds.Kind.TheVariants.{I2c, Uart}
 use Rattle.decoder_set.specs.declared.setup.Setup.{Setup}
 use Rattle.listing_out.specs.Summaries.{summary}
 use Rattle.listing_out.specs.declared.summaries.Tally.{Tally}

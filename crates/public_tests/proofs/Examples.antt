@@ -9,8 +9,8 @@ use Rattle.words.specs.declared.kinds.WordCount.{WordCount}
 use Rattle.words.specs.declared.kinds.WordFault.{WordFault}
 use Rattle.words.specs.declared.kinds.WordWhy.{WordWhy}
 use Rattle.words.specs.declared.kinds.WordWhy.TheVariants as word_why
-use Rattle.decoder_set.specs.Kinds.{OptionRow, Text, Pin, Number, Choice}
-use Rattle.decoder_set.specs.declared.kinds.Asked.{Asked}
+use Rattle.kind_table.specs.Kinds.{OptionRow, Text, Pin, Number, Choice}
+use Rattle.kind_table.specs.declared.kinds.Asked.{Asked}
 use Rattle.stack_spec.specs.Instances.{Given, has_numbers}
 use Rattle.stack_spec.specs.Options.{options_at}
 use Rattle.la_io.specs.declared.fault.CaptureFault.TheVariants as capture

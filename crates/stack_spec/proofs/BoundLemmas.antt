@@ -7,13 +7,13 @@ use Rattle.text_parts.specs.Reading.{read_parts, then_read}
 use Rattle.text_parts.proofs.ReadLemmas.{map-push}
 use Rattle.la_base.specs.declared.samples.Rate.{Rate}
 use Rattle.decoder_core.specs.declared.faults.OptFault.{OptFault}
-use Rattle.decoder_set.specs.Kinds.{kind_row}
+use Rattle.kind_table.specs.Kinds.{kind_row}
 use Rattle.decoder_set.specs.Faults.{too_slow}
 use Rattle.decoder_set.specs.Opening.{HasConsumed, Opens}
 use Rattle.decoder_set.specs.Opening as opening
-use Rattle.decoder_set.specs.Values.{in_range}
+use Rattle.kind_table.specs.Values.{in_range}
 use Rattle.decoder_set.specs.declared.any.AnyDecoder.{AnyDecoder}
-use Rattle.decoder_set.specs.declared.setup.OptValues.{OptValues}
+use Rattle.kind_table.specs.declared.values.OptValues.{OptValues}
 use Rattle.decoder_set.specs.declared.setup.Setup.{Setup}
 use Rattle.wait_cond.specs.Binding.{is_pin, first_uses}
 use Rattle.wait_cond.specs.declared.faults.BindWhy.TheVariants as why

@@ -6,8 +6,8 @@ use Rattle.std.proofs.lemmas.List.{length_push}
 use Rattle.la_base.specs.declared.wires.Wire.TheVariants.{Logic}
 use Rattle.la_base.specs.Kinds.{same_wire}
 use Rattle.decoder_core.specs.laws.PacketLaws.{same_wire_true}
-use Rattle.decoder_set.specs.Kinds.{kind_row}
-use Rattle.decoder_set.specs.declared.kinds.Kind.{Kind}
+use Rattle.kind_table.specs.Kinds.{kind_row}
+use Rattle.kind_table.specs.declared.kinds.Kind.{Kind}
 use Rattle.stack_spec.specs.Instances.{Instance, has_numbers, output_of, stands_on}
 use Rattle.stack_spec.specs.Sound.{options_fit, parent_fits, is_right, right_from, is_sound, HasParent, IsForest}
 use Rattle.stack_spec.proofs.OptionLemmas.{both}

@@ -14,12 +14,12 @@ use Rattle.la_base.specs.Naming.{find_channel}
 use Rattle.la_base.specs.declared.samples.Rate.{Rate}
 use Rattle.decoder_core.specs.declared.faults.OptFault.{OptFault}
 use Rattle.decoder_core.specs.declared.faults.OptFault.TheVariants as opt
-use Rattle.decoder_set.specs.Kinds.{Form, OptionRow, Pin, Number, Choice, kind_row}
+use Rattle.kind_table.specs.Kinds.{Form, OptionRow, Pin, Number, Choice, kind_row}
 use Rattle.decoder_set.specs.Faults.{open_fault, too_slow}
-use Rattle.decoder_set.specs.Values.{takes, has_groups, in_range, row_in_range}
-use Rattle.decoder_set.specs.Values as set_values
-use Rattle.decoder_set.proofs.WholeRows.{kind_whole}
-use Rattle.decoder_set.specs.declared.kinds.Kind.{Kind}
+use Rattle.kind_table.specs.Values.{takes, has_groups, in_range, row_in_range}
+use Rattle.kind_table.specs.Values as set_values
+use Rattle.kind_table.proofs.WholeRows.{kind_whole}
+use Rattle.kind_table.specs.declared.kinds.Kind.{Kind}
 use Rattle.stack_spec.specs.Binding.{RowBound, Absent, Plain, On, channels, with_channels, at_item, bit_of, on_channel, bind_value, row_at, given_rows, value_of, values_of, rows_bound}
 use Rattle.stack_spec.specs.BindSteps.{pins_behind, BindsRow, BindsRows}
 use Rattle.stack_spec.specs.Instances.{Value, Channel, Given, Instance, given_at}

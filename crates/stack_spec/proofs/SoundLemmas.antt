@@ -11,8 +11,8 @@ use Rattle.text_parts.specs.Places.{Placed, parts_between}
 use Rattle.text_parts.specs.Reading.{read_parts, then_read}
 use Rattle.la_base.specs.Kinds.{same_wire}
 use Rattle.la_base.specs.declared.wires.Wire.TheVariants.{Logic}
-use Rattle.decoder_set.specs.Kinds.{kind_row, kind_of}
-use Rattle.decoder_set.specs.declared.kinds.Kind.{Kind}
+use Rattle.kind_table.specs.Kinds.{kind_row, kind_of}
+use Rattle.kind_table.specs.declared.kinds.Kind.{Kind}
 use Rattle.stack_spec.specs.declared.faults.StackFault.{StackFault}
 use Rattle.stack_spec.specs.declared.faults.StackWhy.{StackWhy}
 use Rattle.stack_spec.specs.declared.faults.StackWhy.TheVariants as why

@@ -6,7 +6,7 @@ use Rattle.std.specs.Str.{bytes_eq}
 use Rattle.text_parts.specs.Chains.{WordText}
 use Rattle.text_parts.specs.Places.{Placed, parts_between}
 use Rattle.text_parts.specs.Reading.{read_parts, then_read}
-use Rattle.decoder_set.specs.Kinds.{Text, class_of}
+use Rattle.kind_table.specs.Kinds.{Text, class_of}
 use Rattle.stack_spec.specs.declared.faults.StackFault.{StackFault}
 use Rattle.stack_spec.specs.declared.faults.StackWhy.TheVariants as why
 use Rattle.stack_spec.specs.Instances.{Instance, place_named}

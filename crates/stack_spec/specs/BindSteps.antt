@@ -4,7 +4,7 @@ use Rattle.std.specs.Prelude.{map, All, IfSome}
 use Rattle.la_base.specs.declared.samples.Rate.{Rate}
 use Rattle.decoder_set.specs.Opening.{HasConsumed, setup_of as setup_in}
 use Rattle.decoder_set.specs.declared.any.AnyDecoder.{AnyDecoder}
-use Rattle.decoder_set.specs.declared.setup.OptValues.{OptValues}
+use Rattle.kind_table.specs.declared.values.OptValues.{OptValues}
 use Rattle.wait_cond.specs.Binding.{AllBelow, Distinct}
 use Rattle.wait_cond.specs.Steps.{with_pin}
 use Rattle.wait_cond.specs.declared.faults.BindWhy.{BindWhy}

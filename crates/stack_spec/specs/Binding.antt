@@ -5,7 +5,7 @@ use Rattle.std.specs.List.{position_or_len, enumerate_from, flat_map}
 use Rattle.la_base.specs.Naming.{find_channel}
 use Rattle.la_base.specs.declared.samples.Rate.{Rate}
 use Rattle.text_parts.specs.Reading.{read_parts, then_read}
-use Rattle.decoder_set.specs.Kinds.{kind_row}
+use Rattle.kind_table.specs.Kinds.{kind_row}
 use Rattle.decoder_set.specs.Faults.{too_slow}
 use Rattle.decoder_set.specs.declared.setup.Setup.{Setup}
 use Rattle.wait_cond.specs.Binding.{first_uses}

@@ -6,8 +6,8 @@ use Rattle.std.specs.Prelude.{if◌then◌else◌}
 use Rattle.text_parts.specs.Chains.{WordText}
 use Rattle.text_parts.specs.Places.{Placed, parts_between}
 use Rattle.text_parts.specs.Reading.{read_parts, then_read}
-use Rattle.decoder_set.specs.Kinds.{Text, kind_row, kind_of}
-use Rattle.decoder_set.specs.declared.kinds.Kind.{Kind}
+use Rattle.kind_table.specs.Kinds.{Text, kind_row, kind_of}
+use Rattle.kind_table.specs.declared.kinds.Kind.{Kind}
 use Rattle.stack_spec.specs.declared.faults.StackFault.{StackFault}
 use Rattle.stack_spec.specs.declared.faults.StackWhy.{StackWhy}
 use Rattle.stack_spec.specs.declared.faults.StackWhy.TheVariants as why

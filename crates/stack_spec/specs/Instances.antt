@@ -8,10 +8,10 @@ use Rattle.std.specs.Str.{bytes_eq}
 use Rattle.la_base.specs.declared.wires.Wire.{Wire}
 use Rattle.la_base.specs.declared.wires.Wire.TheVariants.{Logic, Nothing}
 use Rattle.la_base.specs.Kinds.{same_wire}
-use Rattle.decoder_set.specs.Kinds.{OptionRow, Text, kind_row}
-use Rattle.decoder_set.specs.Values.{number_by}
-use Rattle.decoder_set.specs.declared.kinds.Asked.{Asked}
-use Rattle.decoder_set.specs.declared.kinds.Kind.{Kind}
+use Rattle.kind_table.specs.Kinds.{OptionRow, Text, kind_row}
+use Rattle.kind_table.specs.Values.{number_by}
+use Rattle.kind_table.specs.declared.kinds.Asked.{Asked}
+use Rattle.kind_table.specs.declared.kinds.Kind.{Kind}
 use Rattle.stack_spec.specs.declared.faults.StackWhy.{StackWhy}
 use Rattle.stack_spec.specs.declared.faults.StackWhy.TheVariants as why
 

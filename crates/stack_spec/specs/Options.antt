@@ -9,8 +9,8 @@ use Rattle.text_parts.specs.Places.{Placed, placed_from}
 use Rattle.text_parts.specs.Reading.{read_parts, then_read}
 use Rattle.text_parts.specs.declared.numbers.NumberWhy.{NumberWhy}
 use Rattle.text_parts.specs.declared.numbers.NumberWhy.TheVariants as number
-use Rattle.decoder_set.specs.Kinds.{Text, Form, OptionRow, Pin, Number, Choice}
-use Rattle.decoder_set.specs.Values.{has_groups}
+use Rattle.kind_table.specs.Kinds.{Text, Form, OptionRow, Pin, Number, Choice}
+use Rattle.kind_table.specs.Values.{has_groups}
 use Rattle.stack_spec.specs.declared.faults.StackFault.{StackFault}
 use Rattle.stack_spec.specs.declared.faults.StackWhy.{StackWhy}
 use Rattle.stack_spec.specs.declared.faults.StackWhy.TheVariants as why

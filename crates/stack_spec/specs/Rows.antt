@@ -3,7 +3,7 @@ use Rattle.std.specs.Prelude.{ℕ, ◌≡◌, List, [], ◌∷◌, Some, None, O
 use Rattle.std.proofs.Common.{refl}
 use Rattle.std.specs.Fmt.{digits}
 use Rattle.text_parts.specs.Chains.{WordText}
-use Rattle.decoder_set.specs.declared.kinds.Kind.TheVariants.{I2c}
+use Rattle.kind_table.specs.declared.kinds.Kind.TheVariants.{I2c}
 use Rattle.stack_spec.specs.declared.faults.StackWhy.TheVariants as why
 use Rattle.stack_spec.specs.Instances.{Instance, Channel}
 use Rattle.stack_spec.specs.Options.{stack_fault}

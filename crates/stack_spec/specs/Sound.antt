@@ -4,9 +4,9 @@ use Rattle.std.specs.Prelude.{[], ◌∷◌, ◌++◌, length, slice_get, Option
 use Rattle.std.specs.List.{list_all, enumerate_from}
 use Rattle.la_base.specs.declared.wires.Wire.TheVariants.{Logic}
 use Rattle.la_base.specs.Kinds.{same_wire}
-use Rattle.decoder_set.specs.Kinds.{Form, OptionRow, Row, Pin, Number, Choice, kind_row}
-use Rattle.decoder_set.specs.Values.{has_groups}
-use Rattle.decoder_set.specs.declared.kinds.Kind.{Kind}
+use Rattle.kind_table.specs.Kinds.{Form, OptionRow, Row, Pin, Number, Choice, kind_row}
+use Rattle.kind_table.specs.Values.{has_groups}
+use Rattle.kind_table.specs.declared.kinds.Kind.{Kind}
 use Rattle.stack_spec.specs.Instances.{Value, Channel, Given, Instance, given_at, output_at}
 use Rattle.stack_spec.specs.Instances.{stands_on, most_instances}
 use Rattle.stack_spec.specs.Instances as value

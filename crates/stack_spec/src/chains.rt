@@ -15,7 +15,7 @@ use crate::naming::{next_number, place_named};
 use crate::options::read_options;
 use crate::standing::why_not;
 use crate::{StackError, StackWhy};
-use decoder_set::{groups_of, kind_of, options_of};
+use kind_table::{groups_of, kind_of, options_of};
 use std::alloc::Global;
 use text_parts::{ChainWord, place_behind};
 

@@ -1,6 +1,6 @@
 // What a stack holds.
 use crate::StackWhy;
-use decoder_set::Kind;
+use kind_table::Kind;
 
 /// What an option is given: the reference of a channel, or a number, which for a choice is the
 /// place of a word.

@@ -6,7 +6,7 @@ ghost use Rattle.stack_spec.specs.Instances.{name_of, next_number, place_named, 
 ghost use Rattle.stack_spec.specs.Meaning.{instance_of};
 
 use crate::instance::Instance;
-use decoder_set::{Kind, kind_name};
+use kind_table::{Kind, kind_name};
 use line_text::LineBuf;
 
 // Whether an instance has this name: its kind, a hyphen, and its number within the kind.

@@ -5,7 +5,7 @@ ghost use Rattle.std.specs.List.{find, list_all, list_any, enumerate_from};
 ghost use Rattle.std.specs.Str.{bytes_eq};
 ghost use Rattle.text_parts.specs.Numbers.{number_in};
 ghost use Rattle.text_parts.specs.Reading.{Gives};
-ghost use Rattle.decoder_set.specs.Kinds.{Choice, form_of, opt_row};
+ghost use Rattle.kind_table.specs.Kinds.{Choice, form_of, opt_row};
 ghost use Rattle.stack_spec.specs.Instances.{given_at};
 ghost use Rattle.stack_spec.specs.Options.{is_missing, needs, numeric, option_list, option_at};
 ghost use Rattle.stack_spec.specs.Options.{option_named, option_of, options_at, options_behind};
@@ -15,7 +15,7 @@ ghost use Rattle.stack_spec.specs.Meaning.{stack_fault_in, given_of, meaning_of,
 use crate::errors::{fault, refusal};
 use crate::instance::{GivenOption, GivenValue, Refused};
 use crate::{StackError, StackWhy};
-use decoder_set::{OptForm, OptRow, word_place};
+use kind_table::{OptForm, OptRow, word_place};
 use std::alloc::Global;
 use text_parts::{NumberWhy, number_in, place_behind};
 

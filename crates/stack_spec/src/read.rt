@@ -13,7 +13,7 @@ ghost use Rattle.stack_spec.specs.Stacks.{instances_in, stack_meaning};
 use crate::chains::read_chains;
 use crate::shown::{read_binary, read_shown};
 use crate::{Stack, StackError};
-use decoder_set::Kind;
+use kind_table::Kind;
 use std::alloc::Global;
 use text_parts::ChainWord;
 

@@ -14,7 +14,7 @@ use crate::errors::fault;
 use crate::instance::Instance;
 use crate::naming::place_named;
 use crate::{StackError, StackWhy};
-use decoder_set::class_of;
+use kind_table::class_of;
 use std::alloc::Global;
 use text_parts::{ChainWord, place_behind};
 

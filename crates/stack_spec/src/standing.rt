@@ -1,6 +1,6 @@
 // What instances stand on.
 ghost use Rattle.std.specs.Prelude.{◌≡◌, ◌<◌, None, Some, map, option_map, slice_get, length};
-ghost use Rattle.decoder_set.specs.Kinds.{opt_row};
+ghost use Rattle.kind_table.specs.Kinds.{opt_row};
 ghost use Rattle.stack_spec.specs.Instances.{has_numbers, number_given, number_in_value, stands_on};
 ghost use Rattle.stack_spec.specs.Instances.{why_not};
 ghost use Rattle.stack_spec.specs.Meaning.{given_of, instance_of, meaning_of};
@@ -8,7 +8,7 @@ ghost use Rattle.stack_spec.specs.Meaning.{given_of, instance_of, meaning_of};
 use crate::StackWhy;
 use crate::instance::{GivenOption, GivenValue, Instance};
 use crate::options::value_at;
-use decoder_set::{Asked, Kind, OptRow, asked_of, input_of, number_of, options_of, output_of};
+use kind_table::{Asked, Kind, OptRow, asked_of, input_of, number_of, options_of, output_of};
 use la_base::{Wire, same_wire};
 
 // The most instances of a stack.

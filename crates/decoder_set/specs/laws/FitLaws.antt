@@ -15,17 +15,17 @@ use Rattle.dec_uart.specs.Ranges as uart
 use Rattle.dev_ds1307.specs.Opening as clock
 use Rattle.dev_eeprom24.specs.Opening as eeprom
 use Rattle.dev_lm75.specs.Opening as lm75
-use Rattle.decoder_set.specs.declared.kinds.Kind.{Kind}
-use Rattle.decoder_set.specs.declared.kinds.Kind.TheVariants.{Spi, Uart, OwLink, Eeprom24, Ds1307}
-use Rattle.decoder_set.specs.declared.kinds.Kind.TheVariants.{Lm75, Modbus}
-use Rattle.decoder_set.specs.Kinds.{Pin, Number, Choice, eeprom_pages, eeprom_sizes, kind_row}
-use Rattle.decoder_set.specs.Kinds.{parities, spi_modes}
+use Rattle.kind_table.specs.declared.kinds.Kind.{Kind}
+use Rattle.kind_table.specs.declared.kinds.Kind.TheVariants.{Spi, Uart, OwLink, Eeprom24, Ds1307}
+use Rattle.kind_table.specs.declared.kinds.Kind.TheVariants.{Lm75, Modbus}
+use Rattle.kind_table.specs.Kinds.{Pin, Number, Choice, eeprom_pages, eeprom_sizes, kind_row}
+use Rattle.kind_table.specs.Kinds.{parities, spi_modes}
 use Rattle.decoder_set.specs.Faults.{open_fault, too_slow}
 use Rattle.decoder_set.specs.Options.{clock_options, eeprom_options, link_options, lm75_options}
 use Rattle.decoder_set.specs.Options.{modbus_options, spi_options, uart_options}
-use Rattle.decoder_set.specs.Values.{given_at, in_range, maybe_channel_at}
-use Rattle.decoder_set.specs.laws.RangeLaws.{channel_within, maybe_channel_within}
-use Rattle.decoder_set.specs.laws.RangeLaws.{number_within, range_parts}
+use Rattle.kind_table.specs.Values.{given_at, in_range, maybe_channel_at}
+use Rattle.kind_table.specs.laws.RangeLaws.{channel_within, maybe_channel_within}
+use Rattle.kind_table.specs.laws.RangeLaws.{number_within, range_parts}
 
 -- where there is no fault, all options are in range and the rate is high enough
 pub no_fault : (bits : ℕ) (kind : Kind) (values : List (Option ℕ)) (rate : Rate)

@@ -49,11 +49,11 @@ use Rattle.dev_eeprom24.specs.Opening.{chip_by}
 use Rattle.dev_eeprom24.specs.laws.EepromLaws.{eeprom_nothing, eeprom_prefix, eeprom_order}
 use Rattle.dev_eeprom24.specs.laws.EepromLaws.{eeprom_few, eeprom_on_wire}
 use Rattle.la_base.specs.declared.wires.Wire.TheVariants as wire
-use Rattle.decoder_set.specs.Kinds.{kind_row}
-use Rattle.decoder_set.specs.declared.kinds.Kind.{Kind}
-use Rattle.decoder_set.specs.declared.kinds.Kind.TheVariants.{I2c, Spi, Uart, OwLink, OwNet}
-use Rattle.decoder_set.specs.declared.kinds.Kind.TheVariants.{Eeprom24, Ds1307, Lm75, Ds18b20}
-use Rattle.decoder_set.specs.declared.kinds.Kind.TheVariants.{Flash25, Modbus, Midi}
+use Rattle.kind_table.specs.Kinds.{kind_row}
+use Rattle.kind_table.specs.declared.kinds.Kind.{Kind}
+use Rattle.kind_table.specs.declared.kinds.Kind.TheVariants.{I2c, Spi, Uart, OwLink, OwNet}
+use Rattle.kind_table.specs.declared.kinds.Kind.TheVariants.{Eeprom24, Ds1307, Lm75, Ds18b20}
+use Rattle.kind_table.specs.declared.kinds.Kind.TheVariants.{Flash25, Modbus, Midi}
 use Rattle.decoder_set.specs.Faults.{IsOpened, open_fault}
 use Rattle.decoder_set.specs.Options.{clock_options, eeprom_options, i2c_options, link_options}
 use Rattle.decoder_set.specs.Options.{lm75_options, modbus_options, spi_options, uart_options}

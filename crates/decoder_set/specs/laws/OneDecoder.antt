@@ -28,8 +28,8 @@ use Rattle.la_base.specs.declared.wires.Wire.TheVariants as wire
 use Rattle.dev_ds1307.specs.declared.chip.Chip.{Chip as ClockChip}
 use Rattle.dev_lm75.specs.declared.chip.Chip.{Chip as Lm75Chip}
 use Rattle.dev_eeprom24.specs.declared.chip.Chip.{Chip}
-use Rattle.decoder_set.specs.declared.kinds.Kind.{Kind}
-use Rattle.decoder_set.specs.declared.kinds.Kind.TheVariants as kind
+use Rattle.kind_table.specs.declared.kinds.Kind.{Kind}
+use Rattle.kind_table.specs.declared.kinds.Kind.TheVariants as kind
 use Rattle.decoder_set.specs.declared.any.AnyDecoder.{AnyDecoder}
 use Rattle.decoder_set.specs.declared.any_machine.AnyMachine.{AnyMachine}
 use Rattle.decoder_set.specs.declared.setup.Setup.{Setup}

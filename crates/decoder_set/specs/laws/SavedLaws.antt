@@ -7,7 +7,7 @@ use Rattle.decoder_core.specs.laws.KeepLaws.{same_followed, same_saved}
 use Rattle.decoder_core.specs.declared.driver.Driver.{Driver}
 use Rattle.decoder_core.specs.declared.follower.Follower.{Follower}
 use Rattle.decoder_set.specs.declared.any.AnyDecoder.{AnyDecoder}
-use Rattle.decoder_set.specs.declared.kinds.Kind.{Kind}
+use Rattle.kind_table.specs.declared.kinds.Kind.{Kind}
 use Rattle.decoder_set.specs.Views.{Inner, Parts, inner, kind_in}
 use Rattle.decoder_set.specs.Opening.{HasConsumed, setup_of}
 use Rattle.decoder_set.specs.Saving.{SavedBy, Savers}

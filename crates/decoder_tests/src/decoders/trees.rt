@@ -1,8 +1,9 @@
 // A bus with two EEPROMs, as a tree: what each instance gives is what it gives alone.
 use crate::stages::bus::{Marks, Samples, opened};
 use decoder_core::{Machine, Outs, RunEnd};
-use decoder_set::{AnyDecoder, Kind};
+use decoder_set::AnyDecoder;
 use dev_eeprom24::Chip;
+use kind_table::Kind;
 use la_base::{Feed, Mark, Out, Packet, Run};
 use plain_devices::eeprom_outputs_of;
 use stack_direct::run_direct;

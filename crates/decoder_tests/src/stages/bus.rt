@@ -1,7 +1,8 @@
 // A bus with two EEPROMs: its samples, and what takes the marks of its decoders.
 ghost use Rattle.std.specs.Prelude.{◌≡◌, ◌≤◌, ◌^◌, []};
 
-use decoder_set::{AnyDecoder, Kind, MOST_OPTIONS, OptValues};
+use decoder_set::AnyDecoder;
+use kind_table::{Kind, MOST_OPTIONS, OptValues};
 use la_base::{Mark, Rate, Run, Word};
 use la_io::{MarkTake, RunFeed, Stopped};
 use std::alloc::{AllocError, Global};

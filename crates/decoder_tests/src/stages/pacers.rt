@@ -3,7 +3,7 @@ ghost use Rattle.std.specs.Prelude.{◌≡◌};
 
 use crate::stages::bus::{Marks, Samples, opened};
 use decoder_core::RunEnd;
-use decoder_set::Kind;
+use kind_table::Kind;
 use stack_threads::{InThreads, run_stages};
 use stage_crew::Pacer;
 use std::sync::atomic::{AtomicBool, AtomicU64, Ordering};

@@ -4,7 +4,7 @@ ghost use Rattle.std.specs.Prelude.{◌≡◌, ◌≤◌, ◌^◌};
 
 use crate::stages::bus::{Samples, opened};
 use decoder_core::RunEnd;
-use decoder_set::Kind;
+use kind_table::Kind;
 use la_base::{Mark, Run};
 use la_io::{MarkTake, RunFeed, Stopped};
 use stack_direct::run_direct;

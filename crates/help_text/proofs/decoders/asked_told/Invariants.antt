@@ -1,6 +1,6 @@
 use Rattle.std.proofs.Common.{◌≡◌, map, take}
 use Rattle.std.specs.String.{string_bytes}
-use Rattle.decoder_set.specs.Kinds.{opt_row}
+use Rattle.kind_table.specs.Kinds.{opt_row}
 use Rattle.help_text.specs.Decoders.{asked_told}
 use Rattle.help_text.proofs.decoders.asked_told.Given as goal
 

@@ -1,5 +1,5 @@
 use Rattle.std.proofs.Common.{◌≡◌, map, take}
-use Rattle.decoder_set.specs.Kinds.{opt_row}
+use Rattle.kind_table.specs.Kinds.{opt_row}
 use Rattle.help_text.specs.Decoders.{name_at}
 use Rattle.help_text.proofs.decoders.group_names.Given as goal
 

@@ -1,7 +1,7 @@
 use Rattle.std.proofs.Common.{◌≡◌, map, take}
 use Rattle.std.specs.List.{flat_map}
 use Rattle.std.specs.String.{string_bytes}
-use Rattle.decoder_set.specs.Kinds.{opt_row}
+use Rattle.kind_table.specs.Kinds.{opt_row}
 use Rattle.help_text.specs.Decoders.{group_told}
 use Rattle.help_text.proofs.decoders.groups_told.Given as goal
 

@@ -3,7 +3,7 @@ use Rattle.std.proofs.lemmas.List.{append-nil}
 use Rattle.std.proofs.lemmas.List.Folds.{flat_map-map}
 use Rattle.std.specs.List.{concat, flat_map}
 use Rattle.std.specs.String.{string_bytes}
-use Rattle.decoder_set.specs.Kinds.{OptionRow, kind_row, opt_row}
+use Rattle.kind_table.specs.Kinds.{OptionRow, kind_row, opt_row}
 use Rattle.help_text.specs.Decoders.{classes_told, group_told, kind_line, options_told}
 use Rattle.help_text.specs.Meanings.{meanings_of}
 use Rattle.help_text.proofs.decoders.kind_text.Goals as goal

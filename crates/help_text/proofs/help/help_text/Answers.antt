@@ -1,7 +1,7 @@
 use Rattle.std.proofs.Common.{◌≡◌, ◌++◌, ◌∙◌, List, ℕ, take, ap, subst, sym, arith, append_assoc}
 use Rattle.std.specs.String.{string_bytes}
-use Rattle.decoder_set.specs.declared.kinds.Kind.TheVariants.{I2c}
-use Rattle.decoder_set.specs.declared.table.TheConstants.{KINDS}
+use Rattle.kind_table.specs.declared.kinds.Kind.TheVariants.{I2c}
+use Rattle.kind_table.specs.declared.table.TheConstants.{KINDS}
 use Rattle.words.specs.declared.options.Name.TheVariants.{Job}
 use Rattle.words.specs.declared.options.TheConstants.{OPTIONS}
 use Rattle.help_text.specs.declared.help.TheConstants.{CLOSING, DECODERS, USAGE}

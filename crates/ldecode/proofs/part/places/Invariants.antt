@@ -1,7 +1,7 @@
 use Rattle.std.proofs.Common.{◌≡◌, map, take}
 use Rattle.stack_spec.specs.Instances.{Instance}
 use Rattle.stack_spec.specs.Stacks.{instances_in}
-use Rattle.decoder_set.specs.Kinds.{place_of}
+use Rattle.kind_table.specs.Kinds.{place_of}
 use Rattle.ldecode.proofs.part.places.Given as goal
 
 abbrev pub invariant-loop-instance : goal.invariant-loop-instance

@@ -1,7 +1,7 @@
 use Rattle.std.proofs.Common.{◌≡◌, ℕ, List, ◌++◌, ◌∙◌, ap, append_assoc}
 use Rattle.std.specs.Prelude.{codes}
 use Rattle.std.specs.Fmt.{decimal}
-use Rattle.decoder_set.specs.Kinds.{kind_row}
+use Rattle.kind_table.specs.Kinds.{kind_row}
 use Rattle.listing_out.proofs.summaries.push_tally.Goals as goal
 
 -- six parts behind a line, one after another

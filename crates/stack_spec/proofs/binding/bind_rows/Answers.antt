@@ -1,7 +1,7 @@
 use Rattle.std.proofs.Common.{◌≡◌, ◌<◌, ◌∙◌, List, Option, length, map, sym, ap, subst, arith}
 use Rattle.std.proofs.lemmas.List.{length-map}
 use Rattle.la_base.specs.declared.samples.TheConstants.{MOST_PINS}
-use Rattle.decoder_set.specs.Kinds.{kind_row, opt_row}
+use Rattle.kind_table.specs.Kinds.{kind_row, opt_row}
 use Rattle.stack_spec.specs.Binding.{bind_value}
 use Rattle.stack_spec.specs.BindSteps.{BindsRow}
 use Rattle.stack_spec.specs.Instances.{Value, given_at}

@@ -1,6 +1,6 @@
 use Rattle.std.proofs.Common.{◌∙◌, sym}
 use Rattle.std.specs.Str.{bytes_eq}
-use Rattle.decoder_set.proofs.ListLemmas.{position-map}
+use Rattle.kind_table.proofs.ListLemmas.{position-map}
 use Rattle.stack_spec.specs.Instances.{name_of}
 use Rattle.stack_spec.specs.Meaning.{instance_of}
 use Rattle.stack_spec.proofs.naming.place_named.Goals as goal

@@ -1,8 +1,8 @@
 use Rattle.std.proofs.Common.{◌∙◌, ◌&&◌, ◌||◌, Bool, ℕ, not, sym, ap, map, is_some}
 use Rattle.std.specs.List.{list_any}
 use Rattle.std.proofs.lemmas.List.Folds.{list_all-map}
-use Rattle.decoder_set.specs.Kinds.{opt_row}
-use Rattle.decoder_set.specs.Values.{has_groups}
+use Rattle.kind_table.specs.Kinds.{opt_row}
+use Rattle.kind_table.specs.Values.{has_groups}
 use Rattle.stack_spec.specs.Instances.{given_at}
 use Rattle.stack_spec.specs.Meaning.{given_of}
 use Rattle.stack_spec.specs.Options.{needs}

@@ -4,7 +4,7 @@ use Rattle.std.proofs.lemmas.List.{length_push}
 use Rattle.std.proofs.lemmas.Iterator.Splits.{YieldsList-from_str_split}
 use Rattle.std.proofs.lemmas.Iterator.Consumers.{YieldsList-turn, YieldsList-end}
 use Rattle.text_parts.proofs.ReadLemmas.{read_more, read_stops, read_ends, width_split, width_more, map-push}
-use Rattle.decoder_set.specs.Kinds.{opt_row}
+use Rattle.kind_table.specs.Kinds.{opt_row}
 use Rattle.stack_spec.specs.Meaning.{given_of, stack_fault_in}
 use Rattle.std.specs.Option.{IfSome}
 use Rattle.std.proofs.lemmas.Option.{IfSome_then}

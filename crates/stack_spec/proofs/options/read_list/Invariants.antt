@@ -2,7 +2,7 @@ use Rattle.std.proofs.Common.{◌≡◌, ◌+◌, length, drop, map}
 use Rattle.std.specs.List.{slice_split}
 use Rattle.text_parts.specs.Reading.{read_parts}
 use Rattle.text_parts.specs.Places.{placed_from, width}
-use Rattle.decoder_set.specs.Kinds.{opt_row}
+use Rattle.kind_table.specs.Kinds.{opt_row}
 use Rattle.stack_spec.specs.Meaning.{given_of}
 use Rattle.stack_spec.specs.Options.{is_colon, option_at, option_list}
 use Rattle.stack_spec.proofs.options.read_list.Given as goal

@@ -1,6 +1,6 @@
 use Rattle.std.proofs.Common.{◌≡◌, Option, Err, map, sym, subst}
 use Rattle.std.specs.Option.{IfSome}
-use Rattle.decoder_set.specs.Kinds.{opt_row}
+use Rattle.kind_table.specs.Kinds.{opt_row}
 use Rattle.stack_spec.specs.Meaning.{given_of, why_in}
 use Rattle.stack_spec.specs.Options.{option_at, option_of}
 use Rattle.stack_spec.specs.declared.faults.StackFault.{StackFault}

@@ -1,7 +1,7 @@
 use Rattle.std.proofs.Common.{◌∙◌, sym, ap, List, ℕ}
 use Rattle.std.specs.List.{position}
 use Rattle.std.specs.Str.{bytes_eq}
-use Rattle.decoder_set.proofs.ListLemmas.{position-map}
+use Rattle.kind_table.proofs.ListLemmas.{position-map}
 use Rattle.stack_spec.specs.Options.{chosen}
 use Rattle.stack_spec.proofs.options.read_word.Goals as goal
 

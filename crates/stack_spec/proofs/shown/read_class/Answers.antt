@@ -2,7 +2,7 @@ use Rattle.std.proofs.Common.{◌≡◌, ◌∙◌, ℕ, List, map, Option, Some
 use Rattle.std.specs.Prelude.{IfSome}
 use Rattle.std.specs.List.{before_first, after_first}
 use Rattle.text_parts.specs.Reading.{then_read}
-use Rattle.decoder_set.specs.Kinds.{Text}
+use Rattle.kind_table.specs.Kinds.{Text}
 use Rattle.stack_spec.specs.declared.faults.StackFault.{StackFault}
 use Rattle.stack_spec.specs.declared.faults.StackWhy.TheVariants.{Unknown}
 use Rattle.stack_spec.specs.Accepting.{class_at, class_in, class_of_name, class_place, known}

@@ -5,10 +5,10 @@ use Rattle.std.proofs.Common.{subst, arith}
 use Rattle.std.specs.Prelude.{nat_le, nat_lt, option_and_then, unwrap_or, IfSome}
 use Rattle.std.specs.List.{list_all, zip}
 use Rattle.std.proofs.lemmas.Bool.Decides.{nat_tests}
-use Rattle.decoder_set.specs.Kinds.{Form, OptionRow, Row, Pin, Number, Choice}
-use Rattle.decoder_set.specs.Values.{channel_at, given_at, has_groups, maybe_channel_at, number_at}
-use Rattle.decoder_set.specs.Values.{number_by, number_of, row_in_range, takes}
-use Rattle.decoder_set.specs.Whole.{NumberFits, usual_fits}
+use Rattle.kind_table.specs.Kinds.{Form, OptionRow, Row, Pin, Number, Choice}
+use Rattle.kind_table.specs.Values.{channel_at, given_at, has_groups, maybe_channel_at, number_at}
+use Rattle.kind_table.specs.Values.{number_by, number_of, row_in_range, takes}
+use Rattle.kind_table.specs.Whole.{NumberFits, usual_fits}
 
 pub both : (a b : Bool) → (a && b) ≡ true → (a ≡ true) × (b ≡ true)
 both true true e = (refl, refl)

@@ -1,5 +1,5 @@
-use Rattle.decoder_set.specs.laws.RangeLaws.{channel_within, maybe_channel_within, number_within}
-use Rattle.decoder_set.proofs.laws.values_in_range_fit.Goals as goal
+use Rattle.kind_table.specs.laws.RangeLaws.{channel_within, maybe_channel_within, number_within}
+use Rattle.kind_table.proofs.laws.values_in_range_fit.Goals as goal
 
 pub returns-clause-number : goal.returns-clause-number
 returns-clause-number c = number_within

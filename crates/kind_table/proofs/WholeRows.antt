@@ -1,9 +1,9 @@
 -- The rows of the table.
 use Rattle.std.proofs.Common.{refl, arith}
-use Rattle.decoder_set.specs.Kinds.{kind_row}
-use Rattle.decoder_set.specs.Whole.{IsWhole}
-use Rattle.decoder_set.specs.declared.kinds.Kind.{Kind}
-use Rattle.decoder_set.specs.declared.kinds.Kind.TheVariants.{I2c, Spi, Uart, OwLink, OwNet, Eeprom24, Ds1307, Lm75, Ds18b20, Flash25, Modbus, Midi}
+use Rattle.kind_table.specs.Kinds.{kind_row}
+use Rattle.kind_table.specs.Whole.{IsWhole}
+use Rattle.kind_table.specs.declared.kinds.Kind.{Kind}
+use Rattle.kind_table.specs.declared.kinds.Kind.TheVariants.{I2c, Spi, Uart, OwLink, OwNet, Eeprom24, Ds1307, Lm75, Ds18b20, Flash25, Modbus, Midi}
 
 pub kind_whole : (kind : Kind) → IsWhole (kind_row kind)
 kind_whole I2c = record { few = omega arith; usual = refl; groups = refl }

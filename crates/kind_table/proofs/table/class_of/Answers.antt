@@ -1,9 +1,9 @@
 use Rattle.std.proofs.Common.{◌∙◌, sym, ap}
 use Rattle.std.specs.List.{position}
 use Rattle.std.specs.Str.{bytes_eq}
-use Rattle.decoder_set.specs.Kinds.{Row}
-use Rattle.decoder_set.proofs.ListLemmas.{position-map}
-use Rattle.decoder_set.proofs.table.class_of.Goals as goal
+use Rattle.kind_table.specs.Kinds.{Row}
+use Rattle.kind_table.proofs.ListLemmas.{position-map}
+use Rattle.kind_table.proofs.table.class_of.Goals as goal
 
 pub returns-in-Some : goal.returns-in-Some
 returns-in-Some c =

@@ -4,15 +4,15 @@ use Rattle.std.specs.List.{find, position}
 use Rattle.std.specs.Str.{bytes_eq}
 use Rattle.la_base.specs.declared.wires.Wire.{Wire}
 use Rattle.la_base.specs.declared.wires.Wire.TheVariants as wire
-use Rattle.decoder_set.specs.declared.kinds.Asked.{Asked}
-use Rattle.decoder_set.specs.declared.kinds.Kind.{Kind}
-use Rattle.decoder_set.specs.declared.kinds.Kind.TheVariants.{I2c, Spi, Uart, OwLink, OwNet}
-use Rattle.decoder_set.specs.declared.kinds.Kind.TheVariants.{Eeprom24, Ds1307, Lm75, Ds18b20}
-use Rattle.decoder_set.specs.declared.kinds.Kind.TheVariants.{Flash25, Modbus, Midi}
-use Rattle.decoder_set.specs.declared.kinds.OptForm.{OptForm}
-use Rattle.decoder_set.specs.declared.kinds.OptForm.TheVariants as form
-use Rattle.decoder_set.specs.declared.kinds.OptRow.{OptRow}
-use Rattle.decoder_set.specs.declared.kinds.KindRow.{KindRow}
+use Rattle.kind_table.specs.declared.kinds.Asked.{Asked}
+use Rattle.kind_table.specs.declared.kinds.Kind.{Kind}
+use Rattle.kind_table.specs.declared.kinds.Kind.TheVariants.{I2c, Spi, Uart, OwLink, OwNet}
+use Rattle.kind_table.specs.declared.kinds.Kind.TheVariants.{Eeprom24, Ds1307, Lm75, Ds18b20}
+use Rattle.kind_table.specs.declared.kinds.Kind.TheVariants.{Flash25, Modbus, Midi}
+use Rattle.kind_table.specs.declared.kinds.OptForm.{OptForm}
+use Rattle.kind_table.specs.declared.kinds.OptForm.TheVariants as form
+use Rattle.kind_table.specs.declared.kinds.OptRow.{OptRow}
+use Rattle.kind_table.specs.declared.kinds.KindRow.{KindRow}
 
 -- a text, by its bytes
 abbrev pub Text : Type 0

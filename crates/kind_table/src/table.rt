@@ -2,8 +2,8 @@
 ghost use Rattle.std.specs.Prelude.{◌≡◌, ◌≤◌, ◌<◌, length, map, IfSome};
 ghost use Rattle.std.specs.List.{position};
 ghost use Rattle.std.specs.Str.{bytes_eq};
-ghost use Rattle.decoder_set.specs.Kinds.{kind_row, row_of, opt_row, kind_of, class_of};
-ghost use Rattle.decoder_set.specs.Kinds.{place_of};
+ghost use Rattle.kind_table.specs.Kinds.{kind_row, row_of, opt_row, kind_of, class_of};
+ghost use Rattle.kind_table.specs.Kinds.{place_of};
 
 use crate::kinds::{Asked, Kind, KindRow, OptForm, OptRow};
 use la_base::Wire;

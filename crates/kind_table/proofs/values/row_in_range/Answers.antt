@@ -3,10 +3,10 @@ use Rattle.std.specs.Prelude.{is_some}
 use Rattle.std.specs.List.{list_any}
 use Rattle.std.proofs.lemmas.List.Folds.{list_all-map}
 use Rattle.la_base.specs.declared.samples.TheConstants.{MOST_PINS}
-use Rattle.decoder_set.specs.Kinds.{opt_row}
-use Rattle.decoder_set.specs.Values.{given_at, has_groups, takes}
-use Rattle.decoder_set.proofs.ListLemmas.{list_all-zip_map}
-use Rattle.decoder_set.proofs.values.row_in_range.Goals as goal
+use Rattle.kind_table.specs.Kinds.{opt_row}
+use Rattle.kind_table.specs.Values.{given_at, has_groups, takes}
+use Rattle.kind_table.proofs.ListLemmas.{list_all-zip_map}
+use Rattle.kind_table.proofs.values.row_in_range.Goals as goal
 
 pub returns-then-all_take : goal.returns-then-all_take
 returns-then-all_take c =

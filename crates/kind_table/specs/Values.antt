@@ -3,8 +3,8 @@
 use Rattle.std.specs.Prelude.{ℕ, Bool, true, not, ◌&&◌, nat_lt, nat_le, List, length, Option, Some}
 use Rattle.std.specs.Prelude.{None, is_some, option_and_then, unwrap_or, slice_get, zip}
 use Rattle.std.specs.List.{list_all, list_any}
-use Rattle.decoder_set.specs.declared.kinds.Kind.{Kind}
-use Rattle.decoder_set.specs.Kinds.{Form, OptionRow, Row, Pin, Number, Choice, kind_row}
+use Rattle.kind_table.specs.declared.kinds.Kind.{Kind}
+use Rattle.kind_table.specs.Kinds.{Form, OptionRow, Row, Pin, Number, Choice, kind_row}
 
 -- what is given at a place, if anything
 abbrev pub given_at : List (Option ℕ) → ℕ → Option ℕ

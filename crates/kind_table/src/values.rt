@@ -2,15 +2,25 @@
 ghost use Rattle.std.specs.Prelude.{◌≡◌, ◌<◌, IfSome, is_some, map};
 ghost use Rattle.std.specs.List.{list_all, list_any, zip};
 ghost use Rattle.la_base.specs.declared.samples.TheConstants.{MOST_PINS};
-ghost use Rattle.decoder_set.specs.Kinds.{form_of, opt_row, row_of};
-ghost use Rattle.decoder_set.specs.Values.{channel_at, given_at, has_groups, in_range};
-ghost use Rattle.decoder_set.specs.Values.{maybe_channel_at, number_at, number_of, row_in_range};
-ghost use Rattle.decoder_set.specs.Values.{takes};
+ghost use Rattle.kind_table.specs.Kinds.{form_of, opt_row, row_of};
+ghost use Rattle.kind_table.specs.Values.{channel_at, given_at, has_groups, in_range};
+ghost use Rattle.kind_table.specs.Values.{maybe_channel_at, number_at, number_of, row_in_range};
+ghost use Rattle.kind_table.specs.Values.{takes};
 
 use crate::kinds::{Kind, KindRow, OptForm, OptRow};
-use crate::setup::OptValues;
 use crate::table::row;
 use la_base::MOST_PINS;
+
+/// The most options that a kind has.
+pub const MOST_OPTIONS: usize = 8;
+
+/// The values of a kind's options: place k is that of row k of its options. A channel is given by
+/// its bit in a sample, a number as itself, a word by its place among the words of its choice. None
+/// is the usual value; a channel that isn't required has none then.
+#[derive(Clone, Copy, PartialEq, Eq)]
+pub struct OptValues {
+    pub given: [Option<u64>; MOST_OPTIONS],
+}
 
 /// The number that an option has: the one that is given, else its usual one. That of a choice is 0,
 /// its first word.

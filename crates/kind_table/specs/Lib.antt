@@ -1,0 +1,4 @@
+pub mod Kinds
+pub mod Values
+pub mod Whole
+pub mod laws
