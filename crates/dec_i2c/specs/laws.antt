@@ -7,5 +7,4 @@ pub mod MetLaws
 pub mod GivenLaws
 pub mod SoundLaws
 pub mod I2cLaws
-pub mod WireLaws
 pub mod MachineLaws

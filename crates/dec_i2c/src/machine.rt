@@ -6,9 +6,7 @@ ghost use Rattle.sample_walks.specs.laws.EventDecoders.{quiet_of};
 ghost use Rattle.dec_i2c.specs.Bus.{i2c_outs, i2c_near};
 ghost use Rattle.dec_i2c.specs.Opening.{StandsFor, Opens};
 ghost use Rattle.dec_i2c.specs.laws.Machine.{mark_alt, clock_alt, i2c_alts, near_by};
-ghost use Rattle.dec_i2c.specs.laws.I2cLaws.{i2c_decoder, i2c_nothing, i2c_prefix, i2c_order};
-ghost use Rattle.dec_i2c.specs.laws.I2cLaws.{i2c_few};
-ghost use Rattle.dec_i2c.specs.laws.WireLaws.{i2c_on_wire};
+ghost use Rattle.dec_i2c.specs.laws.I2cLaws.{i2c_decoder, i2c_promises};
 ghost use Rattle.dec_i2c.specs.laws.MachineLaws.{one_i2c, i2c_one_stop};
 
 use crate::outputs::give;
@@ -142,15 +140,15 @@ impl LogicMachine for I2c {
         quiet_of (i2c_decoder machine.bus.scl machine.bus.sda) machine.held seen more stands
         rests };
 
-    ghost nothing = { λ machine. i2c_nothing machine.bus.scl machine.bus.sda };
+    ghost nothing = { λ machine. (i2c_promises machine.bus.scl machine.bus.sda).nothing };
 
-    ghost prefix = { λ machine. i2c_prefix machine.bus.scl machine.bus.sda };
+    ghost prefix = { λ machine. (i2c_promises machine.bus.scl machine.bus.sda).prefix };
 
-    ghost order = { λ machine. i2c_order machine.bus.scl machine.bus.sda };
+    ghost order = { λ machine. (i2c_promises machine.bus.scl machine.bus.sda).order };
 
-    ghost few = { λ machine. i2c_few machine.bus.scl machine.bus.sda };
+    ghost few = { λ machine. (i2c_promises machine.bus.scl machine.bus.sda).few };
 
-    ghost on_wire = { λ machine. i2c_on_wire machine.bus.scl machine.bus.sda };
+    ghost on_wire = { λ machine. (i2c_promises machine.bus.scl machine.bus.sda).on_wire };
 
     ghost one_machine = { λ one other list same stands also.
         one_i2c one other list same stands also };

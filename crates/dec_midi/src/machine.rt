@@ -7,8 +7,7 @@ ghost use Rattle.dec_midi.specs.Opening.{Opens, StandsFor};
 ghost use Rattle.dec_midi.specs.laws.Steps.{by_two, data_gives, data_next, first_gives};
 ghost use Rattle.dec_midi.specs.laws.Steps.{first_next, gives, near_by, next, opened};
 ghost use Rattle.dec_midi.specs.laws.Steps.{sort_gives, sort_next, status_gives};
-ghost use Rattle.dec_midi.specs.laws.MidiLaws.{midi_few, midi_nothing, midi_on_wire, midi_order};
-ghost use Rattle.dec_midi.specs.laws.MidiLaws.{midi_prefix, one_midi};
+ghost use Rattle.dec_midi.specs.laws.MidiLaws.{midi_promises, one_midi};
 
 use crate::bytes::{as_byte, is_byte, sort_of};
 use crate::status::{behind, by_two, give_message, takes};
@@ -221,15 +220,15 @@ impl PacketMachine for Midi {
         near(self.held, from)
     }
 
-    ghost nothing = { λ _. midi_nothing };
+    ghost nothing = { λ _. midi_promises.nothing };
 
-    ghost prefix = { λ _. midi_prefix };
+    ghost prefix = { λ _. midi_promises.prefix };
 
-    ghost order = { λ _. midi_order };
+    ghost order = { λ _. midi_promises.order };
 
-    ghost few = { λ _. midi_few };
+    ghost few = { λ _. midi_promises.few };
 
-    ghost on_wire = { λ _. midi_on_wire };
+    ghost on_wire = { λ _. midi_promises.on_wire };
 
     ghost one_machine = { λ one other packets same stands also.
         one_midi one other packets stands also };

@@ -5,8 +5,7 @@ ghost use Rattle.la_base.specs.declared.wires.Wire.TheVariants.{Uart as UartWire
 ghost use Rattle.dec_modbus.specs.Modbus.{gap_of, modbus_near, modbus_outs};
 ghost use Rattle.dec_modbus.specs.Opening.{StandsFor};
 ghost use Rattle.dec_modbus.specs.laws.Machine.{begin_next, gives, next, near_by};
-ghost use Rattle.dec_modbus.specs.laws.ModbusLaws.{modbus_few, modbus_nothing, modbus_on_wire};
-ghost use Rattle.dec_modbus.specs.laws.ModbusLaws.{modbus_order, modbus_prefix, one_modbus};
+ghost use Rattle.dec_modbus.specs.laws.ModbusLaws.{modbus_promises, one_modbus};
 
 use crate::message::{begun, follows, give_byte, is_frame, longer, note_of};
 use crate::{Held, Line, Modbus};
@@ -93,16 +92,18 @@ impl PacketMachine for Modbus {
     }
 
     ghost nothing = { λ machine.
-        modbus_nothing (gap_of machine.line.opts machine.line.rate) };
+        (modbus_promises (gap_of machine.line.opts machine.line.rate)).nothing };
 
-    ghost prefix = { λ machine. modbus_prefix (gap_of machine.line.opts machine.line.rate) };
+    ghost prefix = { λ machine.
+        (modbus_promises (gap_of machine.line.opts machine.line.rate)).prefix };
 
-    ghost order = { λ machine. modbus_order (gap_of machine.line.opts machine.line.rate) };
+    ghost order = { λ machine.
+        (modbus_promises (gap_of machine.line.opts machine.line.rate)).order };
 
-    ghost few = { λ machine. modbus_few (gap_of machine.line.opts machine.line.rate) };
+    ghost few = { λ machine. (modbus_promises (gap_of machine.line.opts machine.line.rate)).few };
 
     ghost on_wire = { λ machine.
-        modbus_on_wire (gap_of machine.line.opts machine.line.rate) };
+        (modbus_promises (gap_of machine.line.opts machine.line.rate)).on_wire };
 
     ghost one_machine = { λ one other packets same stands also.
         one_modbus one other packets same stands also };

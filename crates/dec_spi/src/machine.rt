@@ -4,8 +4,7 @@ ghost use Rattle.la_base.specs.declared.wires.Wire.TheVariants.{Spi as SpiWire};
 ghost use Rattle.sample_walks.specs.laws.EventDecoders.{quiet_of};
 ghost use Rattle.dec_spi.specs.Bus.{spi_outs, spi_near};
 ghost use Rattle.dec_spi.specs.Opening.{opts_of, alts_of, StandsFor};
-ghost use Rattle.dec_spi.specs.laws.SpiLaws.{spi_decoder, spi_nothing, spi_prefix, spi_order};
-ghost use Rattle.dec_spi.specs.laws.SpiLaws.{spi_few, spi_on_wire};
+ghost use Rattle.dec_spi.specs.laws.SpiLaws.{spi_decoder, spi_promises};
 ghost use Rattle.dec_spi.specs.laws.MachineLaws.{one_spi, spi_one_stop};
 
 use crate::alternatives::{first_select, next_event};
@@ -75,18 +74,19 @@ impl LogicMachine for Spi {
         machine.held seen more stands rests };
 
     ghost nothing = { λ machine.
-        spi_nothing machine.bus.opts machine.bus.bits_some machine.bus.bits_few };
+        (spi_promises machine.bus.opts machine.bus.bits_some machine.bus.bits_few).nothing };
 
     ghost prefix = { λ machine.
-        spi_prefix machine.bus.opts machine.bus.bits_some machine.bus.bits_few };
+        (spi_promises machine.bus.opts machine.bus.bits_some machine.bus.bits_few).prefix };
 
     ghost order = { λ machine.
-        spi_order machine.bus.opts machine.bus.bits_some machine.bus.bits_few };
+        (spi_promises machine.bus.opts machine.bus.bits_some machine.bus.bits_few).order };
 
-    ghost few = { λ machine. spi_few machine.bus.opts machine.bus.bits_some machine.bus.bits_few };
+    ghost few = { λ machine.
+        (spi_promises machine.bus.opts machine.bus.bits_some machine.bus.bits_few).few };
 
     ghost on_wire = { λ machine.
-        spi_on_wire machine.bus.opts machine.bus.bits_some machine.bus.bits_few };
+        (spi_promises machine.bus.opts machine.bus.bits_some machine.bus.bits_few).on_wire };
 
     ghost one_machine = { λ one other list same stands also.
         one_spi one other list same stands also };

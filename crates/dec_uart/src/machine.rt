@@ -3,10 +3,9 @@ ghost use Rattle.std.specs.Prelude.{◌≡◌, ◌≢◌, ◌<◌, ◌^◌, ◌�
 ghost use Rattle.la_base.specs.declared.wires.Wire.TheVariants.{Uart as UartWire};
 ghost use Rattle.dec_uart.specs.Frames.{uart_outs, uart_near};
 ghost use Rattle.dec_uart.specs.Opening.{StandsFor, alts_of};
-ghost use Rattle.dec_uart.specs.laws.LineLaws.{uart_on_wire};
 ghost use Rattle.dec_uart.specs.laws.Machine.{held_alt, held_near, held_time};
-ghost use Rattle.dec_uart.specs.laws.MachineLaws.{uart_quiet, uart_nothing, uart_prefix};
-ghost use Rattle.dec_uart.specs.laws.MachineLaws.{uart_order, uart_few, one_uart, uart_one_stop};
+ghost use Rattle.dec_uart.specs.laws.MachineLaws.{one_uart, uart_one_stop, uart_promises};
+ghost use Rattle.dec_uart.specs.laws.MachineLaws.{uart_quiet};
 
 use crate::outputs::give;
 use crate::steps::{step, takes_point};
@@ -144,18 +143,19 @@ impl LogicMachine for Uart {
     ghost quiet = { λ machine seen more stands rests. uart_quiet machine seen more stands rests };
 
     ghost nothing = { λ machine.
-        uart_nothing machine.line.opts machine.line.rate machine.line.in_range machine.line.fast };
+        (uart_promises machine.line.opts machine.line.rate machine.line.in_range machine.line.fast).nothing };
 
     ghost prefix = { λ machine.
-        uart_prefix machine.line.opts machine.line.rate machine.line.in_range machine.line.fast };
+        (uart_promises machine.line.opts machine.line.rate machine.line.in_range machine.line.fast).prefix };
 
     ghost order = { λ machine.
-        uart_order machine.line.opts machine.line.rate machine.line.in_range machine.line.fast };
+        (uart_promises machine.line.opts machine.line.rate machine.line.in_range machine.line.fast).order };
 
     ghost few = { λ machine.
-        uart_few machine.line.opts machine.line.rate machine.line.in_range machine.line.fast };
+        (uart_promises machine.line.opts machine.line.rate machine.line.in_range machine.line.fast).few };
 
-    ghost on_wire = { λ machine. uart_on_wire machine.line.opts machine.line.rate };
+    ghost on_wire = { λ machine.
+        (uart_promises machine.line.opts machine.line.rate machine.line.in_range machine.line.fast).on_wire };
 
     ghost one_machine = { λ one other list same stands also.
         one_uart one other list same stands also };

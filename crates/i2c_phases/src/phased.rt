@@ -4,8 +4,7 @@ ghost use Rattle.la_base.specs.declared.wires.Wire.TheVariants.{I2c, Nothing as 
 ghost use Rattle.i2c_phases.specs.Phases.{phase_near};
 ghost use Rattle.i2c_phases.specs.laws.OneLaw.{one_phased};
 ghost use Rattle.i2c_phases.specs.Devices.{Happens, StandsFor, near_by, phased};
-ghost use Rattle.i2c_phases.specs.laws.DeviceLaws.{phased_nothing, phased_prefix, phased_order};
-ghost use Rattle.i2c_phases.specs.laws.DeviceLaws.{phased_few, phased_on};
+ghost use Rattle.i2c_phases.specs.laws.DeviceLaws.{phased_promises};
 
 use crate::tracker::no_phase;
 use crate::{Event, I2cDevice, Track};
@@ -94,20 +93,25 @@ impl<D: I2cDevice> PacketMachine for Phased<D> {
         near(self.kept, from)
     }
 
-    ghost nothing = { λ m. phased_nothing (D.step (D.setup m.device)) (D.by_byte m.device)
-        (D.bus_address (D.setup m.device)) (D.takes_reset (D.setup m.device)) };
+    ghost nothing = { λ m. (phased_promises (D.step (D.setup m.device)) (D.no_packets m.device)
+        (D.bus_address (D.setup m.device)) (D.takes_reset (D.setup m.device))
+        (D.by_byte m.device)).nothing };
 
-    ghost prefix = { λ m. phased_prefix (D.step (D.setup m.device)) (D.by_byte m.device)
-        (D.bus_address (D.setup m.device)) (D.takes_reset (D.setup m.device)) };
+    ghost prefix = { λ m. (phased_promises (D.step (D.setup m.device)) (D.no_packets m.device)
+        (D.bus_address (D.setup m.device)) (D.takes_reset (D.setup m.device))
+        (D.by_byte m.device)).prefix };
 
-    ghost order = { λ m. phased_order (D.step (D.setup m.device)) (D.no_packets m.device)
-        (D.bus_address (D.setup m.device)) (D.takes_reset (D.setup m.device)) };
+    ghost order = { λ m. (phased_promises (D.step (D.setup m.device)) (D.no_packets m.device)
+        (D.bus_address (D.setup m.device)) (D.takes_reset (D.setup m.device))
+        (D.by_byte m.device)).order };
 
-    ghost few = { λ m. phased_few (D.step (D.setup m.device)) (D.by_byte m.device)
-        (D.bus_address (D.setup m.device)) (D.takes_reset (D.setup m.device)) };
+    ghost few = { λ m. (phased_promises (D.step (D.setup m.device)) (D.no_packets m.device)
+        (D.bus_address (D.setup m.device)) (D.takes_reset (D.setup m.device))
+        (D.by_byte m.device)).few };
 
-    ghost on_wire = { λ m. phased_on (D.step (D.setup m.device)) (D.no_packets m.device)
-        (D.bus_address (D.setup m.device)) (D.takes_reset (D.setup m.device)) };
+    ghost on_wire = { λ m. (phased_promises (D.step (D.setup m.device)) (D.no_packets m.device)
+        (D.bus_address (D.setup m.device)) (D.takes_reset (D.setup m.device))
+        (D.by_byte m.device)).on_wire };
 
     ghost one_machine = { one_phased D.setup D.bus_address D.takes_reset D.knows D.one_device };
 }

@@ -1,4 +1,5 @@
 pub mod Walks
+pub mod Outputs
 pub mod Promises
 pub mod Transactions
 pub mod laws

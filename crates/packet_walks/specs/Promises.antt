@@ -3,18 +3,14 @@ use Rattle.std.specs.Prelude.{ℕ, ◌≡◌, ◌≤◌, List}
 use Rattle.la_base.specs.declared.wires.Out.{Out}
 use Rattle.la_base.specs.declared.wires.Packet.{Packet}
 use Rattle.la_base.specs.declared.wires.Wire.{Wire}
-use Rattle.decoder_core.specs.Packets.{AllCount, IsPacketFloor, PacketsStayInOrder, last_start}
-use Rattle.decoder_core.specs.Promises.{AddsFew, GivesNothing, GivesOn, KeepsFront}
+use Rattle.decoder_core.specs.Packets.{AllCount, IsPacketFloor, last_start}
+use Rattle.packet_walks.specs.Outputs.{PacketOuts}
 use Rattle.packet_walks.specs.Walks.{PacketWalk, SoundPackets, PushedPackets}
 
--- nothing, prefix, few, wire, order, and the floor of all packets that come from a place on
+-- what all outputs promise, and the floor of all packets that come from a place on
 pub record Promises {H : Type 0} (w : PacketWalk H) (wants gives : Wire)
     (outs : List Packet → List Out) (kept : List Packet → H) : Type 0 where
-  pub nothing : GivesNothing outs
-  pub prefix : KeepsFront outs
-  pub few : AddsFew outs
-  pub on_wire : GivesOn gives outs
-  pub order : PacketsStayInOrder wants outs
+  pub all : PacketOuts wants gives outs
   pub floor : (seen : List Packet) (from : ℕ) → last_start 0 seen ≤ from
       → IsPacketFloor wants outs seen from (w.near (kept seen) from)
 

@@ -101,17 +101,17 @@ impl<O: OpenTransaction> PacketMachine for Transacting<O> {
     }
 
     ghost nothing = { λ _.
-        (promises O.device O.steps O.wire O.fits O.kept O.sound O.pushed).nothing };
+        (promises O.device O.steps O.wire O.fits O.kept O.sound O.pushed).all.nothing };
 
     ghost prefix = { λ _.
-        (promises O.device O.steps O.wire O.fits O.kept O.sound O.pushed).prefix };
+        (promises O.device O.steps O.wire O.fits O.kept O.sound O.pushed).all.prefix };
 
-    ghost order = { λ _. (promises O.device O.steps O.wire O.fits O.kept O.sound O.pushed).order };
+    ghost order = { λ _. (promises O.device O.steps O.wire O.fits O.kept O.sound O.pushed).all.order };
 
-    ghost few = { λ _. (promises O.device O.steps O.wire O.fits O.kept O.sound O.pushed).few };
+    ghost few = { λ _. (promises O.device O.steps O.wire O.fits O.kept O.sound O.pushed).all.few };
 
     ghost on_wire = { λ _.
-        (promises O.device O.steps O.wire O.fits O.kept O.sound O.pushed).on_wire };
+        (promises O.device O.steps O.wire O.fits O.kept O.sound O.pushed).all.on_wire };
 
     ghost one_machine = { one_transacting O.device O.steps O.kept O.opts };
 }

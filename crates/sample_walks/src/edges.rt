@@ -7,8 +7,8 @@ ghost use Rattle.la_base.specs.Samples.{is_high};
 ghost use Rattle.list_cuts.specs.Bits.{bit_of};
 ghost use Rattle.sample_walks.specs.Edges.{edge_notes, edge_alts, EndsAtEdge};
 ghost use Rattle.sample_walks.specs.laws.EdgeLaws.{edges};
-ghost use Rattle.sample_walks.specs.laws.EventDecoders.{quiet_of, nothing_of, prefix_of, order_of};
-ghost use Rattle.sample_walks.specs.laws.EventDecoders.{few_of, on_wire_of, one_stop_of};
+ghost use Rattle.sample_walks.specs.laws.EventDecoders.{one_stop_of, promises_of};
+ghost use Rattle.sample_walks.specs.laws.EventDecoders.{quiet_of};
 
 use decoder_core::{Configured, Driver, LogicMachine, Outs, is_send, note_at};
 use la_base::{Word, pin};
@@ -79,15 +79,15 @@ impl LogicMachine for Edges {
 
     ghost quiet = { λ _ seen more ends rests. quiet_of edges tt seen more (ends, refl) rests };
 
-    ghost nothing = { λ _. nothing_of edges };
+    ghost nothing = { λ _. (promises_of edges).nothing };
 
-    ghost prefix = { λ _. prefix_of edges };
+    ghost prefix = { λ _. (promises_of edges).prefix };
 
-    ghost order = { λ _. order_of edges };
+    ghost order = { λ _. (promises_of edges).order };
 
-    ghost few = { λ _. few_of edges };
+    ghost few = { λ _. (promises_of edges).few };
 
-    ghost on_wire = { λ _. on_wire_of edges };
+    ghost on_wire = { λ _. (promises_of edges).on_wire };
 
     ghost one_machine = { λ _ _ _ _ _ _. refl };
 

@@ -1,11 +1,11 @@
 -- I2C as a decoder by events, and the laws of its outputs.
 use Rattle.std.proofs.Common.{◌≡◌, ℕ, List, length, Option, ◌∙◌, ap}
+use Rattle.la_base.specs.declared.wires.Wire.TheVariants.{I2c}
 use Rattle.list_cuts.specs.Parts.{parts}
-use Rattle.decoder_core.specs.Promises.{GivesNothing, KeepsFront, PacketsInOrder, AddsFew}
 use Rattle.sample_walks.specs.Walks.{walked, given}
 use Rattle.sample_walks.specs.Events.{by_events}
-use Rattle.sample_walks.specs.laws.EventDecoders.{EventDecoder, nothing_of, prefix_of, few_of}
-use Rattle.sample_walks.specs.laws.EventDecoders.{order_of}
+use Rattle.sample_walks.specs.Outputs.{SampleOuts}
+use Rattle.sample_walks.specs.laws.EventDecoders.{EventDecoder, promises_of}
 use Rattle.sample_walks.specs.laws.EventWalks.{events_given, events_walked}
 use Rattle.dec_i2c.specs.declared.held.Segment.{Segment}
 use Rattle.dec_i2c.specs.Bus.{Event, events, events_outs, is_mark, i2c_outs, i2c_near}
@@ -39,14 +39,5 @@ module _ (scl sda : ℕ) where
     near_is = near_walked;
   }
 
-  pub i2c_nothing : GivesNothing (i2c_outs scl sda)
-  i2c_nothing = nothing_of i2c_decoder
-
-  pub i2c_prefix : KeepsFront (i2c_outs scl sda)
-  i2c_prefix = prefix_of i2c_decoder
-
-  pub i2c_few : AddsFew (i2c_outs scl sda)
-  i2c_few = few_of i2c_decoder
-
-  pub i2c_order : PacketsInOrder (i2c_outs scl sda)
-  i2c_order = order_of i2c_decoder
+  pub i2c_promises : SampleOuts I2c (i2c_outs scl sda)
+  i2c_promises = promises_of i2c_decoder

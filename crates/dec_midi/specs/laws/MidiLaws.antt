@@ -4,10 +4,9 @@ use Rattle.std.proofs.Math.Nat.{le_refl}
 use Rattle.la_base.specs.declared.wires.Out.{Out}
 use Rattle.la_base.specs.declared.wires.Packet.{Packet}
 use Rattle.la_base.specs.declared.wires.Wire.TheVariants.{Uart as UartWire, Nothing as NoWire}
-use Rattle.decoder_core.specs.Packets.{IsPacketFloor, PacketsStayInOrder, last_start}
-use Rattle.decoder_core.specs.Promises.{AddsFew, GivesNothing, GivesOn, KeepsFront}
-use Rattle.packet_walks.specs.laws.WalkLaws.{walk_nothing, walk_prefix, walk_few, walk_on}
-use Rattle.packet_walks.specs.laws.WalkLaws.{walk_order, walk_floor}
+use Rattle.decoder_core.specs.Packets.{IsPacketFloor, last_start}
+use Rattle.packet_walks.specs.Outputs.{PacketOuts}
+use Rattle.packet_walks.specs.laws.WalkLaws.{walk_floor, walk_promises}
 use Rattle.dec_midi.specs.declared.held.Held.{Held}
 use Rattle.dec_midi.specs.declared.held.Midi.{Midi}
 use Rattle.dec_midi.specs.Midi.{midi_outs, midi_near}
@@ -16,21 +15,9 @@ use Rattle.dec_midi.specs.laws.Steps.{held_of, gives, next, near_by, midi_walk}
 use Rattle.dec_midi.specs.laws.Pushed.{midi_pushed, near_is}
 use Rattle.dec_midi.specs.laws.Sound.{midi_fits, midi_sound}
 
-pub midi_nothing : GivesNothing midi_outs
-midi_nothing = walk_nothing midi_walk midi_outs held_of midi_pushed
-
-pub midi_prefix : KeepsFront midi_outs
-midi_prefix = walk_prefix midi_walk midi_outs held_of midi_pushed
-
-pub midi_few : AddsFew midi_outs
-midi_few = walk_few midi_walk midi_outs held_of midi_pushed NoWire midi_fits midi_sound
-
-pub midi_on_wire : GivesOn NoWire midi_outs
-midi_on_wire = walk_on midi_walk midi_outs held_of midi_pushed NoWire midi_fits midi_sound
-
-pub midi_order : PacketsStayInOrder UartWire midi_outs
-midi_order =
-    walk_order midi_walk midi_outs held_of midi_pushed NoWire midi_fits midi_sound UartWire
+pub midi_promises : PacketOuts UartWire NoWire midi_outs
+midi_promises =
+    walk_promises midi_walk midi_outs held_of midi_pushed NoWire midi_fits midi_sound UartWire
 
 -- what is kept of packets makes the floor, the near place, and what one more packet does
 module _ (machine : Midi) (seen : List Packet) (stands : StandsFor machine seen) where

@@ -6,10 +6,9 @@ use Rattle.std.proofs.Math.Path.{to_path_p}
 use Rattle.la_base.specs.declared.wires.Out.{Out}
 use Rattle.la_base.specs.declared.wires.Packet.{Packet}
 use Rattle.la_base.specs.declared.wires.Wire.TheVariants.{Nothing as NoWire, Uart as UartWire}
-use Rattle.decoder_core.specs.Packets.{IsPacketFloor, PacketsStayInOrder, last_start}
-use Rattle.decoder_core.specs.Promises.{AddsFew, GivesNothing, GivesOn, KeepsFront}
-use Rattle.packet_walks.specs.laws.WalkLaws.{walk_nothing, walk_prefix, walk_few, walk_on}
-use Rattle.packet_walks.specs.laws.WalkLaws.{walk_order, walk_floor}
+use Rattle.decoder_core.specs.Packets.{IsPacketFloor, last_start}
+use Rattle.packet_walks.specs.Outputs.{PacketOuts}
+use Rattle.packet_walks.specs.laws.WalkLaws.{walk_floor, walk_promises}
 use Rattle.dec_modbus.specs.declared.held.Held.{Held}
 use Rattle.dec_modbus.specs.declared.held.Line.{Line}
 use Rattle.dec_modbus.specs.declared.held.Modbus.{Modbus}
@@ -20,27 +19,9 @@ use Rattle.dec_modbus.specs.laws.Pushed.{modbus_pushed, near_is}
 use Rattle.dec_modbus.specs.laws.Sound.{modbus_fits, modbus_sound}
 
 module _ (gap : ℕ) where
-  pub modbus_nothing : GivesNothing (modbus_outs gap)
-  modbus_nothing =
-      walk_nothing (modbus_walk gap) (modbus_outs gap) (held_of gap) (modbus_pushed gap)
-
-  pub modbus_prefix : KeepsFront (modbus_outs gap)
-  modbus_prefix =
-      walk_prefix (modbus_walk gap) (modbus_outs gap) (held_of gap) (modbus_pushed gap)
-
-  pub modbus_few : AddsFew (modbus_outs gap)
-  modbus_few =
-      walk_few (modbus_walk gap) (modbus_outs gap) (held_of gap) (modbus_pushed gap) NoWire
-      modbus_fits (modbus_sound gap)
-
-  pub modbus_on_wire : GivesOn NoWire (modbus_outs gap)
-  modbus_on_wire =
-      walk_on (modbus_walk gap) (modbus_outs gap) (held_of gap) (modbus_pushed gap) NoWire
-      modbus_fits (modbus_sound gap)
-
-  pub modbus_order : PacketsStayInOrder UartWire (modbus_outs gap)
-  modbus_order =
-      walk_order (modbus_walk gap) (modbus_outs gap) (held_of gap) (modbus_pushed gap) NoWire
+  pub modbus_promises : PacketOuts UartWire NoWire (modbus_outs gap)
+  modbus_promises =
+      walk_promises (modbus_walk gap) (modbus_outs gap) (held_of gap) (modbus_pushed gap) NoWire
       modbus_fits (modbus_sound gap) UartWire
 
   modbus_floor_of : (seen : List Packet) (from : ℕ) → last_start 0 seen ≤ from

@@ -2,11 +2,10 @@
 use Rattle.std.proofs.Common.{◌≡◌, ℕ, List, length, ap}
 use Rattle.la_base.specs.declared.samples.Rate.{Rate}
 use Rattle.la_base.specs.declared.wires.Wire.TheVariants.{OwLink as LinkWire}
-use Rattle.decoder_core.specs.Promises.{GivesNothing, KeepsFront, PacketsInOrder, AddsFew, GivesOn}
 use Rattle.sample_walks.specs.Walks.{given}
 use Rattle.sample_walks.specs.Events.{EventWalk, by_events}
-use Rattle.sample_walks.specs.laws.EventDecoders.{EventDecoder, nothing_of, prefix_of, few_of}
-use Rattle.sample_walks.specs.laws.EventDecoders.{order_of, on_wire_of}
+use Rattle.sample_walks.specs.Outputs.{SampleOuts}
+use Rattle.sample_walks.specs.laws.EventDecoders.{EventDecoder, promises_of}
 use Rattle.sample_walks.specs.laws.EventWalks.{events_given, events_walked}
 use Rattle.dec_onewire.specs.declared.link.held.Held.{Held}
 use Rattle.dec_onewire.specs.declared.link.options.Lengths.{Lengths}
@@ -47,17 +46,5 @@ module _ (opts : OwLinkOpts) (rate : Rate) where
     near_is = link_same_near;
   }
 
-  pub link_nothing : GivesNothing (link_outs opts rate)
-  link_nothing = nothing_of link_decoder
-
-  pub link_prefix : KeepsFront (link_outs opts rate)
-  link_prefix = prefix_of link_decoder
-
-  pub link_few : AddsFew (link_outs opts rate)
-  link_few = few_of link_decoder
-
-  pub link_order : PacketsInOrder (link_outs opts rate)
-  link_order = order_of link_decoder
-
-  pub link_on_wire : GivesOn LinkWire (link_outs opts rate)
-  link_on_wire = on_wire_of link_decoder
+  pub link_promises : SampleOuts LinkWire (link_outs opts rate)
+  link_promises = promises_of link_decoder

@@ -5,8 +5,7 @@ use Rattle.std.proofs.Math.Nat.{le_refl}
 use Rattle.la_base.specs.declared.wires.Out.{Out}
 use Rattle.la_base.specs.declared.wires.Packet.{Packet}
 use Rattle.la_base.specs.declared.wires.Wire.TheVariants.{OwLink as LinkWire, OwNet as NetWire}
-use Rattle.decoder_core.specs.Packets.{IsPacketFloor, PacketsStayInOrder, last_start}
-use Rattle.decoder_core.specs.Promises.{AddsFew, GivesNothing, GivesOn, KeepsFront}
+use Rattle.decoder_core.specs.Packets.{IsPacketFloor, last_start}
 use Rattle.dec_onewire.specs.declared.net.held.Held.{Held}
 use Rattle.dec_onewire.specs.declared.net.held.OwNet.{OwNet}
 use Rattle.dec_onewire.specs.Net.{net_outs, net_near}
@@ -14,23 +13,12 @@ use Rattle.dec_onewire.specs.Opening.{NetStandsFor}
 use Rattle.dec_onewire.specs.laws.NetMachine.{held_of, gives, next, near_by, net_walk}
 use Rattle.dec_onewire.specs.laws.NetPushed.{net_pushed, near_is}
 use Rattle.dec_onewire.specs.laws.NetSound.{net_fits, net_sound}
-use Rattle.packet_walks.specs.laws.WalkLaws.{walk_nothing, walk_prefix, walk_few, walk_on}
-use Rattle.packet_walks.specs.laws.WalkLaws.{walk_order, walk_floor}
+use Rattle.packet_walks.specs.Outputs.{PacketOuts}
+use Rattle.packet_walks.specs.laws.WalkLaws.{walk_floor, walk_promises}
 
-pub net_nothing : GivesNothing net_outs
-net_nothing = walk_nothing net_walk net_outs held_of net_pushed
-
-pub net_prefix : KeepsFront net_outs
-net_prefix = walk_prefix net_walk net_outs held_of net_pushed
-
-pub net_few : AddsFew net_outs
-net_few = walk_few net_walk net_outs held_of net_pushed NetWire net_fits net_sound
-
-pub net_on_wire : GivesOn NetWire net_outs
-net_on_wire = walk_on net_walk net_outs held_of net_pushed NetWire net_fits net_sound
-
-pub net_order : PacketsStayInOrder LinkWire net_outs
-net_order = walk_order net_walk net_outs held_of net_pushed NetWire net_fits net_sound LinkWire
+pub net_promises : PacketOuts LinkWire NetWire net_outs
+net_promises =
+    walk_promises net_walk net_outs held_of net_pushed NetWire net_fits net_sound LinkWire
 
 -- what is kept of packets makes the floor, the near place, and what one more packet does
 module _ (machine : OwNet) (seen : List Packet) (stands : NetStandsFor machine seen) where

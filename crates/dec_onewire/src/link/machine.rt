@@ -6,8 +6,7 @@ ghost use Rattle.sample_walks.specs.laws.EventDecoders.{quiet_of};
 ghost use Rattle.dec_onewire.specs.Link.{link_outs, link_near};
 ghost use Rattle.dec_onewire.specs.Opening.{StandsFor, alts_of};
 ghost use Rattle.dec_onewire.specs.laws.LinkMachine.{edge_alt};
-ghost use Rattle.dec_onewire.specs.laws.LinkLaws.{link_decoder, link_nothing, link_prefix};
-ghost use Rattle.dec_onewire.specs.laws.LinkLaws.{link_order, link_few, link_on_wire};
+ghost use Rattle.dec_onewire.specs.laws.LinkLaws.{link_decoder, link_promises};
 ghost use Rattle.dec_onewire.specs.laws.LinkMachineLaws.{one_link, link_one_stop};
 
 use super::pulses::{give, near, next};
@@ -73,15 +72,15 @@ impl LogicMachine for OwLink {
         quiet_of (link_decoder machine.line.opts machine.line.rate) machine.held seen more
         (stands.0, stands.1) rests };
 
-    ghost nothing = { λ machine. link_nothing machine.line.opts machine.line.rate };
+    ghost nothing = { λ machine. (link_promises machine.line.opts machine.line.rate).nothing };
 
-    ghost prefix = { λ machine. link_prefix machine.line.opts machine.line.rate };
+    ghost prefix = { λ machine. (link_promises machine.line.opts machine.line.rate).prefix };
 
-    ghost order = { λ machine. link_order machine.line.opts machine.line.rate };
+    ghost order = { λ machine. (link_promises machine.line.opts machine.line.rate).order };
 
-    ghost few = { λ machine. link_few machine.line.opts machine.line.rate };
+    ghost few = { λ machine. (link_promises machine.line.opts machine.line.rate).few };
 
-    ghost on_wire = { λ machine. link_on_wire machine.line.opts machine.line.rate };
+    ghost on_wire = { λ machine. (link_promises machine.line.opts machine.line.rate).on_wire };
 
     ghost one_machine = { λ one other list same stands also.
         one_link one other list same stands also };

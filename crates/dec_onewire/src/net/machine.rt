@@ -6,8 +6,7 @@ ghost use Rattle.dec_onewire.specs.Net.{net_outs, net_near};
 ghost use Rattle.dec_onewire.specs.Opening.{NetStandsFor};
 ghost use Rattle.dec_onewire.specs.laws.NetMachine.{gives, next, near_by, answered_gives};
 ghost use Rattle.dec_onewire.specs.laws.NetMachine.{answered_next, inside_gives, inside_next};
-ghost use Rattle.dec_onewire.specs.laws.NetLaws.{net_nothing, net_prefix, net_order, net_few};
-ghost use Rattle.dec_onewire.specs.laws.NetLaws.{net_on_wire, one_net};
+ghost use Rattle.dec_onewire.specs.laws.NetLaws.{net_promises, one_net};
 
 use super::packets::{is_bit, is_presence, is_reset};
 use super::units::{bit, none_begun};
@@ -107,15 +106,15 @@ impl PacketMachine for OwNet {
         near(self.held, from)
     }
 
-    ghost nothing = { λ _. net_nothing };
+    ghost nothing = { λ _. net_promises.nothing };
 
-    ghost prefix = { λ _. net_prefix };
+    ghost prefix = { λ _. net_promises.prefix };
 
-    ghost order = { λ _. net_order };
+    ghost order = { λ _. net_promises.order };
 
-    ghost few = { λ _. net_few };
+    ghost few = { λ _. net_promises.few };
 
-    ghost on_wire = { λ _. net_on_wire };
+    ghost on_wire = { λ _. net_promises.on_wire };
 
     ghost one_machine = { λ one other packets same stands also.
         one_net one other packets stands also };

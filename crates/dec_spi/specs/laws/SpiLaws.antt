@@ -6,11 +6,10 @@ use Rattle.list_cuts.specs.Groups.{after_groups}
 use Rattle.list_cuts.specs.Neighbours.{last_of}
 use Rattle.list_cuts.specs.Parts.{Part}
 use Rattle.list_cuts.proofs.TestLaws.{when_no, suc_no}
-use Rattle.decoder_core.specs.Promises.{GivesNothing, KeepsFront, PacketsInOrder, AddsFew, GivesOn}
 use Rattle.sample_walks.specs.Walks.{given}
 use Rattle.sample_walks.specs.Events.{by_events}
-use Rattle.sample_walks.specs.laws.EventDecoders.{EventDecoder, nothing_of, prefix_of, few_of}
-use Rattle.sample_walks.specs.laws.EventDecoders.{order_of, on_wire_of}
+use Rattle.sample_walks.specs.Outputs.{SampleOuts}
+use Rattle.sample_walks.specs.laws.EventDecoders.{EventDecoder, promises_of}
 use Rattle.sample_walks.specs.laws.EventWalks.{events_given, events_walked}
 use Rattle.dec_spi.specs.declared.held.Held.{Held}
 use Rattle.dec_spi.specs.declared.options.SpiOpts.{SpiOpts}
@@ -67,17 +66,5 @@ module _ (opts : SpiOpts) where
       near_is = spi_same_near;
     }
 
-    pub spi_nothing : GivesNothing (spi_outs opts)
-    spi_nothing = nothing_of spi_decoder
-
-    pub spi_prefix : KeepsFront (spi_outs opts)
-    spi_prefix = prefix_of spi_decoder
-
-    pub spi_few : AddsFew (spi_outs opts)
-    spi_few = few_of spi_decoder
-
-    pub spi_order : PacketsInOrder (spi_outs opts)
-    spi_order = order_of spi_decoder
-
-    pub spi_on_wire : GivesOn SpiWire (spi_outs opts)
-    spi_on_wire = on_wire_of spi_decoder
+    pub spi_promises : SampleOuts SpiWire (spi_outs opts)
+    spi_promises = promises_of spi_decoder

@@ -7,12 +7,12 @@ use mathlib.Core.List.{is_set as list_set}
 use Rattle.la_base.specs.Samples.{is_high}
 use Rattle.la_base.specs.declared.samples.Rate.{Rate}
 use Rattle.la_base.specs.declared.wires.Out.{Out}
+use Rattle.la_base.specs.declared.wires.Wire.TheVariants.{Uart as UartWire}
 use Rattle.wait_cond.specs.declared.alt.Alt.{Alt}
 use Rattle.list_cuts.specs.Neighbours.{last_of}
-use Rattle.decoder_core.specs.Promises.{IsFloor, GivesFrom, GivesNothing, KeepsFront}
-use Rattle.decoder_core.specs.Promises.{PacketsInOrder, AddsFew}
-use Rattle.decoder_core.specs.Promises.{Rests, StopsIn}
+use Rattle.decoder_core.specs.Promises.{GivesFrom, IsFloor, Rests, StopsIn}
 use Rattle.sample_walks.specs.Walks.{Walk, walked, given, EndsThere}
+use Rattle.sample_walks.specs.Outputs.{SampleOuts}
 use Rattle.sample_walks.specs.laws.WalkLaws.{walked_fits, outs_nothing, outs_prefix, outs_few}
 use Rattle.sample_walks.specs.laws.WalkLaws.{outs_order}
 use Rattle.sample_walks.specs.laws.HeldLaws.{held_quiet, held_one_stop, held_floor, held_near}
@@ -27,7 +27,7 @@ use Rattle.dec_uart.specs.Opening.{line_of, alts_of, StandsFor}
 use Rattle.dec_uart.specs.Ranges.{InRange, FastEnough}
 use Rattle.dec_uart.specs.laws.Grown.{outs_walked, near_walked}
 use Rattle.dec_uart.specs.laws.Holding.{alt_same, near_same, outs_same, held_same}
-use Rattle.dec_uart.specs.laws.LineLaws.{first_bit, bits_rise, uart_sound}
+use Rattle.dec_uart.specs.laws.LineLaws.{first_bit, bits_rise, uart_on_wire, uart_sound}
 use Rattle.dec_uart.specs.laws.Machine.{Kept, line_walk, line_near, held_of, held_alt as alt_of}
 use Rattle.dec_uart.specs.laws.Machine.{held_near as near_by, stop_outs, stop_held}
 use Rattle.dec_uart.specs.laws.Sound.{line_fits, line_timed}
@@ -54,20 +54,17 @@ module _ (opts : UartOpts) (rate : Rate) {most : ℕ} (ranges : InRange most opt
       near_walked (shape_of opts rate) (first_bit opts rate ranges fast)
       (bits_rise opts rate ranges fast)
 
-  pub uart_nothing : GivesNothing (uart_outs opts rate)
-  uart_nothing =
-      outs_nothing walk fits timed (uart_sound opts rate ranges fast) (uart_outs opts rate) same
-
-  pub uart_prefix : KeepsFront (uart_outs opts rate)
-  uart_prefix =
-      outs_prefix walk fits timed (uart_sound opts rate ranges fast) (uart_outs opts rate) same
-
-  pub uart_few : AddsFew (uart_outs opts rate)
-  uart_few = outs_few walk fits timed (uart_sound opts rate ranges fast) (uart_outs opts rate) same
-
-  pub uart_order : PacketsInOrder (uart_outs opts rate)
-  uart_order =
-      outs_order walk fits timed (uart_sound opts rate ranges fast) (uart_outs opts rate) same
+  pub uart_promises : SampleOuts UartWire (uart_outs opts rate)
+  uart_promises =
+      let sound = uart_sound opts rate ranges fast in
+      let outs = uart_outs opts rate in
+      record {
+        nothing = outs_nothing walk fits timed sound outs same;
+        prefix = outs_prefix walk fits timed sound outs same;
+        order = outs_order walk fits timed sound outs same;
+        few = outs_few walk fits timed sound outs same;
+        on_wire = uart_on_wire opts rate;
+      }
 
   kept_fits : (list : List ℕ) → fits (walked walk list) (length list) (last_of list)
   kept_fits = walked_fits walk fits timed (uart_sound opts rate ranges fast)

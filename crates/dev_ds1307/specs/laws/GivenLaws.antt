@@ -7,8 +7,7 @@ use Rattle.la_base.specs.declared.wires.Out.{Out}
 use Rattle.la_base.specs.declared.wires.Packet.{Packet}
 use Rattle.la_base.specs.declared.wires.Wire.TheVariants.{Nothing as NoWire, I2c as I2cWire}
 use Rattle.decoder_core.specs.Outputs.{span_note}
-use Rattle.decoder_core.specs.Packets.{PacketsStayInOrder}
-use Rattle.decoder_core.specs.Promises.{AddsFew, GivesNothing, GivesOn, KeepsFront, PacketsOn}
+use Rattle.decoder_core.specs.Promises.{PacketsOn}
 use Rattle.decoder_core.specs.laws.OutLaws.{PacketsOn-append}
 use Rattle.list_cuts.specs.Along.{along_from}
 use Rattle.list_cuts.proofs.AlongLaws.{along_push}
@@ -16,8 +15,8 @@ use Rattle.i2c_phases.specs.Phases.{Nothing, Writes, Reads, Reset, byte_of}
 use Rattle.i2c_phases.specs.Bytes.{byte_note, byte_piece}
 use Rattle.i2c_phases.specs.Devices.{Each, FewFrom, GivesByByte, GivesNoPackets, StartsFrom, phased}
 use Rattle.i2c_phases.specs.laws.ByteLaws.{spans_later, starts_later}
-use Rattle.i2c_phases.specs.laws.DeviceLaws.{phased_nothing, phased_prefix, phased_few}
-use Rattle.i2c_phases.specs.laws.DeviceLaws.{phased_order, phased_on}
+use Rattle.i2c_phases.specs.laws.DeviceLaws.{phased_promises}
+use Rattle.packet_walks.specs.Outputs.{PacketOuts}
 use Rattle.dev_ds1307.specs.declared.chip.Chip.{Chip}
 use Rattle.dev_ds1307.specs.Clock.{byte_outs, clock_outs, last_bytes, number_of, register, start_of}
 use Rattle.dev_ds1307.specs.Clock.{step}
@@ -120,25 +119,9 @@ clock_no_packets before Reset = tt
 
 module _ (chip : Chip) where
   -- what all packets give keeps the laws of every device
-  pub clock_nothing : GivesNothing (clock_outs chip)
+  pub clock_promises : PacketOuts I2cWire NoWire (clock_outs chip)
   unfolding clock_outs
-  clock_nothing = phased_nothing step clock_by_byte 104 chip.resets
-
-  pub clock_prefix : KeepsFront (clock_outs chip)
-  unfolding clock_outs
-  clock_prefix = phased_prefix step clock_by_byte 104 chip.resets
-
-  pub clock_few : AddsFew (clock_outs chip)
-  unfolding clock_outs
-  clock_few = phased_few step clock_by_byte 104 chip.resets
-
-  pub clock_order : PacketsStayInOrder I2cWire (clock_outs chip)
-  unfolding clock_outs
-  clock_order = phased_order step clock_no_packets 104 chip.resets
-
-  pub clock_on_wire : GivesOn NoWire (clock_outs chip)
-  unfolding clock_outs
-  clock_on_wire = phased_on step clock_no_packets 104 chip.resets
+  clock_promises = phased_promises step clock_no_packets 104 chip.resets clock_by_byte
 
   pub outs_are : (packets : List Packet)
       → phased 104 chip.resets step packets ≡ clock_outs chip packets

@@ -10,13 +10,11 @@ use Rattle.std.proofs.lemmas.List.{append-nil, take-append-le, drop-append-le}
 use Rattle.std.proofs.lemmas.Grind.{flat_map-append}
 use Rattle.la_base.specs.declared.wires.Out.{Out}
 use Rattle.la_base.specs.declared.wires.Packet.{Packet}
-use Rattle.decoder_core.specs.Packets.{PacketsStayInOrder}
-use Rattle.decoder_core.specs.Promises.{AddsFew, GivesNothing, GivesOn, KeepsFront, NotesFrom}
-use Rattle.decoder_core.specs.Promises.{PacketsOn}
+use Rattle.decoder_core.specs.Promises.{NotesFrom, PacketsOn}
 use Rattle.la_base.specs.declared.wires.Wire.TheVariants.{Nothing as NoWire, I2c as I2cWire}
 use Rattle.decoder_core.specs.laws.OutLaws.{PacketsOn-append}
-use Rattle.i2c_phases.specs.laws.DeviceLaws.{phased_nothing, phased_prefix, phased_few}
-use Rattle.i2c_phases.specs.laws.DeviceLaws.{phased_order, phased_on}
+use Rattle.i2c_phases.specs.laws.DeviceLaws.{phased_promises}
+use Rattle.packet_walks.specs.Outputs.{PacketOuts}
 use Rattle.i2c_phases.specs.Phases.{Meaning, Nothing, Writes, Reads, Reset}
 use Rattle.i2c_phases.specs.Devices.{Adds, ByByte, Each, FewFrom, GivesByByte, GivesNoPackets}
 use Rattle.i2c_phases.specs.Devices.{phased}
@@ -261,25 +259,9 @@ module _ (o : Chip) where
       (by_byte o floor before)
 
   -- what all packets give keeps the laws of every device
-  pub eeprom_nothing : GivesNothing (eeprom_outs o)
+  pub eeprom_promises : PacketOuts I2cWire NoWire (eeprom_outs o)
   unfolding eeprom_outs
-  eeprom_nothing = phased_nothing (step o) eeprom_by_byte (80 + o.addr) o.resets
-
-  pub eeprom_prefix : KeepsFront (eeprom_outs o)
-  unfolding eeprom_outs
-  eeprom_prefix = phased_prefix (step o) eeprom_by_byte (80 + o.addr) o.resets
-
-  pub eeprom_few : AddsFew (eeprom_outs o)
-  unfolding eeprom_outs
-  eeprom_few = phased_few (step o) eeprom_by_byte (80 + o.addr) o.resets
-
-  pub eeprom_order : PacketsStayInOrder I2cWire (eeprom_outs o)
-  unfolding eeprom_outs
-  eeprom_order = phased_order (step o) eeprom_no_packets (80 + o.addr) o.resets
-
-  pub eeprom_on_wire : GivesOn NoWire (eeprom_outs o)
-  unfolding eeprom_outs
-  eeprom_on_wire = phased_on (step o) eeprom_no_packets (80 + o.addr) o.resets
+  eeprom_promises = phased_promises (step o) eeprom_no_packets (80 + o.addr) o.resets eeprom_by_byte
 
   pub outs_are : (packets : List Packet)
       → phased (80 + o.addr) o.resets (step o) packets ≡ eeprom_outs o packets

@@ -4,14 +4,13 @@ use Rattle.std.proofs.Common.{[], ◌∷◌, refl, ap, arith}
 use Rattle.la_base.specs.declared.wires.Out.{Out}
 use Rattle.la_base.specs.declared.wires.Packet.{Packet}
 use Rattle.la_base.specs.declared.wires.Wire.TheVariants.{Nothing as NoWire, I2c as I2cWire}
-use Rattle.decoder_core.specs.Packets.{PacketsStayInOrder}
-use Rattle.decoder_core.specs.Promises.{AddsFew, GivesNothing, GivesOn, KeepsFront, PacketsOn}
+use Rattle.decoder_core.specs.Promises.{PacketsOn}
 use Rattle.i2c_phases.specs.Phases.{Nothing, Writes, Reads, Reset, byte_of}
 use Rattle.i2c_phases.specs.Bytes.{byte_note}
 use Rattle.i2c_phases.specs.Devices.{Each, FewFrom, GivesByByte, GivesNoPackets, StartsFrom, phased}
 use Rattle.i2c_phases.specs.laws.ByteLaws.{spans_later, starts_later}
-use Rattle.i2c_phases.specs.laws.DeviceLaws.{phased_nothing, phased_prefix, phased_few}
-use Rattle.i2c_phases.specs.laws.DeviceLaws.{phased_order, phased_on}
+use Rattle.i2c_phases.specs.laws.DeviceLaws.{phased_promises}
+use Rattle.packet_walks.specs.Outputs.{PacketOuts}
 use Rattle.dev_lm75.specs.declared.chip.Chip.{Chip}
 use Rattle.dev_lm75.specs.declared.held.Part.{Part}
 use Rattle.dev_lm75.specs.declared.held.Part.TheVariants.{Fresh, Even, Half}
@@ -142,25 +141,9 @@ lm75_no_packets before Reset = tt
 
 module _ (chip : Chip) where
   -- what all packets give keeps the laws of every device
-  pub lm75_nothing : GivesNothing (lm75_outs chip)
+  pub lm75_promises : PacketOuts I2cWire NoWire (lm75_outs chip)
   unfolding lm75_outs
-  lm75_nothing = phased_nothing step lm75_by_byte (72 + chip.addr) chip.resets
-
-  pub lm75_prefix : KeepsFront (lm75_outs chip)
-  unfolding lm75_outs
-  lm75_prefix = phased_prefix step lm75_by_byte (72 + chip.addr) chip.resets
-
-  pub lm75_few : AddsFew (lm75_outs chip)
-  unfolding lm75_outs
-  lm75_few = phased_few step lm75_by_byte (72 + chip.addr) chip.resets
-
-  pub lm75_order : PacketsStayInOrder I2cWire (lm75_outs chip)
-  unfolding lm75_outs
-  lm75_order = phased_order step lm75_no_packets (72 + chip.addr) chip.resets
-
-  pub lm75_on_wire : GivesOn NoWire (lm75_outs chip)
-  unfolding lm75_outs
-  lm75_on_wire = phased_on step lm75_no_packets (72 + chip.addr) chip.resets
+  lm75_promises = phased_promises step lm75_no_packets (72 + chip.addr) chip.resets lm75_by_byte
 
   pub outs_are : (packets : List Packet)
       → phased (72 + chip.addr) chip.resets step packets ≡ lm75_outs chip packets

@@ -12,6 +12,7 @@ use Rattle.decoder_core.specs.laws.PacketLaws.{from_free, order_free}
 use Rattle.list_cuts.specs.Along.{along}
 use Rattle.list_cuts.proofs.AlongLaws.{along_push}
 use Rattle.list_cuts.specs.Parts.{parts}
+use Rattle.packet_walks.specs.Outputs.{PacketOuts}
 use Rattle.i2c_phases.specs.declared.tracker.Event.TheVariants.{Begins, WriteByte, ReadByte, Resets}
 use Rattle.i2c_phases.specs.declared.tracker.Event.TheVariants.{Passes}
 use Rattle.i2c_phases.specs.declared.tracker.Role.TheVariants.{Fresh}
@@ -103,14 +104,14 @@ module _ (step : List Meaning → Meaning → List Out) (bytes : GivesByByte ste
         ]
 
   module _ (device : ℕ) (resets : Bool) where
-    pub phased_nothing : GivesNothing (phased device resets step)
+    phased_nothing : GivesNothing (phased device resets step)
     phased_nothing = refl
 
-    pub phased_prefix : KeepsFront (phased device resets step)
+    phased_prefix : KeepsFront (phased device resets step)
     phased_prefix =
         keeps_front device resets (FewFrom 0) (StartsFrom 0) step (bytes 0) (λ p. omega arith)
 
-    pub phased_few : AddsFew (phased device resets step)
+    phased_few : AddsFew (phased device resets step)
     phased_few =
         adds_few device resets (FewFrom 0) (StartsFrom 0) step (bytes 0) (λ p. omega arith)
         (λ new few. few.0)
@@ -161,8 +162,17 @@ module _ (step : List Meaning → Meaning → List Out) (no_packets : GivesNoPac
   pub phased_on : GivesOn NoWire (phased device resets step)
   phased_on packets = along_on NoWire step no_packets [] (meanings device resets packets)
 
-  pub phased_order : PacketsStayInOrder I2cWire (phased device resets step)
+  phased_order : PacketsStayInOrder I2cWire (phased device resets step)
   phased_order = order_free I2cWire (phased device resets step) phased_on
+
+  pub phased_promises : GivesByByte step → PacketOuts I2cWire NoWire (phased device resets step)
+  phased_promises by_byte = record {
+    nothing = phased_nothing step by_byte device resets;
+    prefix = phased_prefix step by_byte device resets;
+    order = phased_order;
+    few = phased_few step by_byte device resets;
+    on_wire = phased_on;
+  }
 
 -- where the open phase starts
 module _ (device : ℕ) (resets : Bool) where

@@ -20,9 +20,8 @@ use Rattle.packet_walks.specs.Promises.{Promises}
 use Rattle.packet_walks.specs.laws.Steps.{NoPackets, Steps, begin_next, held_gives, held_next}
 use Rattle.packet_walks.specs.laws.Steps.{held_near, transaction_walk, held_in, held_of, Pushed}
 use Rattle.packet_walks.specs.laws.Steps.{Sound}
-use Rattle.packet_walks.specs.laws.WalkLaws.{notes_from_less, packets_from_less, walk_nothing}
-use Rattle.packet_walks.specs.laws.WalkLaws.{walk_prefix, walk_few}
-use Rattle.packet_walks.specs.laws.WalkLaws.{walk_on, walk_order, walk_floor}
+use Rattle.packet_walks.specs.laws.WalkLaws.{notes_from_less, packets_from_less, walk_floor}
+use Rattle.packet_walks.specs.laws.WalkLaws.{walk_promises}
 use Rattle.packet_walks.specs.laws.CutLaws.{grown_first, first_push, ended_of, last_of, ended_stay}
 use Rattle.packet_walks.specs.laws.CutLaws.{last_grows, ended_grow, last_begins}
 
@@ -293,11 +292,7 @@ module _ {O : Type 0} (device : Device) (steps : Steps O) (wants : Wire) (fits :
       let walks = transactions_pushed device steps kept pushed in
       let walks_soundly = transactions_sound device steps fits sound in
       record {
-        nothing = walk_nothing w outs held walks;
-        prefix = walk_prefix w outs held walks;
-        few = walk_few w outs held walks NoWire (held_fits device steps fits) walks_soundly;
-        on_wire = walk_on w outs held walks NoWire (held_fits device steps fits) walks_soundly;
-        order = walk_order w outs held walks NoWire
+        all = walk_promises w outs held walks NoWire
             (held_fits device steps fits) walks_soundly wants;
         floor = walk_floor w outs held walks NoWire
             (held_fits device steps fits) walks_soundly wants;

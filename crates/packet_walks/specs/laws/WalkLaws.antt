@@ -16,6 +16,7 @@ use Rattle.decoder_core.specs.laws.OutLaws.{NotesFrom-append, PacketsOn-append}
 use Rattle.decoder_core.specs.laws.OutLaws.{packet_starts-append}
 use Rattle.sample_walks.specs.Walks.{Between}
 use Rattle.sample_walks.specs.laws.WalkLaws.{between_packets}
+use Rattle.packet_walks.specs.Outputs.{PacketOuts}
 use Rattle.packet_walks.specs.Walks.{PacketWalk, SoundPackets, PushedPackets}
 
 -- numbers that never fall
@@ -102,14 +103,11 @@ module _ {H : Type 0} (w : PacketWalk H) where
     kept_is : (ps : List Packet) → kept ps ≡ walk_from w.begin ps
     kept_is ps = kept_more ps [] ∙ ap (λ (h : H). walk_from h ps) pushed.no_kept
 
-    pub walk_nothing : GivesNothing outs
-    walk_nothing = pushed.no_outs
-
-    pub walk_prefix : KeepsFront outs
+    walk_prefix : KeepsFront outs
     walk_prefix ps more = (given_from (kept ps) more, outs_more more ps)
 
     module _ (on : Wire) (fits : H → ℕ → Type 0) (sound : SoundPackets w on fits) where
-      pub walk_few : AddsFew outs
+      walk_few : AddsFew outs
       walk_few ps p =
           let add : length (outs (ps ++ p ∷ [])) ≡ length (outs ps ++ w.gives (kept ps) p) =
           ap length (pushed.outs_push ps p) in
@@ -121,7 +119,7 @@ module _ {H : Type 0} (w : PacketWalk H) where
           PacketsOn-append on (w.gives h p) (given_from (w.next h p) ps) (sound.on_wire h p)
           (on_from ps (w.next h p))
 
-      pub walk_on : GivesOn on outs
+      walk_on : GivesOn on outs
       walk_on ps = subst (PacketsOn on) (sym (outs_are ps)) (on_from ps w.begin)
 
       module _ (wire : Wire) where
@@ -144,12 +142,21 @@ module _ {H : Type 0} (w : PacketWalk H) where
             (sound.packets h last p fit all.1)
             (packets_from ps g p.start (sound.next_fits h last p fit all.1) all.2))
 
-        pub walk_order : PacketsStayInOrder wire outs
+        walk_order : PacketsStayInOrder wire outs
         walk_order ps all =
             subst (λ (l : List Out). IsNonDecreasing (packet_starts l)) (sym (outs_are ps))
             (never_fall (packet_starts (given_from w.begin ps)) (w.near w.begin 0)
             (w.near (walk_from w.begin ps) (last_start 0 ps))
             (packets_from ps w.begin 0 sound.begin_fits all))
+
+        pub walk_promises : PacketOuts wire on outs
+        walk_promises = record {
+          nothing = pushed.no_outs;
+          prefix = walk_prefix;
+          order = walk_order;
+          few = walk_few;
+          on_wire = walk_on;
+        }
 
         later_packets : (ps : List Packet) (h : H) (low last : ℕ) → fits h last
             → CountFrom wire last ps → low ≤ w.near h last → PacketsFrom low (given_from h ps)

@@ -4,10 +4,10 @@ use Rattle.std.proofs.Common.{◌≡◌, ℕ, ◌+◌, ◌≤◌, List, [], ◌�
 use Rattle.std.proofs.Common.{ap, subst}
 use Rattle.std.proofs.lemmas.List.{append-nil}
 use Rattle.la_base.specs.declared.wires.Out.{Out}
-use Rattle.decoder_core.specs.Promises.{IsFloor, GivesNothing, KeepsFront, PacketsInOrder, AddsFew}
-use Rattle.decoder_core.specs.Promises.{GivesFrom, GivesOn, PacketsOn, Rests, StopsIn}
+use Rattle.decoder_core.specs.Promises.{GivesFrom, GivesOn, IsFloor, PacketsOn, Rests, StopsIn}
 use Rattle.sample_walks.specs.Walks.{Walk, walked, given, EndsThere, Sound}
 use Rattle.sample_walks.specs.Events.{EventWalk, by_events, gives_all, next_all, SoundEvents}
+use Rattle.sample_walks.specs.Outputs.{SampleOuts}
 use Rattle.sample_walks.specs.laws.EventWalks.{events_sound, events_on}
 use Rattle.sample_walks.specs.laws.HeldLaws.{held_quiet, held_one_stop, held_floor, held_packets}
 use Rattle.sample_walks.specs.laws.HeldLaws.{held_near}
@@ -34,22 +34,19 @@ module _ {H E : Type 0} (d : EventDecoder H E) where
   sound : Sound samples d.fits timed
   sound = events_sound d.walk d.fits d.sound
 
-  pub nothing_of : GivesNothing d.outs
-  nothing_of = outs_nothing samples d.fits timed sound d.outs d.given_is
-
-  pub prefix_of : KeepsFront d.outs
-  prefix_of = outs_prefix samples d.fits timed sound d.outs d.given_is
-
-  pub few_of : AddsFew d.outs
-  few_of = outs_few samples d.fits timed sound d.outs d.given_is
-
-  pub order_of : PacketsInOrder d.outs
-  order_of = outs_order samples d.fits timed sound d.outs d.given_is
-
-  pub on_wire_of : GivesOn d.walk.wire d.outs
+  on_wire_of : GivesOn d.walk.wire d.outs
   on_wire_of list =
       subst (λ (l : List Out). PacketsOn d.walk.wire l) (sym (d.given_is list))
       (events_on d.walk d.fits d.sound list)
+
+  pub promises_of : SampleOuts d.walk.wire d.outs
+  promises_of = record {
+    nothing = outs_nothing samples d.fits timed sound d.outs d.given_is;
+    prefix = outs_prefix samples d.fits timed sound d.outs d.given_is;
+    order = outs_order samples d.fits timed sound d.outs d.given_is;
+    few = outs_few samples d.fits timed sound d.outs d.given_is;
+    on_wire = on_wire_of;
+  }
 
   -- what a machine holds is what the walk keeps of samples that end with an event, or of none
   abbrev pub Holds : H → List ℕ → Type 0
