@@ -1,5 +1,5 @@
 // How a decoder of any kind is opened.
-ghost use Rattle.std.specs.Prelude.{◌≡◌, ◌≤◌, ◌^◌, true, false, [], IfOk, IfErr, IsOk, OnErr, OnOk};
+ghost use Rattle.std.specs.Prelude.{◌≡◌, ◌≤◌, ◌^◌, true, false, [], IfOk, IfErr, OnErr, OnOk};
 ghost use Rattle.la_base.specs.declared.samples.TheConstants.{MOST_PINS};
 ghost use Rattle.decoder_core.specs.declared.faults.OptFault.TheVariants.{Rate as TooSlow};
 ghost use Rattle.decoder_set.specs.Faults.{too_slow};
@@ -25,37 +25,11 @@ use dev_ds1307::Clock;
 use dev_eeprom24::Eeprom;
 use dev_flash25::{Flash, FlashOpts};
 use dev_lm75::Lm75;
-use i2c_phases::Phased;
 use kind_table::{Kind, OptValues, in_range};
 use la_base::Rate;
 
-// An I2C decoder of values in range.
-fn open_i2c(values: &OptValues, rate: Rate) -> Result<Driver<I2c>, OptFault>
-    requires { in_range MOST_PINS Kind.I2c values.now.given ≡ true }
-    ensures opens { IfOk result
-        (λ driver. ConsumedAs values.now.given rate (AnyMachine.I2c driver) []) }
-    ensures always { IsOk result }
-{
-    match I2c::open(i2c_options(values), rate) {
-        Ok(machine) => Ok(Driver::new(machine)),
-        Err(fault) => Err(fault),
-    }
-}
-
-// An SPI decoder of values in range.
-fn open_spi(values: &OptValues, rate: Rate) -> Result<Driver<Spi>, OptFault>
-    requires { in_range MOST_PINS Kind.Spi values.now.given ≡ true }
-    ensures opens { IfOk result
-        (λ driver. ConsumedAs values.now.given rate (AnyMachine.Spi driver) []) }
-    ensures always { IsOk result }
-{
-    match Spi::open(spi_options(values), rate) {
-        Ok(machine) => Ok(Driver::new(machine)),
-        Err(fault) => Err(fault),
-    }
-}
-
-// A decoder of a serial line with values in range, at a rate that may be too low.
+// A decoder of a serial line with values in range. Its rate is compared by two products, so that
+// this is shown by itself.
 fn open_uart(values: &OptValues, rate: Rate) -> Result<Driver<Uart>, OptFault>
     requires range { in_range MOST_PINS Kind.Uart values.now.given ≡ true }
     requires rate { rate.num ≤ 10 ^ 15 }
@@ -71,123 +45,6 @@ fn open_uart(values: &OptValues, rate: Rate) -> Result<Driver<Uart>, OptFault>
     }
 }
 
-// A decoder of an EEPROM with values in range.
-fn open_eeprom(values: &OptValues, rate: Rate) -> Result<Follower<Phased<Eeprom>>, OptFault>
-    requires { in_range MOST_PINS Kind.Eeprom24 values.now.given ≡ true }
-    ensures opens { IfOk result
-        (λ follower. ConsumedAs values.now.given rate (AnyMachine.Eeprom24 follower) []) }
-    ensures always { IsOk result }
-{
-    match Eeprom::open(eeprom_options(values), rate) {
-        Ok(machine) => Ok(Follower::new(machine)),
-        Err(fault) => Err(fault),
-    }
-}
-
-// A decoder of the link of a 1-Wire line with values in range, at a rate that may be too low.
-fn open_link(values: &OptValues, rate: Rate) -> Result<Driver<OwLink>, OptFault>
-    requires range { in_range MOST_PINS Kind.OwLink values.now.given ≡ true }
-    requires rate { rate.num ≤ 10 ^ 15 }
-    ensures opens { IfOk result
-        (λ driver. ConsumedAs values.now.given rate (AnyMachine.OwLink driver) []) }
-    ensures fast { OnOk result (too_slow Kind.OwLink values.now.given rate ≡ false) }
-    ensures slow { OnErr result (too_slow Kind.OwLink values.now.given rate ≡ true) }
-    ensures fault { IfErr result (λ fault. fault ≡ TooSlow) }
-{
-    match OwLink::open(link_options(values), rate) {
-        Ok(machine) => Ok(Driver::new(machine)),
-        Err(fault) => Err(fault),
-    }
-}
-
-// A decoder of the network of a 1-Wire line.
-fn open_net(_values: &OptValues, rate: Rate) -> Result<Follower<OwNet>, OptFault>
-    ensures opens { IfOk result
-        (λ follower. ConsumedAs _values.now.given rate (AnyMachine.OwNet follower) []) }
-    ensures always { IsOk result }
-{
-    match OwNet::open(OwNetOpts {}, rate) {
-        Ok(machine) => Ok(Follower::new(machine)),
-        Err(fault) => Err(fault),
-    }
-}
-
-// A decoder of a clock with values in range.
-fn open_clock(values: &OptValues, rate: Rate) -> Result<Follower<Phased<Clock>>, OptFault>
-    requires { in_range MOST_PINS Kind.Ds1307 values.now.given ≡ true }
-    ensures opens { IfOk result
-        (λ follower. ConsumedAs values.now.given rate (AnyMachine.Ds1307 follower) []) }
-    ensures always { IsOk result }
-{
-    match Clock::open(clock_options(values), rate) {
-        Ok(machine) => Ok(Follower::new(machine)),
-        Err(fault) => Err(fault),
-    }
-}
-
-// A decoder of an LM75 with values in range.
-fn open_lm75(values: &OptValues, rate: Rate) -> Result<Follower<Phased<Lm75>>, OptFault>
-    requires { in_range MOST_PINS Kind.Lm75 values.now.given ≡ true }
-    ensures opens { IfOk result
-        (λ follower. ConsumedAs values.now.given rate (AnyMachine.Lm75 follower) []) }
-    ensures always { IsOk result }
-{
-    match Lm75::open(lm75_options(values), rate) {
-        Ok(machine) => Ok(Follower::new(machine)),
-        Err(fault) => Err(fault),
-    }
-}
-
-// A decoder of a DS18B20.
-fn open_probe(_values: &OptValues, rate: Rate) -> Result<Follower<Probe>, OptFault>
-    ensures opens { IfOk result
-        (λ follower. ConsumedAs _values.now.given rate (AnyMachine.Ds18b20 follower) []) }
-    ensures always { IsOk result }
-{
-    match Probe::open(ProbeOpts {}, rate) {
-        Ok(machine) => Ok(Follower::new(machine)),
-        Err(fault) => Err(fault),
-    }
-}
-
-// A decoder of a serial flash.
-fn open_flash(_values: &OptValues, rate: Rate) -> Result<Follower<Flash>, OptFault>
-    ensures opens { IfOk result
-        (λ follower. ConsumedAs _values.now.given rate (AnyMachine.Flash25 follower) []) }
-    ensures always { IsOk result }
-{
-    match Flash::open(FlashOpts {}, rate) {
-        Ok(machine) => Ok(Follower::new(machine)),
-        Err(fault) => Err(fault),
-    }
-}
-
-// A decoder of the messages of a serial line with values in range.
-fn open_modbus(values: &OptValues, rate: Rate) -> Result<Follower<Modbus>, OptFault>
-    requires range { in_range MOST_PINS Kind.Modbus values.now.given ≡ true }
-    requires rate { rate.num ≤ 10 ^ 15 }
-    ensures opens { IfOk result
-        (λ follower. ConsumedAs values.now.given rate (AnyMachine.Modbus follower) []) }
-    ensures always { IsOk result }
-{
-    match Modbus::open(modbus_options(values), rate) {
-        Ok(machine) => Ok(Follower::new(machine)),
-        Err(fault) => Err(fault),
-    }
-}
-
-// A decoder of MIDI.
-fn open_midi(_values: &OptValues, rate: Rate) -> Result<Follower<Midi>, OptFault>
-    ensures opens { IfOk result
-        (λ follower. ConsumedAs _values.now.given rate (AnyMachine.Midi follower) []) }
-    ensures always { IsOk result }
-{
-    match Midi::open(MidiOpts {}, rate) {
-        Ok(machine) => Ok(Follower::new(machine)),
-        Err(fault) => Err(fault),
-    }
-}
-
 // A machine of a kind, of values in range.
 fn open_machine(kind: Kind, values: &OptValues, rate: Rate) -> Result<AnyMachine, OptFault>
     requires range { in_range MOST_PINS kind values.now.given ≡ true }
@@ -198,54 +55,30 @@ fn open_machine(kind: Kind, values: &OptValues, rate: Rate) -> Result<AnyMachine
     ensures fault { IfErr result (λ fault. fault ≡ TooSlow) }
 {
     match kind {
-        Kind::I2c => match open_i2c(values, rate) {
-            Ok(driver) => Ok(AnyMachine::I2c(driver)),
-            Err(fault) => Err(fault),
-        },
-        Kind::Spi => match open_spi(values, rate) {
-            Ok(driver) => Ok(AnyMachine::Spi(driver)),
-            Err(fault) => Err(fault),
-        },
-        Kind::Uart => match open_uart(values, rate) {
-            Ok(driver) => Ok(AnyMachine::Uart(driver)),
-            Err(fault) => Err(fault),
-        },
-        Kind::OwLink => match open_link(values, rate) {
-            Ok(driver) => Ok(AnyMachine::OwLink(driver)),
-            Err(fault) => Err(fault),
-        },
-        Kind::OwNet => match open_net(values, rate) {
-            Ok(follower) => Ok(AnyMachine::OwNet(follower)),
-            Err(fault) => Err(fault),
-        },
-        Kind::Eeprom24 => match open_eeprom(values, rate) {
-            Ok(follower) => Ok(AnyMachine::Eeprom24(follower)),
-            Err(fault) => Err(fault),
-        },
-        Kind::Ds1307 => match open_clock(values, rate) {
-            Ok(follower) => Ok(AnyMachine::Ds1307(follower)),
-            Err(fault) => Err(fault),
-        },
-        Kind::Lm75 => match open_lm75(values, rate) {
-            Ok(follower) => Ok(AnyMachine::Lm75(follower)),
-            Err(fault) => Err(fault),
-        },
-        Kind::Ds18b20 => match open_probe(values, rate) {
-            Ok(follower) => Ok(AnyMachine::Ds18b20(follower)),
-            Err(fault) => Err(fault),
-        },
-        Kind::Flash25 => match open_flash(values, rate) {
-            Ok(follower) => Ok(AnyMachine::Flash25(follower)),
-            Err(fault) => Err(fault),
-        },
-        Kind::Modbus => match open_modbus(values, rate) {
-            Ok(follower) => Ok(AnyMachine::Modbus(follower)),
-            Err(fault) => Err(fault),
-        },
-        Kind::Midi => match open_midi(values, rate) {
-            Ok(follower) => Ok(AnyMachine::Midi(follower)),
-            Err(fault) => Err(fault),
-        },
+        Kind::I2c => Ok(AnyMachine::I2c(Driver::new(I2c::open(i2c_options(values), rate)?))),
+        Kind::Spi => Ok(AnyMachine::Spi(Driver::new(Spi::open(spi_options(values), rate)?))),
+        Kind::Uart => Ok(AnyMachine::Uart(open_uart(values, rate)?)),
+        Kind::OwLink => Ok(AnyMachine::OwLink(Driver::new(OwLink::open(
+            link_options(values),
+            rate,
+        )?))),
+        Kind::OwNet => Ok(AnyMachine::OwNet(Follower::new(OwNet::open(OwNetOpts {}, rate)?))),
+        Kind::Eeprom24 => Ok(AnyMachine::Eeprom24(Follower::new(Eeprom::open(
+            eeprom_options(values),
+            rate,
+        )?))),
+        Kind::Ds1307 => Ok(AnyMachine::Ds1307(Follower::new(Clock::open(
+            clock_options(values),
+            rate,
+        )?))),
+        Kind::Lm75 => Ok(AnyMachine::Lm75(Follower::new(Lm75::open(lm75_options(values), rate)?))),
+        Kind::Ds18b20 => Ok(AnyMachine::Ds18b20(Follower::new(Probe::open(ProbeOpts {}, rate)?))),
+        Kind::Flash25 => Ok(AnyMachine::Flash25(Follower::new(Flash::open(FlashOpts {}, rate)?))),
+        Kind::Modbus => Ok(AnyMachine::Modbus(Follower::new(Modbus::open(
+            modbus_options(values),
+            rate,
+        )?))),
+        Kind::Midi => Ok(AnyMachine::Midi(Follower::new(Midi::open(MidiOpts {}, rate)?))),
     }
 }
 
