@@ -1,19 +1,23 @@
 -- What a machine of one kind promises, for a decoder that holds it.
-use Rattle.std.proofs.Common.{◌≡◌, ◌≤◌, ℕ, List, ◌++◌, Option, sym, ◌∙◌, ap, subst}
+use Rattle.std.proofs.Common.{◌≡◌, ◌≤◌, ℕ, Bool, true, false, List, ◌++◌, Option, refl, sym, ◌∙◌}
+use Rattle.std.proofs.Common.{ap, subst}
 use Rattle.la_base.specs.declared.samples.Rate.{Rate}
 use Rattle.la_base.specs.declared.samples.Run.{Run}
 use Rattle.la_base.specs.declared.wires.Feed.{Feed}
 use Rattle.la_base.specs.declared.wires.Out.{Out}
 use Rattle.decoder_core.specs.Driving.{ReachesStop, Steps, StepsRuns, StopsFirst}
 use Rattle.decoder_core.specs.Inputs.{Item}
+use Rattle.decoder_core.specs.Keeping.{StandsAs}
 use Rattle.decoder_core.specs.Packets.{IsFloorOver}
 use Rattle.decoder_set.specs.declared.any_machine.AnyMachine.{AnyMachine}
 use Rattle.kind_table.specs.declared.kinds.Kind.{Kind}
 use Rattle.decoder_set.specs.declared.setup.Setup.{Setup}
-use Rattle.decoder_set.specs.Members.{IsMember}
-use Rattle.decoder_set.specs.Opening.{Consumed, ConsumedAs, SleepsBy}
-use Rattle.decoder_set.specs.Owning.{IsOwn, OwnAs}
+use Rattle.decoder_set.specs.Members.{IsMember, Loaded}
+use Rattle.decoder_set.specs.Opening.{Consumed, SleepsBy}
+use Rattle.decoder_set.specs.Owning.{IsOwn}
+use Rattle.decoder_set.specs.Saving.{SavedBy, Savers, SavesAs}
 use Rattle.decoder_set.specs.Setups.{near_by, outs_by}
+use Rattle.decoder_set.specs.Views.{Parts, parts_of, view_in}
 use Rattle.decoder_set.proofs.Seen.{reaches_seen, steps_seen, stops_seen}
 
 module _ {M S : Type 0} {kind : Kind} {held : M → AnyMachine}
@@ -139,37 +143,6 @@ module _ {M S : Type 0} {kind : Kind} {held : M → AnyMachine}
         let w = before input has in
         subst (λ (n : ℕ). n ≤ floor) (sym (near_is old w.is w.its input above)) (below input w.has)
 
--- what is said of machines of one setup holds of those of the same values and rate
-module _ {M S : Type 0} {kind : Kind} {held : M → AnyMachine}
-    {own : List (Option ℕ) → Rate → S → Type 0} {setup_of : M → S}
-    {outputs : S → List Item → List Out} {near : S → List Item → ℕ → ℕ}
-    {consumed : M → List Item → Type 0} {sleeps : M → List Item → List Item → Type 0}
-    (laws : IsMember kind held own setup_of outputs near consumed sleeps)
-    (values : List (Option ℕ)) (rate : Rate) where
-  its_own : (machine : M) → OwnAs values rate (held machine) → own values rate (setup_of machine)
-  its_own machine is = (laws.shows machine).own_of values rate is
-
-  pub held_none : {X : Type 0} (old other : M) → OwnAs values rate (held other)
-      → OwnAs values rate (held old) → (setup_of other ≡ setup_of old → X) → X
-  held_none old other its mine none =
-      none (laws.one_setup values rate (setup_of other) (setup_of old) (its_own other its)
-      (its_own old mine))
-
-  pub held_stands : (old new other : M) (input : List Item) → setup_of new ≡ setup_of old
-      → ConsumedAs values rate (held other) input → OwnAs values rate (held old)
-      → (setup_of other ≡ setup_of new → consumed other input → consumed new input)
-      → ConsumedAs values rate (held new) input
-  held_stands old new other input same has mine stands =
-      let b = laws.shows new in
-      let its = its_own old mine in
-      let one = laws.one_setup values rate (setup_of other) (setup_of old)
-      (its_own other has.own) its in
-      record {
-        own = b.own_as values rate (subst (λ (s : S). own values rate s) (sym same) its);
-        consumed = b.consumed_as input
-            (stands (one ∙ sym same) ((laws.shows other).consumed_of input has.consumed));
-      }
-
 -- a machine whose setup stays is of its kind, and has its options, as before
 module _ {M S : Type 0} {kind : Kind} {held : M → AnyMachine}
     {own : List (Option ℕ) → Rate → S → Type 0} {setup_of : M → S}
@@ -187,3 +160,75 @@ module _ {M S : Type 0} {kind : Kind} {held : M → AnyMachine}
             (subst (λ (s : S). own setup.values.given setup.rate s) (sym same)
             (a.own_of setup.values.given setup.rate mine.1)),
       )
+
+-- what a machine saves and takes, by a table that says of its kind what it does
+module _ {M S : Type 0} {kind : Kind} {held : M → AnyMachine}
+    {own : List (Option ℕ) → Rate → S → Type 0} {setup_of : M → S}
+    {outputs : S → List Item → List Out} {near : S → List Item → ℕ → ℕ}
+    {consumed : M → List Item → Type 0} {sleeps : M → List Item → List Item → Type 0}
+    (laws : IsMember kind held own setup_of outputs near consumed sleeps) {by : Savers}
+    {saves : M → List ℕ → Type 0} (saved : SavesAs by held saves) where
+  pub held_saved : (machine : M) (bytes : List ℕ) → saves machine bytes → (whole : AnyMachine)
+      → whole ≡ held machine → SavedBy by whole bytes
+  held_saved machine bytes saves whole is =
+      subst (λ (m : AnyMachine). SavedBy by m bytes) (sym is) ((saved machine bytes).1 saves)
+
+  -- another machine that is of the setup of this one, and saves these bytes
+  module _ (old : M) (bytes : List ℕ) (setup : Setup) (other : AnyMachine)
+      (mine : IsOwn setup (held old)) (theirs : IsOwn setup other)
+      (saving : SavedBy by other bytes) where
+    alike : (m : M) × (parts_of other ≡ parts_of (held m))
+    alike = laws.found other (sym (laws.shows old).kind_is ∙ sym mine.0 ∙ theirs.0)
+
+    alike_saves : saves alike.0 bytes
+    alike_saves =
+        (saved alike.0 bytes).0
+        (record { its = subst (λ (p : Parts). by p.0 p.1 bytes) alike.1 saving.its })
+
+    abbrev Owns : Parts → Type 0
+    Owns p = (view_in p.0 p.1).own setup.values.given setup.rate
+
+    alike_setup : setup_of alike.0 ≡ setup_of old
+    alike_setup =
+        laws.one_setup setup.values.given setup.rate (setup_of alike.0) (setup_of old)
+        ((laws.shows alike.0).own_of setup.values.given setup.rate (subst Owns alike.1 theirs.1))
+        ((laws.shows old).own_of setup.values.given setup.rate mine.1)
+
+    abbrev Has : List Item → Parts → Type 0
+    Has input p = (view_in p.0 p.1).consumed input
+
+    alike_consumed : (input : List Item) → Has input (parts_of other) → consumed alike.0 input
+    alike_consumed input has = (laws.shows alike.0).consumed_of input (subst (Has input) alike.1 has)
+
+  pub held_loaded : (old new : M) (taken : Bool) (bytes : List ℕ) → setup_of new ≡ setup_of old
+      → (taken ≡ true → saves new bytes)
+      → (taken ≡ false → (other : M) → setup_of other ≡ setup_of old → ¬ saves other bytes)
+      → (taken ≡ false → new ≡ old)
+      → (taken ≡ true → StandsAs setup_of consumed saves new bytes)
+      → (whole : AnyMachine) → whole ≡ held old → Loaded by whole (held new) taken bytes
+  held_loaded old new taken bytes same loaded none stays stands whole is =
+      subst (λ (m : AnyMachine). Loaded by m (held new) taken bytes) (sym is) record {
+        own = λ setup. owns setup;
+        loaded = λ done. (saved new bytes).1 (loaded done);
+        same = λ done. ap held (stays done);
+        none = λ done setup other mine theirs saving.
+            none done (alike old bytes setup other mine theirs saving).0
+            (alike_setup old bytes setup other mine theirs saving)
+            (alike_saves old bytes setup other mine theirs saving);
+        stands = λ done setup other input mine saving has.
+            let theirs : IsOwn setup other = (has.0, has.1.own) in
+            let after = owns setup mine in (
+              after.0,
+              record {
+                own = after.1;
+                consumed = (laws.shows new).consumed_as input
+                    (stands done (alike old bytes setup other mine theirs saving).0 input
+                    (alike_setup old bytes setup other mine theirs saving ∙ sym same)
+                    (alike_saves old bytes setup other mine theirs saving)
+                    (alike_consumed old bytes setup other mine theirs saving input has.1.consumed));
+              },
+            );
+      }
+    where
+      owns : (setup : Setup) → IsOwn setup (held old) → IsOwn setup (held new)
+      owns setup = still_own laws setup old new (held old) refl same

@@ -1,5 +1,5 @@
 -- What a machine of one kind owes a decoder of any kind that holds it.
-use Rattle.std.specs.Prelude.{ℕ, ◌≡◌, ◌≤◌, List, Option}
+use Rattle.std.specs.Prelude.{ℕ, ◌≡◌, ◌≤◌, Bool, true, false, List, Option}
 use Rattle.la_base.specs.declared.samples.Rate.{Rate}
 use Rattle.la_base.specs.declared.wires.Out.{Out}
 use Rattle.la_base.specs.declared.samples.Run.{Run}
@@ -13,7 +13,8 @@ use Rattle.decoder_set.specs.declared.setup.Setup.{Setup}
 use Rattle.decoder_set.specs.Opening.{Consumed, SleepsBy}
 use Rattle.decoder_set.specs.Owning.{IsOwn}
 use Rattle.decoder_set.specs.Setups.{near_by, outs_by}
-use Rattle.decoder_set.specs.Views.{kind_in, view_of}
+use Rattle.decoder_set.specs.Saving.{SavedBy, Savers}
+use Rattle.decoder_set.specs.Views.{kind_in, parts_of, view_of}
 
 -- what is seen of a machine is this
 pub record Shows (machine : AnyMachine) (kind : Kind) (own : List (Option ℕ) → Rate → Type 0)
@@ -28,13 +29,16 @@ pub record Shows (machine : AnyMachine) (kind : Kind) (own : List (Option ℕ) �
   pub awake : (input more : List Item) → (view_of machine).sleeps input more → sleeps input more
   pub asleep : (input more : List Item) → sleeps input more → (view_of machine).sleeps input more
 
--- a decoder sees of it what it says itself; what it gives is what values and rate give its kind
--- where its setup is theirs; and they mean one setup
+-- each machine of its kind holds what one of its type does; a decoder sees of it what it says
+-- itself; what it gives is what values and rate give its kind where its setup is theirs; and they
+-- mean one setup
 pub record IsMember {M S : Type 0} (kind : Kind) (held : M → AnyMachine)
     (own : List (Option ℕ) → Rate → S → Type 0) (setup : M → S)
     (outputs : S → List Item → List Out) (near : S → List Item → ℕ → ℕ)
     (consumed : M → List Item → Type 0) (sleeps : M → List Item → List Item → Type 0)
     : Type 0 where
+  pub found : (machine : AnyMachine) → kind ≡ kind_in machine
+      → (own : M) × (parts_of machine ≡ parts_of (held own))
   pub shows : (machine : M)
       → Shows (held machine) kind (λ values rate. own values rate (setup machine))
       (consumed machine) (sleeps machine)
@@ -88,3 +92,16 @@ pub record Floored (machine : AnyMachine) (above floor : ℕ) : Type 0 where
       → IsFloorOver above (outs_by kind values rate) input floor
   pub near : (kind : Kind) (values : List (Option ℕ)) (rate : Rate) (input : List Item)
       → Consumed kind values rate machine input → near_by kind values rate input above ≤ floor
+
+-- a machine took the state that bytes tell, or stayed as it was where none of its kind and options
+-- saves them: it has then consumed what each of these has consumed that does
+pub record Loaded (by : Savers) (old new : AnyMachine) (taken : Bool) (bytes : List ℕ) : Type 0 where
+  pub own : (setup : Setup) → IsOwn setup old → IsOwn setup new
+  pub loaded : taken ≡ true → SavedBy by new bytes
+  pub same : taken ≡ false → new ≡ old
+  pub none : taken ≡ false → (setup : Setup) (other : AnyMachine) → IsOwn setup old
+      → IsOwn setup other → ¬ SavedBy by other bytes
+  pub stands : taken ≡ true → (setup : Setup) (other : AnyMachine) (input : List Item)
+      → IsOwn setup old → SavedBy by other bytes
+      → Consumed setup.kind setup.values.given setup.rate other input
+      → Consumed setup.kind setup.values.given setup.rate new input

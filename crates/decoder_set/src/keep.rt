@@ -1,62 +1,24 @@
 // A decoder of any kind is kept as its machine is.
-ghost use Rattle.std.proofs.Common.{sym, ◌∙◌};
 ghost use Rattle.decoder_set.specs.Saving.{SavedBy};
-ghost use Rattle.kind_table.specs.declared.kinds.Kind.TheVariants as kind;
-ghost use Rattle.decoder_set.specs.laws.SavedLaws.{any_one_saved, drivers_alike, followers_alike};
+ghost use Rattle.decoder_set.specs.laws.SavedLaws.{any_one_saved};
 
 use crate::AnyDecoder;
-use crate::any_machine::{AnyMachine, each};
-use crate::member::load;
-use dec_i2c::I2c;
-use dec_midi::Midi;
-use dec_modbus::Modbus;
-use dec_onewire::{OwLink, OwNet};
-use dec_spi::Spi;
-use dec_uart::Uart;
-use decoder_core::{Driver, Follower, Keep, Saved};
-use dev_ds18b20::Probe;
-use dev_ds1307::Clock;
-use dev_eeprom24::Eeprom;
-use dev_flash25::Flash;
-use dev_lm75::Lm75;
-use i2c_phases::Phased;
+use crate::savers::{EachKind, SavedByKind};
+use crate::stepping::{load_any, save_any};
+use decoder_core::{Keep, Saved};
 
 impl Keep for AnyDecoder {
-    ghost saves = { λ d bytes. SavedBy (elim [
-      | kind.I2c ↦ ⟦<Driver<I2c> as Keep>⟧.saves
-      | kind.Spi ↦ ⟦<Driver<Spi> as Keep>⟧.saves
-      | kind.Uart ↦ ⟦<Driver<Uart> as Keep>⟧.saves
-      | kind.OwLink ↦ ⟦<Driver<OwLink> as Keep>⟧.saves
-      | kind.OwNet ↦ ⟦<Follower<OwNet> as Keep>⟧.saves
-      | kind.Eeprom24 ↦ ⟦<Follower<Phased<Eeprom>> as Keep>⟧.saves
-      | kind.Ds1307 ↦ ⟦<Follower<Phased<Clock>> as Keep>⟧.saves
-      | kind.Lm75 ↦ ⟦<Follower<Phased<Lm75>> as Keep>⟧.saves
-      | kind.Ds18b20 ↦ ⟦<Follower<Probe> as Keep>⟧.saves
-      | kind.Flash25 ↦ ⟦<Follower<Flash> as Keep>⟧.saves
-      | kind.Modbus ↦ ⟦<Follower<Modbus> as Keep>⟧.saves
-      | kind.Midi ↦ ⟦<Follower<Midi> as Keep>⟧.saves
-    ]) d.machine bytes };
+    ghost saves = { λ d bytes. SavedBy ⟦<EachKind as SavedByKind>⟧.saves d.machine bytes };
 
     fn save(&self) -> Saved {
-        each!(&self.machine, held => held.save())
+        save_any(&self.machine)
     }
 
     fn load(&mut self, saved: &Saved) -> bool {
-        each!(&mut self.machine, held => load(held, saved))
+        load_any(&mut self.machine, saved)
     }
 
-    ghost one_saved = { λ one other input a b same d e s t. any_one_saved _ (elim [
-      | kind.I2c ↦ drivers_alike (λ machine one other mine theirs. mine.1 ∙ sym theirs.1)
-      | kind.Spi ↦ drivers_alike (λ machine one other mine theirs. mine.1 ∙ sym theirs.1)
-      | kind.Uart ↦ drivers_alike (λ machine one other mine theirs. mine.1 ∙ sym theirs.1)
-      | kind.OwLink ↦ drivers_alike (λ machine one other mine theirs. mine.1 ∙ sym theirs.1)
-      | kind.OwNet ↦ followers_alike (λ machine one other mine theirs. mine.1 ∙ sym theirs.1)
-      | kind.Eeprom24 ↦ followers_alike (λ machine one other mine theirs. mine.1 ∙ sym theirs.1)
-      | kind.Ds1307 ↦ followers_alike (λ machine one other mine theirs. mine.1 ∙ sym theirs.1)
-      | kind.Lm75 ↦ followers_alike (λ machine one other mine theirs. mine.1 ∙ sym theirs.1)
-      | kind.Ds18b20 ↦ followers_alike (λ machine one other mine theirs. mine.1 ∙ sym theirs.1)
-      | kind.Flash25 ↦ followers_alike (λ machine one other mine theirs. mine.1 ∙ sym theirs.1)
-      | kind.Modbus ↦ followers_alike (λ machine one other mine theirs. mine.1 ∙ sym theirs.1)
-      | kind.Midi ↦ followers_alike (λ machine one other mine theirs. mine.1 ∙ sym theirs.1)
-    ]) one other input a b same d e s t };
+    ghost one_saved = { λ one other input a b same d e s t. any_one_saved
+        ⟦<EachKind as SavedByKind>⟧.saves ⟦<EachKind as SavedByKind>⟧.one_saved one other input a b
+        same d e s t };
 }

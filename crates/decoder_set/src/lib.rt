@@ -10,6 +10,7 @@ mod member;
 mod members;
 mod opening;
 mod options;
+mod savers;
 mod setup;
 mod stepping;
 mod texts;

@@ -1,19 +1,17 @@
 // What a machine of one kind owes a decoder of any kind that holds it, and what follows.
 ghost use Rattle.std.specs.Prelude.{◌≡◌, ◌≤◌, ◌<◌, [], ℕ, List, Option, length, take};
-ghost use Rattle.std.specs.Prelude.{true, false};
 ghost use Rattle.la_base.specs.Runs.{samples_of};
 ghost use Rattle.la_base.specs.declared.samples.Rate.{Rate};
 ghost use Rattle.la_base.specs.declared.wires.Feed.TheVariants as feed;
 ghost use Rattle.decoder_core.specs.Driving.{LeavesFewer};
-ghost use Rattle.decoder_core.specs.Inputs.{Item, left_feed};
+ghost use Rattle.decoder_core.specs.Inputs.{left_feed};
 ghost use Rattle.decoder_set.specs.declared.any_machine.AnyMachine.{AnyMachine};
 ghost use Rattle.kind_table.specs.declared.kinds.Kind.{Kind};
-ghost use Rattle.decoder_set.specs.declared.setup.Setup.{Setup};
-ghost use Rattle.decoder_set.specs.Members.{Floored, IsMember, Stepped, SteppedRun};
+ghost use Rattle.decoder_set.specs.Members.{Floored, IsMember, Loaded, Stepped, SteppedRun};
 ghost use Rattle.decoder_set.specs.Members.{SteppedRuns};
-ghost use Rattle.decoder_set.specs.Opening.{ConsumedAs};
-ghost use Rattle.decoder_set.specs.Owning.{IsOwn, OwnAs};
+ghost use Rattle.decoder_set.specs.Saving.{SavedBy, SavesAs};
 
+use crate::savers::{EachKind, SavedByKind};
 use decoder_core::{Keep, Outs, Saved, Taken};
 use la_base::{Feed, Run};
 
@@ -31,6 +29,9 @@ pub trait Member: Keep {
     /// *Member*: a decoder sees of it what it says of itself.
     ghost member: { IsMember kind held own Self.setup Self.outputs Self.near Self.consumed
         Self.sleeps };
+
+    /// *Saved*: it saves what the table says of its kind.
+    ghost saved: { SavesAs ⟦<EachKind as SavedByKind>⟧.saves held Self.saves };
 }
 
 /// As `step`, for whichever machine this one is.
@@ -75,19 +76,19 @@ pub fn floor<M: Member>(machine: &M, above: u64) -> u64
     machine.floor(above)
 }
 
-/// As `load`, for a decoder of any values and rate that holds this machine.
+/// As `save`, for whichever machine this one is.
+pub fn save<M: Member>(machine: &M) -> Saved
+    ensures { (whole : AnyMachine) → whole ≡ M.held machine.now
+        → SavedBy ⟦<EachKind as SavedByKind>⟧.saves whole result.items }
+{
+    machine.save()
+}
+
+/// As `load`, for whichever machine this one is.
 pub fn load<M: Member>(machine: &mut M, saved: &Saved) -> bool
-    ensures own { (setup : Setup) (whole : AnyMachine) → whole ≡ M.held machine.old
-        → IsOwn setup whole → IsOwn setup (M.held machine.new) }
-    ensures loaded { result ≡ true → M.saves machine.new saved.now.items }
-    ensures same { result ≡ false → machine.new ≡ machine.old }
-    ensures none { result ≡ false → (values : List (Option ℕ)) (rate : Rate) (other : M)
-        → OwnAs values rate (M.held other) → OwnAs values rate (M.held machine.old)
-        → ¬ M.saves other saved.now.items }
-    ensures stands { result ≡ true → (values : List (Option ℕ)) (rate : Rate) (other : M)
-        (input : List Item) → M.saves other saved.now.items
-        → ConsumedAs values rate (M.held other) input → OwnAs values rate (M.held machine.old)
-        → ConsumedAs values rate (M.held machine.new) input }
+    ensures { (whole : AnyMachine) → whole ≡ M.held machine.old
+        → Loaded ⟦<EachKind as SavedByKind>⟧.saves whole (M.held machine.new) result
+        saved.now.items }
 {
     machine.load(saved)
 }

@@ -24,6 +24,8 @@ ghost use Rattle.decoder_set.specs.Views.{IsAny, IsClock, IsEeprom, IsI2c, IsLin
 ghost use Rattle.decoder_set.specs.Views.{IsModbus, IsSpi, IsUart};
 ghost use Rattle.decoder_set.specs.laws.MemberLaws.{same_bus, same_dq, same_line, same_modbus};
 ghost use Rattle.decoder_set.specs.laws.MemberLaws.{shown};
+ghost use Rattle.decoder_set.specs.laws.OneDecoder.{of_kind};
+ghost use Rattle.decoder_set.specs.laws.SavedLaws.{saved_as};
 
 use crate::member::Member;
 use dec_i2c::I2c;
@@ -48,6 +50,7 @@ impl Member for Driver<I2c> {
     ghost own = { λ values rate bus. IsI2c (i2c_options values) bus };
 
     ghost member = { record {
+      found = of_kind kind.I2c;
       shows = λ held. shown (machine.I2c held);
       outs_are = λ values rate bus own input.
           (λ i. i2c_outs (sym own.0 i) (sym own.1 i) (counted_samples input));
@@ -56,6 +59,8 @@ impl Member for Driver<I2c> {
       one_setup = λ values rate a b one other.
           same_bus a b (one.0 ∙ sym other.0) (one.1 ∙ sym other.1);
     } };
+
+    ghost saved = { λ held bytes. saved_as (machine.I2c held) bytes };
 }
 
 impl Member for Driver<Spi> {
@@ -66,11 +71,14 @@ impl Member for Driver<Spi> {
     ghost own = { λ values rate opts. IsSpi (spi_options values) opts };
 
     ghost member = { record {
+      found = of_kind kind.Spi;
       shows = λ held. shown (machine.Spi held);
       outs_are = λ values rate opts own input. (λ i. spi_outs (sym own i) (counted_samples input));
       near_is = λ values rate opts own input above. (λ i. spi_near (sym own i) (counted_samples input));
       one_setup = λ values rate a b one other. one ∙ sym other;
     } };
+
+    ghost saved = { λ held bytes. saved_as (machine.Spi held) bytes };
 }
 
 impl Member for Driver<Uart> {
@@ -81,6 +89,7 @@ impl Member for Driver<Uart> {
     ghost own = { λ values rate line. IsUart (uart_options values) rate line };
 
     ghost member = { record {
+      found = of_kind kind.Uart;
       shows = λ held. shown (machine.Uart held);
       outs_are = λ values rate line own input.
           (λ i. uart_outs (sym own.0 i) (sym own.1 i) (counted_samples input));
@@ -89,6 +98,8 @@ impl Member for Driver<Uart> {
       one_setup = λ values rate a b one other.
           same_line a b (one.0 ∙ sym other.0) (one.1 ∙ sym other.1);
     } };
+
+    ghost saved = { λ held bytes. saved_as (machine.Uart held) bytes };
 }
 
 impl Member for Driver<OwLink> {
@@ -99,6 +110,7 @@ impl Member for Driver<OwLink> {
     ghost own = { λ values rate line. IsLink (link_options values) rate line };
 
     ghost member = { record {
+      found = of_kind kind.OwLink;
       shows = λ held. shown (machine.OwLink held);
       outs_are = λ values rate line own input.
           (λ i. link_outs (sym own.0 i) (sym own.1 i) (counted_samples input));
@@ -107,6 +119,8 @@ impl Member for Driver<OwLink> {
       one_setup = λ values rate a b one other.
           same_dq a b (one.0 ∙ sym other.0) (one.1 ∙ sym other.1);
     } };
+
+    ghost saved = { λ held bytes. saved_as (machine.OwLink held) bytes };
 }
 
 impl Member for Follower<OwNet> {
@@ -117,11 +131,14 @@ impl Member for Follower<OwNet> {
     ghost own = { λ values rate setup. IsAny setup };
 
     ghost member = { record {
+      found = of_kind kind.OwNet;
       shows = λ held. shown (machine.OwNet held);
       outs_are = λ values rate setup own input. refl;
       near_is = λ values rate setup own input above. refl;
       one_setup = λ values rate a b one other. refl;
     } };
+
+    ghost saved = { λ held bytes. saved_as (machine.OwNet held) bytes };
 }
 
 impl Member for Follower<Phased<Eeprom>> {
@@ -132,6 +149,7 @@ impl Member for Follower<Phased<Eeprom>> {
     ghost own = { λ values rate chip. IsEeprom (eeprom_options values) chip };
 
     ghost member = { record {
+      found = of_kind kind.Eeprom24;
       shows = λ held. shown (machine.Eeprom24 held);
       outs_are = λ values rate chip own input.
           (λ i. eeprom_outs (sym own i) (counted_packets wire.I2c input))
@@ -139,6 +157,8 @@ impl Member for Follower<Phased<Eeprom>> {
       near_is = λ values rate chip own input above. refl;
       one_setup = λ values rate a b one other. one ∙ sym other;
     } };
+
+    ghost saved = { λ held bytes. saved_as (machine.Eeprom24 held) bytes };
 }
 
 impl Member for Follower<Phased<Clock>> {
@@ -149,6 +169,7 @@ impl Member for Follower<Phased<Clock>> {
     ghost own = { λ values rate chip. IsClock (clock_options values) chip };
 
     ghost member = { record {
+      found = of_kind kind.Ds1307;
       shows = λ held. shown (machine.Ds1307 held);
       outs_are = λ values rate chip own input.
           (λ i. clock_outs (sym own i) (counted_packets wire.I2c input))
@@ -156,6 +177,8 @@ impl Member for Follower<Phased<Clock>> {
       near_is = λ values rate chip own input above. refl;
       one_setup = λ values rate a b one other. one ∙ sym other;
     } };
+
+    ghost saved = { λ held bytes. saved_as (machine.Ds1307 held) bytes };
 }
 
 impl Member for Follower<Phased<Lm75>> {
@@ -166,6 +189,7 @@ impl Member for Follower<Phased<Lm75>> {
     ghost own = { λ values rate chip. IsLm75 (lm75_options values) chip };
 
     ghost member = { record {
+      found = of_kind kind.Lm75;
       shows = λ held. shown (machine.Lm75 held);
       outs_are = λ values rate chip own input.
           (λ i. lm75_outs (sym own i) (counted_packets wire.I2c input))
@@ -173,6 +197,8 @@ impl Member for Follower<Phased<Lm75>> {
       near_is = λ values rate chip own input above. refl;
       one_setup = λ values rate a b one other. one ∙ sym other;
     } };
+
+    ghost saved = { λ held bytes. saved_as (machine.Lm75 held) bytes };
 }
 
 impl Member for Follower<Probe> {
@@ -183,11 +209,14 @@ impl Member for Follower<Probe> {
     ghost own = { λ values rate setup. IsAny setup };
 
     ghost member = { record {
+      found = of_kind kind.Ds18b20;
       shows = λ held. shown (machine.Ds18b20 held);
       outs_are = λ values rate setup own input. refl;
       near_is = λ values rate setup own input above. refl;
       one_setup = λ values rate a b one other. refl;
     } };
+
+    ghost saved = { λ held bytes. saved_as (machine.Ds18b20 held) bytes };
 }
 
 impl Member for Follower<Flash> {
@@ -198,11 +227,14 @@ impl Member for Follower<Flash> {
     ghost own = { λ values rate setup. IsAny setup };
 
     ghost member = { record {
+      found = of_kind kind.Flash25;
       shows = λ held. shown (machine.Flash25 held);
       outs_are = λ values rate setup own input. refl;
       near_is = λ values rate setup own input above. refl;
       one_setup = λ values rate a b one other. refl;
     } };
+
+    ghost saved = { λ held bytes. saved_as (machine.Flash25 held) bytes };
 }
 
 impl Member for Follower<Modbus> {
@@ -213,6 +245,7 @@ impl Member for Follower<Modbus> {
     ghost own = { λ values rate line. IsModbus (modbus_options values) rate line };
 
     ghost member = { record {
+      found = of_kind kind.Modbus;
       shows = λ held. shown (machine.Modbus held);
       outs_are = λ values rate line own input.
           (λ i. modbus_outs (gap_of (sym own.0 i) (sym own.1 i)) (counted_packets wire.Uart input));
@@ -221,6 +254,8 @@ impl Member for Follower<Modbus> {
       one_setup = λ values rate a b one other.
           same_modbus a b (one.0 ∙ sym other.0) (one.1 ∙ sym other.1);
     } };
+
+    ghost saved = { λ held bytes. saved_as (machine.Modbus held) bytes };
 }
 
 impl Member for Follower<Midi> {
@@ -231,9 +266,12 @@ impl Member for Follower<Midi> {
     ghost own = { λ values rate setup. IsAny setup };
 
     ghost member = { record {
+      found = of_kind kind.Midi;
       shows = λ held. shown (machine.Midi held);
       outs_are = λ values rate setup own input. refl;
       near_is = λ values rate setup own input above. refl;
       one_setup = λ values rate a b one other. refl;
     } };
+
+    ghost saved = { λ held bytes. saved_as (machine.Midi held) bytes };
 }

@@ -1,14 +1,17 @@
-// Steps and floors of a machine of any kind.
+// Steps, floors and bytes of a machine of any kind.
 ghost use Rattle.std.specs.Prelude.{◌≤◌, ◌<◌, ◌≡◌, [], length, take};
 ghost use Rattle.la_base.specs.Runs.{samples_of};
 ghost use Rattle.la_base.specs.declared.wires.Feed.TheVariants as feed;
 ghost use Rattle.decoder_core.specs.Driving.{LeavesFewer};
 ghost use Rattle.decoder_core.specs.Inputs.{left_feed};
-ghost use Rattle.decoder_set.specs.Members.{Floored, Stepped, SteppedRun, SteppedRuns};
+ghost use Rattle.decoder_set.specs.Members.{Floored, Loaded, Stepped, SteppedRun};
+ghost use Rattle.decoder_set.specs.Members.{SteppedRuns};
+ghost use Rattle.decoder_set.specs.Saving.{SavedBy};
 
 use crate::any_machine::{AnyMachine, each};
-use crate::member::{floor, step, step_run, step_runs};
-use decoder_core::{Outs, Taken};
+use crate::member::{floor, load, save, step, step_run, step_runs};
+use crate::savers::{EachKind, SavedByKind};
+use decoder_core::{Outs, Saved, Taken};
 use la_base::{Feed, Run};
 
 /// As `step`.
@@ -48,4 +51,19 @@ pub fn floor_any(machine: &AnyMachine, above: u64) -> u64
     ensures { Floored machine.now above result }
 {
     each!(machine, held => floor(held, above))
+}
+
+/// As `save`.
+pub fn save_any(machine: &AnyMachine) -> Saved
+    ensures { SavedBy ⟦<EachKind as SavedByKind>⟧.saves machine.now result.items }
+{
+    each!(machine, held => save(held))
+}
+
+/// As `load`.
+pub fn load_any(machine: &mut AnyMachine, saved: &Saved) -> bool
+    ensures { Loaded ⟦<EachKind as SavedByKind>⟧.saves machine.old machine.new result
+        saved.now.items }
+{
+    each!(machine, held => load(held, saved))
 }

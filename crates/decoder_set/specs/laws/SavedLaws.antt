@@ -1,5 +1,5 @@
 -- Two decoders of one setup that have consumed one input save the same.
-use Rattle.std.specs.Prelude.{ℕ, ◌≡◌, List}
+use Rattle.std.specs.Prelude.{ℕ, ◌≡◌, ◌↔◌, List}
 use Rattle.std.proofs.Common.{subst}
 use Rattle.decoder_core.specs.Inputs.{Item}
 use Rattle.decoder_core.specs.Keeping.{DriverSaves, FollowerSaves, OneForm}
@@ -7,12 +7,18 @@ use Rattle.decoder_core.specs.laws.KeepLaws.{same_followed, same_saved}
 use Rattle.decoder_core.specs.declared.driver.Driver.{Driver}
 use Rattle.decoder_core.specs.declared.follower.Follower.{Follower}
 use Rattle.decoder_set.specs.declared.any.AnyDecoder.{AnyDecoder}
+use Rattle.decoder_set.specs.declared.any_machine.AnyMachine.{AnyMachine}
 use Rattle.kind_table.specs.declared.kinds.Kind.{Kind}
 use Rattle.decoder_set.specs.Views.{Inner, Parts, inner, kind_in}
 use Rattle.decoder_set.specs.Opening.{HasConsumed, setup_of}
 use Rattle.decoder_set.specs.Saving.{SavedBy, Savers}
 use Rattle.decoder_set.specs.Whole.{SameDriver, SameFollower, SameInner}
 use Rattle.decoder_set.specs.laws.OneDecoder.{same_decoder}
+
+-- what a machine saves is what the table says of its kind
+pub saved_as : {by : Savers} (machine : AnyMachine) (bytes : List ℕ)
+    → SavedBy by machine bytes ↔ by (kind_in machine) (inner machine) bytes
+saved_as machine bytes = (λ saved. saved.its, λ saved. record { its = saved })
 
 -- drivers that hold the same save the same, and so do followers
 abbrev pub DriversAlike : {L S : Type 0} → (Driver L S → List ℕ → Type 0) → Type 0
