@@ -10,11 +10,11 @@ use Rattle.dec_i2c.specs.Bus.{i2c_outs}
 use Rattle.dec_uart.specs.Frames.{uart_outs}
 use Rattle.decoder_core.specs.Inputs.{Sample, counted_samples, samples_in}
 use Rattle.decoder_set.specs.Setups.{outs_of}
-use Rattle.made_i2c.specs.Told as bus
-use Rattle.made_i2c.specs.laws.Blocks.{made_told}
-use Rattle.made_uart.specs.Told as line
-use Rattle.made_uart.specs.Told.{made_opts}
-use Rattle.made_uart.specs.laws.MadeLines.{made_tell}
+use Rattle.made_laws.specs.BusTold as bus
+use Rattle.made_laws.specs.laws.BusBlocks.{made_told}
+use Rattle.made_laws.specs.LineTold as line
+use Rattle.made_laws.specs.LineTold.{made_opts}
+use Rattle.made_laws.specs.laws.MadeLines.{made_tell}
 use Rattle.tree_runs.specs.Listings.{notes_of}
 use Rattle.make_job.specs.Making.{bus_setup, line_setup, made_rate, sum_of, tally_of}
 use Rattle.make_job.specs.Sums.{ReadBack, bus_sum, line_sum}

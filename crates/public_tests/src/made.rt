@@ -2,8 +2,7 @@
 use capture_make::{MadeSource, blocks_are_whole, draw, worked_draws_hold};
 use la_io::Source;
 use ldecode::made_captures_are_read_back;
-use made_i2c::made_buses_tell;
-use made_uart::made_lines_tell;
+use made_laws::{made_buses_tell, made_lines_tell};
 use std::alloc::Global;
 use std::test::Fail;
 

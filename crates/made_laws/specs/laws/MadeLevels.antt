@@ -5,7 +5,7 @@ use Rattle.std.proofs.lemmas.List.{map-append}
 use Rattle.la_base.specs.Samples.{is_high}
 use Rattle.capture_make.specs.declared.drawing.Sent.{Sent}
 use Rattle.capture_make.specs.Made.{scl_levels, sda_levels, rx_levels, sample_of, samples_of, block}
-use Rattle.made_uart.specs.Levels.{levels_of}
+use Rattle.made_laws.specs.LineLevels.{levels_of}
 
 -- bit 2 of a sample is the level of the line
 line_in : (scl sda rx : Bool) → is_high (sample_of scl sda rx) 2 ≡ rx

@@ -11,9 +11,9 @@ use Rattle.dec_i2c.specs.Bus.{event_at, start_outs, ack_outs, i2c_outs}
 use Rattle.dec_i2c.specs.Bytes.{address_outs}
 use Rattle.dec_i2c.specs.laws.I2cLaws.{i2c_given}
 use Rattle.dec_i2c.specs.laws.Machine.{clock_next}
-use Rattle.made_i2c.specs.Told.{data_told, bus_told, all_told}
-use Rattle.made_i2c.specs.laws.Levels.{bus_walk, told_from, given_levels, quiet, samples_are}
-use Rattle.made_i2c.specs.laws.Bytes.{between_bytes, bit_given, address_given, data_given, start_given, stop_given}
+use Rattle.made_laws.specs.BusTold.{data_told, bus_told, all_told}
+use Rattle.made_laws.specs.laws.BusLevels.{bus_walk, told_from, given_levels, quiet, samples_are}
+use Rattle.made_laws.specs.laws.BusBytes.{between_bytes, bit_given, address_given, data_given, start_given, stop_given}
 
 -- the sample in which every line is high
 abbrev high : ℕ

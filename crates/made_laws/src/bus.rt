@@ -2,7 +2,7 @@
 ghost use Rattle.std.specs.Prelude.{ℕ, ◌≡◌};
 ghost use Rattle.capture_make.specs.Made.{made, sent_from};
 ghost use Rattle.dec_i2c.specs.Bus.{i2c_outs};
-ghost use Rattle.made_i2c.specs.Told.{all_told};
+ghost use Rattle.made_laws.specs.BusTold.{all_told};
 
 /// For every seed and count, what the I2C definition gives on the samples of a made capture is what
 /// was put on its bus: for each transaction a START, the address with its acknowledge, both data

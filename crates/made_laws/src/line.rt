@@ -3,7 +3,7 @@ ghost use Rattle.std.specs.Prelude.{ℕ, ◌≡◌};
 ghost use Rattle.la_base.specs.declared.samples.Rate.{Rate};
 ghost use Rattle.dec_uart.specs.Frames.{uart_outs};
 ghost use Rattle.capture_make.specs.Made.{made, sent_from};
-ghost use Rattle.made_uart.specs.Told.{made_opts, all_told};
+ghost use Rattle.made_laws.specs.LineTold.{made_opts, all_told};
 
 /// At a million samples a second, a serial line of 100,000 baud in bit 2 of made captures gives the
 /// byte of each transaction, one after another, and nothing else: for every seed and every number

@@ -7,7 +7,7 @@ use Rattle.la_base.specs.declared.wires.Out.{Out}
 use Rattle.capture_make.specs.Made.{ten}
 use Rattle.dec_uart.specs.Chain.{Shape, any_high}
 use Rattle.dec_uart.specs.laws.Machine.{Idle, Inside, Low, is_false_start, after_all, point_gives, point_next}
-use Rattle.made_uart.specs.Levels.{levels_give}
+use Rattle.made_laws.specs.LineLevels.{levels_give}
 
 module _ (c : Shape) where
   -- a line that stays high, or gets high, begins no frame

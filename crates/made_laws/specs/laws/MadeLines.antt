@@ -15,12 +15,12 @@ use Rattle.dec_uart.specs.Ranges.{InRange, FastEnough}
 use Rattle.dec_uart.specs.laws.Grown.{outs_walked}
 use Rattle.dec_uart.specs.laws.LineLaws.{first_bit, bits_rise}
 use Rattle.dec_uart.specs.laws.Machine.{Idle}
-use Rattle.made_uart.specs.Told.{made_opts, line_told, all_told}
-use Rattle.made_uart.specs.Levels.{levels_of, levels_give}
-use Rattle.made_uart.specs.laws.LevelLaws.{by_levels}
-use Rattle.made_uart.specs.laws.BitCells.{idle_ten, start_cell, bit_cells, stop_cell}
-use Rattle.made_uart.specs.laws.Bytes.{byte_again}
-use Rattle.made_uart.specs.laws.MadeLevels.{more_levels}
+use Rattle.made_laws.specs.LineTold.{made_opts, line_told, all_told}
+use Rattle.made_laws.specs.LineLevels.{levels_of, levels_give}
+use Rattle.made_laws.specs.laws.LineLevelLaws.{by_levels}
+use Rattle.made_laws.specs.laws.BitCells.{idle_ten, start_cell, bit_cells, stop_cell}
+use Rattle.made_laws.specs.laws.LineBytes.{byte_again}
+use Rattle.made_laws.specs.laws.MadeLevels.{more_levels}
 
 -- the options are in range
 made_range : InRange 64 made_opts

@@ -4,7 +4,7 @@ use Rattle.la_base.specs.Samples.{is_high}
 use Rattle.sample_walks.specs.Walks.{given_from}
 use Rattle.dec_uart.specs.Chain.{Shape}
 use Rattle.dec_uart.specs.laws.Machine.{Kept, Idle, Inside, Low, line_next, line_gives, line_walk}
-use Rattle.made_uart.specs.Levels.{levels_of, was_high, level_next, level_gives, levels_give}
+use Rattle.made_laws.specs.LineLevels.{levels_of, was_high, level_next, level_gives, levels_give}
 
 module _ (c : Shape) where
   -- one more sample keeps what its level keeps

@@ -10,9 +10,9 @@ use Rattle.dec_i2c.specs.declared.held.Segment.{Segment}
 use Rattle.dec_i2c.specs.Bytes.{read_by, address_outs, byte_outs}
 use Rattle.dec_i2c.specs.Bus.{start_outs, stop_outs, ack_outs}
 use Rattle.dec_i2c.specs.laws.Machine.{grown, role_next, ten_next, clock_gives, clock_next}
-use Rattle.made_i2c.specs.Told.{data_told}
-use Rattle.made_i2c.specs.laws.Levels.{given_levels}
-use Rattle.made_i2c.specs.laws.Values.{byte_by, byte_is, class_is, then_write, half_is, even_is}
+use Rattle.made_laws.specs.BusTold.{data_told}
+use Rattle.made_laws.specs.laws.BusLevels.{given_levels}
+use Rattle.made_laws.specs.laws.BusValues.{byte_by, byte_is, class_is, then_write, half_is, even_is}
 
 -- a segment before the first bit of a byte
 abbrev pub between_bytes : Role → Option ℕ → Segment

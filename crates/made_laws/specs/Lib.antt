@@ -1,0 +1,4 @@
+pub mod BusTold
+pub mod LineTold
+pub mod LineLevels
+pub mod laws
