@@ -5,8 +5,8 @@ ghost use Rattle.check_laws.specs.Resuming.{IsCheckBehind, ResumesAs};
 
 use check_point::{CheckFault, read_check};
 use decoder_core::{Keep, RunEnd};
-use la_io::{MarkTake, RunFeed};
 use stack_direct::run_direct;
+use tree_io::{MarkTake, RunFeed};
 
 /// Loads machines from a checkpoint, and runs their tree on; answers the number of samples that it
 /// was made behind, and how the run ended. Where the word is a checkpoint of machines of their

@@ -2,7 +2,7 @@
 use Rattle.std.proofs.Common.{◌≡◌, ◌≢◌, ◌<◌, ◌≤◌, ◌++◌, not, true, false, Bool, ℕ, List, [], All, map, length, Option, Some, None, Result, Ok, Err, refl, sym, ap, subst, ◌∙◌, arith}
 use Rattle.std.proofs.lemmas.List.{append-nil, length-map}
 use Rattle.la_base.specs.declared.names.NoMemory.{NoMemory as Wanted}
-use Rattle.la_io.specs.Feeds.{together}
+use Rattle.tree_io.specs.Feeds.{together}
 use Rattle.la_io.specs.declared.outside.Sink.{Ghosts as SinkGhosts}
 use Rattle.la_io.specs.declared.outside.Source.{Ghosts as SourceGhosts}
 use Rattle.capture_any.specs.Listings.{ReadCause}

@@ -4,7 +4,7 @@ use Rattle.std.specs.Prelude.{IfOk, OnErr}
 use Rattle.la_base.specs.declared.names.NoMemory.{NoMemory}
 use Rattle.la_base.specs.declared.samples.Run.{Run}
 use Rattle.la_base.specs.declared.wires.Mark.{Mark}
-use Rattle.la_io.specs.Feeds.{together}
+use Rattle.tree_io.specs.Feeds.{together}
 use Rattle.la_io.specs.declared.outside.Sink.{Ghosts as SinkGhosts}
 use Rattle.la_io.specs.declared.outside.Source.{Ghosts as SourceGhosts}
 use Rattle.capture_any.specs.Reading.{is_open_of}

@@ -6,9 +6,9 @@ use Rattle.la_base.proofs.RunLemmas.{count_more, samples_append, samples_len, sa
 use Rattle.la_base.specs.Samples.{samples}
 use Rattle.la_base.specs.Runs.{samples_of}
 use Rattle.la_base.specs.declared.samples.Run.{Run}
-use Rattle.la_io.specs.Feeds.{GivesRuns, together}
+use Rattle.tree_io.specs.Feeds.{GivesRuns, together}
 use Rattle.la_io.proofs.Bytes.{take_past}
-use Rattle.la_io.proofs.Together.{together-last}
+use Rattle.tree_io.proofs.Together.{together-last}
 use Rattle.capture_any.specs.Reading.{is_open_of}
 use Rattle.decode_job.specs.Feeding.{GaveRuns}
 use Rattle.decode_job.specs.UpTo.{GaveOf, GaveUpTo, count_of, has_ended, inner_of, is_past, most_of}

@@ -14,7 +14,7 @@ use Rattle.la_io.specs.Causes.{AppendsFront}
 use Rattle.la_io.proofs.Fronts.{front_longer}
 use Rattle.decoder_core.specs.Inputs.{Item}
 use Rattle.decoder_core.specs.Marks.{FloorsHold, MarksFrom, shown}
-use Rattle.la_io.specs.Feeds.{marks_of}
+use Rattle.tree_io.specs.Feeds.{marks_of}
 use Rattle.decoder_core.specs.Promises.{GivesNothing, KeepsFront}
 use Rattle.decoder_core.specs.Trees.{given}
 use Rattle.decoder_core.specs.declared.end.RunEnd.{RunEnd}
@@ -25,7 +25,7 @@ use Rattle.tree_runs.specs.Passing.{IsForest, NoEnd}
 use Rattle.tree_runs.specs.Reaching.{Reaches}
 use Rattle.tree_runs.specs.Runs.{ToldOn as ToldOf, input_at, nodes_of}
 use Rattle.tree_runs.proofs.Fresh.{reads_nothing}
-use Rattle.la_io.proofs.Taking.{marks-append}
+use Rattle.tree_io.proofs.Taking.{marks-append}
 use Rattle.tree_runs.proofs.Telling.{given_at, given_len}
 use Rattle.stack_spec.specs.Accepting.{Accepted}
 use Rattle.annot_merge.specs.Bounds.{bound_of}

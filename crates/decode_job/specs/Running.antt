@@ -1,7 +1,7 @@
 -- How far a run came, of a feed that had given nothing to a lister that had taken nothing.
 use Rattle.std.specs.Prelude.{ℕ, ◌≡◌, not, true, List, [], Option, Result, Ok, Err, map}
 use Rattle.la_base.specs.declared.names.NoMemory.{NoMemory}
-use Rattle.la_io.specs.Feeds.{together}
+use Rattle.tree_io.specs.Feeds.{together}
 use Rattle.la_io.specs.declared.outside.Sink.{Ghosts as SinkGhosts}
 use Rattle.la_io.specs.declared.outside.Source.{Ghosts as SourceGhosts}
 use Rattle.capture_any.specs.Reading.{is_open_of}

@@ -1,13 +1,14 @@
 // A capture as the feed of a tree of decoders.
 ghost use Rattle.std.specs.Prelude.{◌≡◌, ◌^◌, [], min, not, true};
 ghost use Rattle.capture_any.specs.Reading.{given_by, is_open_of};
-ghost use Rattle.la_io.specs.Feeds.{together};
+ghost use Rattle.tree_io.specs.Feeds.{together};
 ghost use Rattle.decode_job.specs.Feeding.{ended};
 
 use capture_any::{Capture, ListingEnd, Runs};
 use la_base::Run;
-use la_io::{CaptureError, RunFeed, Source};
+use la_io::{CaptureError, Source};
 use std::snapshot::Snapshot;
+use tree_io::RunFeed;
 
 /// Gives the runs of a capture that was lent with its source, many at once. Behind them `end` tells
 /// how the capture ended.

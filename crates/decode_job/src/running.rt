@@ -9,10 +9,10 @@ ghost use Rattle.stack_threads.specs.Runs.{RunsBy};
 
 use decoder_core::{Machine, RunEnd};
 use la_base::NoMemory;
-use la_io::{MarkTake, RunFeed};
 use stack_direct::run_direct;
 use stack_threads::exact_runs_are_runs;
 use std::snapshot::Snapshot;
+use tree_io::{MarkTake, RunFeed};
 
 /// Runs the tree to the end of the feed, or until the one that takes the marks has stopped, on the
 /// thread that asks for it.

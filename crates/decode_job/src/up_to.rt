@@ -3,14 +3,15 @@ ghost use Rattle.std.specs.Prelude.{◌≡◌, ◌+◌, ◌≤◌, ◌<◌, ◌^
 ghost use Rattle.capture_any.specs.Reading.{given_by};
 ghost use Rattle.la_base.specs.Runs.{samples_of};
 ghost use Rattle.la_base.specs.declared.samples.Run.{Run};
-ghost use Rattle.la_io.specs.Feeds.{together};
+ghost use Rattle.tree_io.specs.Feeds.{together};
 ghost use Rattle.decode_job.specs.Feeding.{GaveRuns};
 
 use crate::capture_feed::CaptureFeed;
 use capture_any::Capture;
 use la_base::Run;
-use la_io::{RunFeed, Source};
+use la_io::Source;
 use std::snapshot::Snapshot;
+use tree_io::RunFeed;
 
 /// Gives the runs of a capture up to so many samples. Where there are more, the last run is cut,
 /// and the capture isn't read on.

@@ -1,7 +1,6 @@
 pub mod Buffer
 pub mod Capture
 pub mod Causes
-pub mod Feeds
 pub mod Grown
 pub mod Intake
 pub mod Kept

@@ -1,11 +1,10 @@
-//! What reaches outside: a source of bytes, a sink, their stand-ins in memory, a buffer behind a
-//! source and one before a sink; what a tree of decoders is fed with, and what takes its marks.
+//! What reaches outside: a source of bytes, a sink, their stand-ins in memory, a buffer after a source
+//! and one before a sink.
 #![tactic(auto)]
 
 mod answer;
 mod buffered;
 mod fault;
-mod feeds;
 mod give;
 mod intake;
 mod memory;
@@ -18,7 +17,6 @@ mod whole;
 pub use answer::Step;
 pub use buffered::Buffered;
 pub use fault::{CaptureError, CaptureFault};
-pub use feeds::{MarkTake, RunFeed, Stopped};
 pub use intake::{Intake, MOST_BYTES};
 pub use memory::{MemSink, MemSource};
 pub use outside::{Failed, Sink, Source};

@@ -6,7 +6,7 @@ use Rattle.la_base.specs.declared.wires.Mark.{Mark}
 use Rattle.la_base.specs.declared.wires.Mark.TheVariants.{Note as NoteMark, Piece as PieceMark, Floor as FloorMark, End as EndMark}
 use Rattle.la_base.specs.declared.wires.Note.{Note}
 use Rattle.la_base.specs.declared.wires.Piece.{Piece}
-use Rattle.la_io.specs.Feeds.{AddsMark}
+use Rattle.tree_io.specs.Feeds.{AddsMark}
 use Rattle.listing_out.specs.declared.summaries.Tally.{Tally}
 use Rattle.annot_merge.specs.Marks.{notes_in}
 use Rattle.make_job.specs.Making.{sum_of}

@@ -6,8 +6,8 @@ use Rattle.la_base.proofs.RunLemmas.{samples_append}
 use Rattle.la_base.specs.Runs.{samples_of}
 use Rattle.la_base.specs.Samples.{samples as run_samples}
 use Rattle.la_base.specs.declared.samples.Run.{Run}
-use Rattle.la_io.specs.Feeds.{together}
-use Rattle.la_io.proofs.Together.{together-last}
+use Rattle.tree_io.specs.Feeds.{together}
+use Rattle.tree_io.proofs.Together.{together-last}
 use Rattle.capture_make.specs.Kept.{left_in}
 use Rattle.capture_make.specs.Made.{made}
 use Rattle.capture_make.specs.declared.source.MadeSource.{MadeSource}

@@ -9,7 +9,7 @@ use Rattle.capture_make.specs.Made.{made}
 use Rattle.capture_make.proofs.Blocks.{made_length}
 use Rattle.decoder_core.specs.Inputs.{Item, Sample}
 use Rattle.decoder_core.specs.Marks.{shown}
-use Rattle.la_io.specs.Feeds.{marks_of}
+use Rattle.tree_io.specs.Feeds.{marks_of}
 use Rattle.decoder_core.specs.Promises.{GivesNothing}
 use Rattle.decoder_core.specs.Trees.{Node, given}
 use Rattle.decoder_core.specs.declared.end.RunEnd.TheVariants.{Ended}

@@ -8,8 +8,9 @@ ghost use Rattle.capture_make.specs.Made.{made};
 use capture_any::Runs;
 use capture_make::MadeSource;
 use la_base::{Run, Word};
-use la_io::{Failed, RunFeed, Source};
+use la_io::{Failed, Source};
 use std::snapshot::Snapshot;
+use tree_io::RunFeed;
 
 // How many samples are given at once.
 const AT_ONCE: usize = 64;

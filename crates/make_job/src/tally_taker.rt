@@ -3,8 +3,8 @@ ghost use Rattle.std.specs.Prelude.{◌≡◌, ◌≢◌, [], true};
 ghost use Rattle.make_job.specs.Tallies.{Counted, with_note};
 
 use la_base::{Mark, Note};
-use la_io::{MarkTake, Stopped};
 use listing_out::Tally;
+use tree_io::{MarkTake, Stopped};
 
 /// Takes the marks of two instances, a bus and a serial line, and counts the notes of each. It
 /// keeps none of them, and never stops.

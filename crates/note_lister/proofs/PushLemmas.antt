@@ -3,7 +3,7 @@ use Rattle.std.proofs.Common.{◌≡◌, ◌≢◌, ◌∙◌, inl, inr, ◌⊎�
 use Rattle.std.specs.Prelude.{IsErr}
 use Rattle.std.specs.Result.{is_ok}
 use Rattle.la_base.specs.declared.wires.Mark.{Mark}
-use Rattle.la_io.proofs.Taking.{some_behind, takes_nothing, takes_then}
+use Rattle.tree_io.proofs.Taking.{some_behind, takes_nothing, takes_then}
 use Rattle.annot_merge.specs.Held.{Stands}
 use Rattle.annot_merge.specs.declared.merge.Merge.{Merge}
 use Rattle.note_lister.specs.Pushing.{PushesFront, PushesMarks, TellsSome}

@@ -11,10 +11,10 @@ use Rattle.std.proofs.lemmas.List.Elements.{All-nil}
 use Rattle.la_base.specs.declared.wires.Mark.{Mark}
 use Rattle.la_base.specs.declared.wires.Mark.TheVariants.{Note as NoteMark, Piece as PieceMark, Floor as FloorMark, End as EndMark}
 use Rattle.la_io.specs.Causes.{AppendsFront, Rose}
-use Rattle.la_io.specs.Feeds.{AddsMark, AddsMarks}
+use Rattle.tree_io.specs.Feeds.{AddsMark, AddsMarks}
 use Rattle.la_io.specs.Grown.{appends_nothing, appends_on}
 use Rattle.la_io.proofs.Fronts.{front_on, front_whole}
-use Rattle.la_io.proofs.Taking.{adds_behind, adds_first, middle, same_after, takes_nothing}
+use Rattle.tree_io.proofs.Taking.{adds_behind, adds_first, middle, same_after, takes_nothing}
 use Rattle.note_order.specs.declared.entry.Entry.{Entry}
 use Rattle.stack_spec.specs.Accepting.{Accepted}
 use Rattle.annot_merge.specs.Bounds.{IsAllowed}

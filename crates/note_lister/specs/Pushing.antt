@@ -2,7 +2,7 @@
 use Rattle.std.specs.Prelude.{ℕ, ◌≡◌, ◌≢◌, ◌⊎◌, Bool, true, false, List, [], ◌∷◌, ◌++◌}
 use Rattle.std.specs.Prelude.{Option, Some, None}
 use Rattle.la_base.specs.declared.wires.Mark.{Mark}
-use Rattle.la_io.specs.Feeds.{TakesMarks}
+use Rattle.tree_io.specs.Feeds.{TakesMarks}
 use Rattle.note_order.specs.declared.entry.Entry.{Entry}
 use Rattle.annot_merge.specs.Held.{Stands}
 use Rattle.annot_merge.specs.declared.merge.Merge.{Merge}

@@ -4,7 +4,7 @@ use Rattle.std.specs.Prelude.{Result, IsErr, IsSome}
 use Rattle.std.specs.Io.KnownBytes.{Appends}
 use Rattle.la_base.specs.declared.wires.Mark.{Mark}
 use Rattle.la_io.specs.Causes.{AppendsFront, Rose}
-use Rattle.la_io.specs.declared.feeds.Stopped.{Stopped}
+use Rattle.tree_io.specs.declared.feeds.Stopped.{Stopped}
 use Rattle.note_order.specs.declared.entry.Entry.{Entry}
 use Rattle.stack_spec.specs.Accepting.{Accepted}
 use Rattle.stack_spec.specs.Stacks.{stack_meaning}

@@ -1,6 +1,6 @@
 // Marks that are pushed to a merge together.
 ghost use Rattle.std.specs.Prelude.{◌≡◌, ◌<◌, ◌∷◌, [], IfOk, List, OnErr, OnOk, false};
-ghost use Rattle.la_io.specs.Feeds.{marks_of, real};
+ghost use Rattle.tree_io.specs.Feeds.{marks_of, real};
 ghost use Rattle.annot_merge.specs.Held.{count_of};
 ghost use Rattle.note_lister.specs.Pushing.{PushesFront, PushesMarks, TellsSome, list_of};
 

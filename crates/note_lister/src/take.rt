@@ -6,7 +6,7 @@ ghost use Rattle.std.specs.Result.{is_ok};
 ghost use Rattle.std.specs.Io.KnownBytes.{Appends};
 ghost use Rattle.la_base.specs.declared.wires.Mark.{Mark as MarkIs};
 ghost use Rattle.la_io.specs.Causes.{AppendsFront, HasCause, Rose};
-ghost use Rattle.la_io.specs.Feeds.{TakesFront, TakesMark, TakesMarks, marks_of, real};
+ghost use Rattle.tree_io.specs.Feeds.{TakesFront, TakesMark, TakesMarks, marks_of, real};
 ghost use Rattle.stack_spec.specs.Stacks.{instances_in, stack_meaning};
 ghost use Rattle.note_lister.specs.Data.{wanted_by};
 ghost use Rattle.note_lister.specs.Taking.{Goes, SameOrigin, StaysStopped, StopsFor, Took};
@@ -22,11 +22,12 @@ use crate::stop::ListStop;
 use crate::watch::Watch;
 use annot_merge::Merge;
 use la_base::{Mark, NoMemory, Out};
-use la_io::{Failed, MarkTake, Sink, Stopped};
+use la_io::{Failed, Sink};
 use listing_out::{NoteLine, write_piece};
 use stack_spec::Stack;
 use std::alloc::Global;
 use std::snapshot::Snapshot;
+use tree_io::{MarkTake, Stopped};
 
 // Writes the byte of a mark, where it is a piece that is wanted.
 fn write_wanted<K: Sink>(

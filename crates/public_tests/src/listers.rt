@@ -4,11 +4,12 @@ ghost use Rattle.std.specs.String.{string_bytes};
 
 use crate::stacks::word;
 use la_base::{Mark, Note, Piece};
-use la_io::{MarkTake, MemSink, Stopped};
+use la_io::MemSink;
 use note_lister::{ListStop, Lister, Unwatched};
 use stack_spec::{ChainWord, Stack, read_stack};
 use std::alloc::Global;
 use std::test::Fail;
+use tree_io::{MarkTake, Stopped};
 
 /// The stack of two serial lines, of which `uart-2` is the second.
 pub fn two_lines(

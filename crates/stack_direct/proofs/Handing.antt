@@ -5,8 +5,8 @@ use Rattle.la_base.specs.declared.wires.Mark.{Mark}
 use Rattle.la_base.specs.declared.wires.Mark.TheVariants.{Note as NoteMark, Piece as PieceMark}
 use Rattle.la_base.specs.declared.wires.Out.{Out}
 use Rattle.la_base.specs.declared.wires.Out.TheVariants.{Note as NoteOut, Piece as PieceOut, Packet as PacketOut}
-use Rattle.la_io.specs.Feeds.{marks_of}
-use Rattle.la_io.proofs.Taking.{marks-append}
+use Rattle.tree_io.specs.Feeds.{marks_of}
+use Rattle.tree_io.proofs.Taking.{marks-append}
 use Rattle.decoder_core.specs.Inputs.{Item, Pack}
 use Rattle.decoder_core.specs.Trees.{packets_of}
 use Rattle.tree_runs.specs.Passing.{TookFront}

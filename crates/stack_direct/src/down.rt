@@ -8,7 +8,7 @@ use crate::parts::{has_child, mark, same_place, step_packet_at, tell};
 use crate::tree::Tree;
 use decoder_core::{Machine, Outs};
 use la_base::{Mark, Out, Packet};
-use la_io::{MarkTake, Stopped};
+use tree_io::{MarkTake, Stopped};
 
 impl<M: Machine> Tree<'_, '_, M> {
     /// Hands a packet to each machine that stands on `above`, and what these put out to those that

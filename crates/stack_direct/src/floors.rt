@@ -8,7 +8,7 @@ use crate::parts::mark;
 use crate::tree::Tree;
 use decoder_core::Machine;
 use la_base::Mark;
-use la_io::{MarkTake, Stopped};
+use tree_io::{MarkTake, Stopped};
 
 impl<M: Machine> Tree<'_, '_, M> {
     // The floor of one machine, by that of the one that it stands on.

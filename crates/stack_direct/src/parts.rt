@@ -4,14 +4,14 @@ ghost use Rattle.std.specs.Prelude.{slice_get, take};
 ghost use Rattle.la_base.specs.Runs.{samples_of};
 ghost use Rattle.decoder_core.specs.Inputs.{left_feed};
 ghost use Rattle.std.specs.Result.{is_ok};
-ghost use Rattle.la_io.specs.Feeds.{marks_of};
+ghost use Rattle.tree_io.specs.Feeds.{marks_of};
 ghost use Rattle.tree_runs.specs.Passing.{Took, TookFront, only, same_place};
 ghost use Rattle.tree_runs.specs.Taking.{GoesOn};
 ghost use Rattle.tree_runs.specs.Machines.{Stand, StepsAt, StepsRunsAt, whole_of};
 
 use decoder_core::{Machine, Outs, Taken};
 use la_base::{Feed, Mark, Out, Packet, Run};
-use la_io::{MarkTake, Stopped};
+use tree_io::{MarkTake, Stopped};
 
 /// Steps of one machine over runs, past stops that put out nothing.
 #[inline(always)]

@@ -12,7 +12,7 @@ use crate::parts::{mark, same_place, step_run_at, step_runs_at};
 use crate::tree::Tree;
 use decoder_core::{Machine, Outs};
 use la_base::{Mark, Run};
-use la_io::{MarkTake, Stopped};
+use tree_io::{MarkTake, Stopped};
 
 impl<M: Machine> Tree<'_, '_, M> {
     // Gives the outputs of one machine, and lets them go. Most steps put out nothing, so that is

@@ -5,7 +5,7 @@ ghost use Rattle.decoder_core.specs.declared.end.RunEnd.TheVariants.{Ended, Stop
 ghost use Rattle.la_base.specs.declared.samples.Run.{Run};
 ghost use Rattle.la_base.specs.declared.wires.Mark.{Mark};
 ghost use Rattle.la_io.specs.Causes.{Rose};
-ghost use Rattle.la_io.specs.Feeds.{GivesRuns};
+ghost use Rattle.tree_io.specs.Feeds.{GivesRuns};
 ghost use Rattle.tree_runs.specs.Machines.{Stand, defined};
 ghost use Rattle.tree_runs.specs.Runs.{FedRuns, RunsOn, TookEnds, is_ended};
 ghost use Rattle.tree_runs.specs.Taking.{IsTree};
@@ -15,7 +15,7 @@ use crate::parts::mark;
 use crate::tree::Tree;
 use decoder_core::{Machine, Outs, RunEnd};
 use la_base::Mark;
-use la_io::{MarkTake, RunFeed, Stopped};
+use tree_io::{MarkTake, RunFeed, Stopped};
 
 /// Where the handing on of runs was stopped.
 #[derive(Clone, Copy, PartialEq, Eq)]

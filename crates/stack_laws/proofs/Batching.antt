@@ -4,14 +4,14 @@ use Rattle.std.proofs.lemmas.List.{append_cancel_left}
 use Rattle.la_base.specs.declared.wires.Mark.{Mark}
 use Rattle.la_base.specs.declared.wires.Mark.TheVariants.{Floor as FloorMark, End as EndMark}
 use Rattle.la_base.specs.declared.wires.Out.{Out}
-use Rattle.la_io.specs.Feeds.{together}
-use Rattle.la_io.proofs.Together.{together-last}
+use Rattle.tree_io.specs.Feeds.{together}
+use Rattle.tree_io.proofs.Together.{together-last}
 use Rattle.decoder_core.specs.Inputs.{Item}
-use Rattle.la_io.specs.Feeds.{marks_of}
+use Rattle.tree_io.specs.Feeds.{marks_of}
 use Rattle.decoder_core.specs.Promises.{GivesNothing}
 use Rattle.tree_runs.specs.Floors.{Floored}
 use Rattle.tree_runs.proofs.Flooring.{floored-append}
-use Rattle.la_io.proofs.Taking.{marks-append}
+use Rattle.tree_io.proofs.Taking.{marks-append}
 use Rattle.stack_laws.specs.Feeds.{mark_end, floor_mark, is_floor}
 use Rattle.stack_laws.specs.Keeping.{Batched}
 

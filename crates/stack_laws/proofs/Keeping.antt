@@ -9,7 +9,7 @@ use Rattle.la_base.specs.declared.wires.Mark.{Mark}
 use Rattle.la_base.specs.declared.wires.Out.{Out}
 use Rattle.note_order.specs.Order.{is_before, entry_of}
 use Rattle.decoder_core.specs.Inputs.{Item}
-use Rattle.la_io.specs.Feeds.{marks_of}
+use Rattle.tree_io.specs.Feeds.{marks_of}
 use Rattle.decoder_core.specs.Promises.{KeepsFront}
 use Rattle.tree_runs.specs.Listings.{notes_of}
 use Rattle.tree_runs.specs.Machines.{Definitions}

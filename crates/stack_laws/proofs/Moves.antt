@@ -6,7 +6,7 @@ use Rattle.std.proofs.lemmas.List.Elements.{All-nil, All-cons, All-head, All-tai
 use Rattle.la_base.specs.declared.wires.Feed.{Feed}
 use Rattle.la_base.specs.declared.wires.Feed.TheVariants.{End}
 use Rattle.la_base.specs.declared.wires.Mark.TheVariants.{End as EndMark}
-use Rattle.la_io.specs.Feeds.{marks_of}
+use Rattle.tree_io.specs.Feeds.{marks_of}
 use Rattle.tree_runs.specs.Machines.{Definitions}
 use Rattle.stack_laws.specs.Links.{IsNext}
 use Rattle.stack_laws.specs.Running.{Stage, State, stands_on}

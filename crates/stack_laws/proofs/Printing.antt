@@ -11,9 +11,9 @@ use Rattle.annot_merge.specs.Bounds.{Allows, bound_of}
 use Rattle.annot_merge.specs.Marks.{notes_in}
 use Rattle.decoder_core.specs.Inputs.{Item}
 use Rattle.decoder_core.specs.Marks.{shown, FloorsHold, MarksFrom}
-use Rattle.la_io.specs.Feeds.{marks_of}
+use Rattle.tree_io.specs.Feeds.{marks_of}
 use Rattle.decoder_core.specs.Promises.{KeepsFront}
-use Rattle.la_io.proofs.Taking.{marks-append}
+use Rattle.tree_io.proofs.Taking.{marks-append}
 use Rattle.tree_runs.proofs.Lists.{shown-append}
 use Rattle.tree_runs.specs.Listings.{notes_of}
 use Rattle.tree_runs.specs.Machines.{Definitions}

@@ -7,10 +7,10 @@ use Rattle.la_base.specs.declared.wires.Mark.TheVariants.{End as EndMark}
 use Rattle.la_base.specs.declared.wires.Out.{Out}
 use Rattle.decoder_core.specs.Inputs.{Item}
 use Rattle.decoder_core.specs.Marks.{shown, FloorsHold}
-use Rattle.la_io.specs.Feeds.{marks_of}
+use Rattle.tree_io.specs.Feeds.{marks_of}
 use Rattle.decoder_core.specs.Packets.{IsFloorOver}
 use Rattle.decoder_core.specs.Promises.{KeepsFront}
-use Rattle.la_io.proofs.Taking.{marks-append}
+use Rattle.tree_io.proofs.Taking.{marks-append}
 use Rattle.tree_runs.proofs.Lists.{shown-append, shown_front, floors-append, marks_from}
 use Rattle.stack_laws.specs.Links.{IsFront, EndsLast, some}
 use Rattle.stack_laws.specs.Feeds.{ends_feed, ends_marks, feed_end, items_in, feeds_of, floor_feed, floor_mark}

@@ -11,7 +11,7 @@ use Rattle.la_base.specs.declared.wires.Out.TheVariants.{Note as NoteOut, Piece 
 use Rattle.annot_merge.specs.Marks.{notes_in}
 use Rattle.decoder_core.specs.Inputs.{Item, items_of}
 use Rattle.decoder_core.specs.Marks.{shown}
-use Rattle.la_io.specs.Feeds.{marks_of}
+use Rattle.tree_io.specs.Feeds.{marks_of}
 use Rattle.tree_runs.specs.Listings.{notes_of}
 use Rattle.stack_laws.specs.Links.{EndsLast, some}
 use Rattle.stack_laws.specs.Feeds.{ends_feed, ends_marks, feed_end, items_in, feeds_of, floor_mark}

@@ -11,7 +11,7 @@ use Rattle.note_order.specs.declared.entry.Entry.{Entry}
 use Rattle.annot_merge.specs.Bounds.{IsAllowed}
 use Rattle.annot_merge.specs.Marks.{sorted_notes}
 use Rattle.decoder_core.specs.Inputs.{Item}
-use Rattle.la_io.specs.Feeds.{marks_of}
+use Rattle.tree_io.specs.Feeds.{marks_of}
 use Rattle.tree_runs.specs.Machines.{Definitions}
 use Rattle.tree_runs.specs.Passing.{only}
 use Rattle.stack_laws.specs.Links.{IsFront, IsNext, IsFree, some}

@@ -4,11 +4,11 @@ use Rattle.std.specs.List.{All}
 use Rattle.la_base.specs.declared.wires.Feed.{Feed}
 use Rattle.la_base.specs.declared.wires.Mark.{Mark}
 use Rattle.la_base.specs.declared.wires.Out.{Out}
-use Rattle.la_io.specs.Feeds.{together}
+use Rattle.tree_io.specs.Feeds.{together}
 use Rattle.decoder_core.specs.Inputs.{Item}
 use Rattle.decoder_core.specs.Promises.{KeepsFront}
 use Rattle.decoder_core.specs.Marks.{shown, FloorsHold}
-use Rattle.la_io.specs.Feeds.{marks_of}
+use Rattle.tree_io.specs.Feeds.{marks_of}
 use Rattle.tree_runs.specs.Floors.{Floored}
 use Rattle.stack_laws.specs.Links.{IsFront, EndsLast, some}
 use Rattle.stack_laws.specs.Feeds.{ends_feed, ends_marks, feed_end, mark_end, items_in, feeds_of}

@@ -5,7 +5,7 @@ use Rattle.la_base.specs.Runs.{samples_of}
 use Rattle.la_base.specs.declared.samples.Run.{Run}
 use Rattle.la_base.specs.declared.wires.Mark.{Mark}
 use Rattle.la_base.specs.declared.wires.Out.{Out}
-use Rattle.la_io.specs.Feeds.{together}
+use Rattle.tree_io.specs.Feeds.{together}
 use Rattle.decoder_core.specs.Inputs.{Item, Sample}
 use Rattle.decoder_core.specs.declared.end.RunEnd.{RunEnd}
 use Rattle.tree_runs.specs.Floors.{alone}

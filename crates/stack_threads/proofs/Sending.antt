@@ -8,7 +8,7 @@ use Rattle.stack_laws.specs.Links.{EndsLast, IsFront, some}
 use Rattle.stack_laws.specs.Feeds.{ends_marks}
 use Rattle.stack_laws.proofs.Lists.{front_trans, some-append, some_front}
 use Rattle.stage_crew.specs.Driving.{EndsWith}
-use Rattle.la_io.specs.Feeds.{real}
+use Rattle.tree_io.specs.Feeds.{real}
 
 -- of marks whose only end is the last, all others are real
 pub real_body : (body : List Mark) → EndsLast ends_marks (body ++ EndMark ∷ []) → (real (body ++ EndMark ∷ []) ≡ body) × (some ends_marks body ≡ false)

@@ -11,9 +11,9 @@ use Rattle.la_base.specs.declared.wires.Feed.TheVariants.{Run as RunFeed}
 use Rattle.la_base.specs.declared.wires.Mark.{Mark}
 use Rattle.la_base.specs.declared.wires.Mark.TheVariants.{End as EndMark}
 use Rattle.la_base.specs.declared.wires.Out.{Out}
-use Rattle.la_io.specs.Feeds.{together}
+use Rattle.tree_io.specs.Feeds.{together}
 use Rattle.decoder_core.specs.Inputs.{Item}
-use Rattle.la_io.specs.Feeds.{marks_of}
+use Rattle.tree_io.specs.Feeds.{marks_of}
 use Rattle.decoder_core.specs.Promises.{GivesNothing}
 use Rattle.decoder_core.specs.declared.end.RunEnd.{RunEnd}
 use Rattle.decoder_core.specs.declared.machine.Machine.{Ghosts as MachineGhosts}
@@ -45,7 +45,7 @@ use Rattle.stage_run.specs.declared.input.Input.TheVariants.{Samples, Packets}
 use Rattle.stage_run.specs.declared.input.Stretch.{Stretch}
 use Rattle.stage_run.specs.declared.stage.Parts.{Parts}
 use Rattle.stage_crew.specs.Driving.{Drove, EndsWith}
-use Rattle.la_io.specs.Feeds.{real}
+use Rattle.tree_io.specs.Feeds.{real}
 use Rattle.stack_threads.specs.Ties.{KnowsPackets, KnowsSamples, Tied, given_by, got_on, heard_by, heard_on, sent_on}
 use Rattle.stack_threads.specs.Trees.{on_place, place_of}
 use Rattle.stack_threads.proofs.Counting.{same_children, same_place_among}

@@ -7,8 +7,8 @@ ghost use Rattle.tree_runs.specs.Runs.{RunsOn};
 ghost use Rattle.stack_threads.specs.Runs.{InputsGrow, RunsBy};
 
 use decoder_core::Machine;
-use la_io::{MarkTake, RunFeed};
 use std::snapshot::Snapshot;
+use tree_io::{MarkTake, RunFeed};
 
 /// With more lists of runs, the input of each instance grows by its feeds: of one that stands on
 /// nothing each list, of any other each packet of its parent.

@@ -15,11 +15,11 @@ use crate::stages::{open_all, take_apart};
 use crate::wiring::{Wires, wire};
 use decoder_core::{Machine, RunEnd};
 use la_base::NoMemory;
-use la_io::{MarkTake, RunFeed};
 use stack_laws::laws::{machines_are_a_tree, machines_tell_their_inputs, settled_ends_fit};
 use stage_crew::{CrewEnds, Pacer, Ran, Supplies, run_crew};
 use std::sync::Wait;
 use std::thread::Threads;
+use tree_io::{MarkTake, RunFeed};
 
 // The outputs of more input begin with those of less. (A law; nothing is done.)
 fn keeps_front<M: Machine>()

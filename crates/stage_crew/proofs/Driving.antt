@@ -9,8 +9,8 @@ use Rattle.la_base.specs.declared.wires.Feed.{Feed}
 use Rattle.la_base.specs.declared.wires.Feed.TheVariants.{Run as RunFeed, End as EndFeed}
 use Rattle.la_base.specs.declared.wires.Mark.{Mark}
 use Rattle.la_base.specs.declared.wires.Mark.TheVariants.{End as EndMark}
-use Rattle.la_io.specs.declared.feeds.MarkTake.{Ghosts as TakeGhosts}
-use Rattle.la_io.specs.declared.feeds.RunFeed.{Ghosts as FeedGhosts}
+use Rattle.tree_io.specs.declared.feeds.MarkTake.{Ghosts as TakeGhosts}
+use Rattle.tree_io.specs.declared.feeds.RunFeed.{Ghosts as FeedGhosts}
 use Rattle.decoder_core.specs.declared.end.RunEnd.{RunEnd}
 use Rattle.decoder_core.specs.declared.end.RunEnd.TheVariants.{Ended}
 use Rattle.tree_runs.specs.Runs.{TookEnds, is_ended}
@@ -19,7 +19,7 @@ use Rattle.stage_ring.specs.Link.{received, sent}
 use Rattle.stage_run.specs.Inputs.{feeds_in, telling}
 use Rattle.stage_run.proofs.Telling.{end_feeds}
 use Rattle.stage_crew.specs.Driving.{Drove}
-use Rattle.la_io.specs.Feeds.{real}
+use Rattle.tree_io.specs.Feeds.{real}
 use Rattle.stage_crew.specs.Gathering.{Fronts, Gathers, TakesUntil}
 use Rattle.stage_crew.specs.Keeping.{Collects, Kept}
 use Rattle.stage_crew.specs.Pumping.{end_if, is_sent}

@@ -7,16 +7,16 @@ use Rattle.std.proofs.lemmas.List.{append-nil, take_more, length-set}
 use Rattle.std.proofs.lemmas.Option.{slice_get_within}
 use Rattle.la_base.specs.declared.wires.Mark.{Mark}
 use Rattle.la_base.specs.declared.wires.Mark.TheVariants.{Note as NoteMark, Piece as PieceMark, Floor as FloorMark, End as EndMark}
-use Rattle.la_io.specs.Feeds.{TakesMark}
-use Rattle.la_io.specs.declared.feeds.MarkTake.{Ghosts as TakeGhosts}
+use Rattle.tree_io.specs.Feeds.{TakesMark}
+use Rattle.tree_io.specs.declared.feeds.MarkTake.{Ghosts as TakeGhosts}
 use Rattle.tree_runs.specs.Passing.{Took, only}
 use Rattle.tree_runs.specs.Reaching.{Reaches}
 use Rattle.tree_runs.proofs.Lists.{reaches-append, reaches_weaker}
 use Rattle.tree_runs.proofs.Joining.{took_then, took_nothing}
 use Rattle.tree_runs.proofs.Running.{took_same}
 use Rattle.stage_crew.specs.Driving.{EndsWith}
-use Rattle.la_io.specs.Feeds.{real}
-use Rattle.la_io.proofs.Taking.{real-append}
+use Rattle.tree_io.specs.Feeds.{real}
+use Rattle.tree_io.proofs.Taking.{real-append}
 use Rattle.stage_crew.specs.Gathering.{Fronts, Gathers, Overs, TakesOne, TakesUntil}
 use Rattle.stage_crew.specs.declared.gatherer.Gatherer.{Gatherer}
 use Rattle.stage_crew.proofs.Handing.{get_set}

@@ -8,9 +8,9 @@ use Rattle.std.proofs.lemmas.List.{append-nil, drop-drop, take_more, map-append,
 use Rattle.la_base.specs.declared.samples.Run.{Run}
 use Rattle.la_base.specs.declared.wires.Feed.{Feed}
 use Rattle.la_base.specs.declared.wires.Feed.TheVariants.{Run as RunFeed}
-use Rattle.la_io.specs.Feeds.{GivesRuns, TellsMore, given_now, together}
-use Rattle.la_io.specs.declared.feeds.RunFeed.{Ghosts as FeedGhosts}
-use Rattle.la_io.proofs.Together.{together-append}
+use Rattle.tree_io.specs.Feeds.{GivesRuns, TellsMore, given_now, together}
+use Rattle.tree_io.specs.declared.feeds.RunFeed.{Ghosts as FeedGhosts}
+use Rattle.tree_io.proofs.Together.{together-append}
 use Rattle.stage_run.specs.Inputs.{feeds_in, stretch_of, telling, told_behind, upper_of}
 use Rattle.stage_run.specs.declared.input.Stretch.{Stretch}
 use Rattle.stage_run.proofs.Telling.{feeds_in-append, plain_feeds, tell_feeds, tell_told, told-append}

@@ -2,7 +2,7 @@
 use Rattle.std.proofs.Common.{◌≡◌, ◌∙◌, ℕ, Bool, true, false, not, Result, Ok, Err, refl, sym, subst}
 use Rattle.std.specs.Result.{is_ok}
 use Rattle.la_io.specs.Causes.{Rose}
-use Rattle.la_io.specs.declared.feeds.MarkTake.{Ghosts as TakeGhosts}
+use Rattle.tree_io.specs.declared.feeds.MarkTake.{Ghosts as TakeGhosts}
 use Rattle.decoder_core.specs.declared.end.RunEnd.{RunEnd}
 use Rattle.decoder_core.specs.declared.end.RunEnd.TheVariants.{Ended, Stopped}
 use Rattle.tree_runs.specs.Runs.{is_ended}

@@ -1,7 +1,7 @@
 -- What the frames of a crew did, from what those within them did.
 use Rattle.std.proofs.Common.{◌≡◌, ◌+◌, ℕ, Bool, List, [], ◌∷◌, ◌++◌, Vec, Global, vec_len, ap, subst, sym, ◌∙◌, arith}
 use Rattle.std.specs.Prelude.{vec_capacity}
-use Rattle.la_io.specs.declared.feeds.MarkTake.{Ghosts as TakeGhosts}
+use Rattle.tree_io.specs.declared.feeds.MarkTake.{Ghosts as TakeGhosts}
 use Rattle.decoder_core.specs.declared.end.RunEnd.{RunEnd}
 use Rattle.stage_crew.specs.Crew.{Each, Ends}
 use Rattle.stage_crew.specs.Working.{Drives, WorksOff}

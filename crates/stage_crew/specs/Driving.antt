@@ -6,8 +6,8 @@ use Rattle.la_base.specs.declared.wires.Feed.TheVariants.{Run as RunFeed, End as
 use Rattle.la_base.specs.declared.wires.Mark.{Mark}
 use Rattle.la_base.specs.declared.wires.Mark.TheVariants.{Note as NoteMark, Piece as PieceMark}
 use Rattle.la_base.specs.declared.wires.Mark.TheVariants.{Floor as FloorMark, End as EndMark}
-use Rattle.la_io.specs.Feeds.{real}
-use Rattle.la_io.specs.Feeds.{together}
+use Rattle.tree_io.specs.Feeds.{real}
+use Rattle.tree_io.specs.Feeds.{together}
 use Rattle.decoder_core.specs.declared.end.RunEnd.{RunEnd}
 use Rattle.decoder_core.specs.declared.end.RunEnd.TheVariants.{Ended}
 use Rattle.tree_runs.specs.Passing.{Took}

@@ -4,7 +4,7 @@ use Rattle.std.specs.Prelude.{slice_get, Result}
 use Rattle.la_base.specs.declared.wires.Mark.{Mark}
 use Rattle.la_base.specs.declared.wires.Mark.TheVariants.{End as EndMark}
 use Rattle.la_io.specs.Causes.{Rose}
-use Rattle.la_io.specs.declared.feeds.MarkTake.{Ghosts as TakeGhosts}
+use Rattle.tree_io.specs.declared.feeds.MarkTake.{Ghosts as TakeGhosts}
 use Rattle.decoder_core.specs.declared.end.RunEnd.{RunEnd}
 use Rattle.decoder_core.specs.declared.end.RunEnd.TheVariants.{Ended, Stopped}
 use Rattle.tree_runs.specs.Passing.{Took}
@@ -12,7 +12,7 @@ use Rattle.tree_runs.specs.Reaching.{Reaches}
 use Rattle.tree_runs.specs.Runs.{is_ended}
 use Rattle.tree_runs.specs.Taking.{GoesOn}
 use Rattle.stage_crew.specs.Driving.{EndsWith}
-use Rattle.la_io.specs.Feeds.{real}
+use Rattle.tree_io.specs.Feeds.{real}
 use Rattle.stage_crew.specs.declared.gatherer.Gatherer.{Gatherer}
 
 -- what was taken of each instance is what was gathered of it, or a front of that where it was

@@ -3,8 +3,8 @@ use Rattle.std.specs.Prelude.{◌≡◌, ◌≤◌, Bool, true, false, List, [],
 use Rattle.std.specs.Prelude.{◌&&◌, nat_eq}
 use Rattle.la_base.specs.declared.samples.Run.{Run}
 use Rattle.la_base.specs.declared.wires.Feed.TheVariants.{Run as RunFeed}
-use Rattle.la_io.specs.Feeds.{together}
-use Rattle.la_io.specs.declared.feeds.RunFeed.{Ghosts as FeedGhosts}
+use Rattle.tree_io.specs.Feeds.{together}
+use Rattle.tree_io.specs.declared.feeds.RunFeed.{Ghosts as FeedGhosts}
 use Rattle.stage_run.specs.Inputs.{feeds_in, told_behind, telling}
 use Rattle.stage_run.specs.declared.input.Stretch.{Stretch}
 use Rattle.stage_crew.specs.Fans.{Fans}

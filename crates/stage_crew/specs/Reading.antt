@@ -2,7 +2,7 @@
 use Rattle.std.specs.Prelude.{◌≡◌, true, false, List, [], ◌++◌, map}
 use Rattle.std.proofs.Common.{refl, ◌∙◌}
 use Rattle.la_base.specs.declared.samples.Run.{Run}
-use Rattle.la_io.specs.declared.feeds.RunFeed.{Ghosts as FeedGhosts}
+use Rattle.tree_io.specs.declared.feeds.RunFeed.{Ghosts as FeedGhosts}
 use Rattle.stage_ring.specs.Link.{received, rx_link, sent, tx_link}
 use Rattle.stage_crew.specs.Pumping.{InPlace, Pumped}
 use Rattle.stage_crew.specs.declared.reader.Reader.{Reader}

@@ -18,10 +18,10 @@ use crate::turns::{Turns, turns_go_on};
 use crate::worker::notify_touched;
 use decoder_core::RunEnd;
 use la_base::Mark;
-use la_io::{MarkTake, Stopped};
 use stage_ring::{Rx, Tx};
 use stage_run::Turn;
 use std::sync::Wait;
+use tree_io::{MarkTake, Stopped};
 
 // A turn of what isn't over. Answers whether it moved.
 fn turn_one<S: Turns>(stage: &mut S, budget: u32) -> bool

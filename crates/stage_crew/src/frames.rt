@@ -10,10 +10,10 @@ use crate::status::WorkerStatus;
 use crate::turns::{Turns, turns_go_on};
 use crate::worker::{Back, run_out, work};
 use decoder_core::RunEnd;
-use la_io::MarkTake;
 use std::snapshot::Snapshot;
 use std::sync::Wait;
 use std::thread::{PromisedHandle, Scope, Threads};
+use tree_io::MarkTake;
 
 // Starts a worker for a stage, or hands the stage back.
 fn start<'s, E, R: Wait + Sync, S: Turns + Send + Drop + 's, P: Pacer + Sync>(

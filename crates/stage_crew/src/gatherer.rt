@@ -6,8 +6,8 @@ use crate::MOST_STAGES;
 use crate::counts::GatheredCounts;
 use crate::marks::{ends, take_marks};
 use la_base::Mark;
-use la_io::MarkTake;
 use stage_ring::Rx;
+use tree_io::MarkTake;
 
 const ROOM: usize = 64;
 

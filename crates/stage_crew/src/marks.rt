@@ -8,12 +8,12 @@ ghost use Rattle.tree_runs.specs.Passing.{Took, only};
 ghost use Rattle.tree_runs.specs.Reaching.{Reaches};
 ghost use Rattle.tree_runs.specs.Runs.{TookEnds, is_ended};
 ghost use Rattle.stage_crew.specs.Driving.{EndsWith};
-ghost use Rattle.la_io.specs.Feeds.{real};
+ghost use Rattle.tree_io.specs.Feeds.{real};
 ghost use Rattle.stage_crew.specs.Gathering.{TakesUntil};
 
 use decoder_core::RunEnd;
 use la_base::Mark;
-use la_io::{MarkTake, Stopped};
+use tree_io::{MarkTake, Stopped};
 
 /// Has marks taken, until it is stopped, and answers whether it was. Once it was stopped none is
 /// taken any more.

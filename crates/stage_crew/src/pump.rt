@@ -7,10 +7,10 @@ use crate::fan::{Cursor, hand_out};
 use crate::row::SendRow;
 use crate::status::{CrewStatus, READER};
 use la_base::high_half;
-use la_io::RunFeed;
 use stage_ring::Tx;
 use stage_run::{Peer, Peers, Stretch};
 use std::cell::Cell;
+use tree_io::RunFeed;
 
 /// How far the runs of a feed were sent. `at` is the place of the next run that is to be put into
 /// the row, of those that the feed gave last; `upper`: the upper half of the lines that was told;

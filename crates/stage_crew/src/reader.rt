@@ -6,9 +6,9 @@ ghost use Rattle.stage_run.specs.declared.input.Stretch.{Stretch as StretchIs};
 use crate::Turns;
 use crate::pump::Pump;
 use crate::status::CrewStatus;
-use la_io::RunFeed;
 use stage_ring::{Rx, Tx};
 use stage_run::{Peer, Peers, Stretch, Turn};
+use tree_io::RunFeed;
 
 /// Reads a feed, and sends its runs and then the end to each root, turn by turn: in a thread of its
 /// own, or in the driver's where none can be started. Once it hears that no more is wanted, it sends

@@ -18,12 +18,12 @@ use crate::status::{CrewStatus, DRIVER, READER, WorkerStatus};
 use crate::{MOST_STAGES, Pacer, PlainPacer, Turns};
 use decoder_core::RunEnd;
 use la_base::NoMemory;
-use la_io::{MarkTake, RunFeed};
 use stage_ring::{Rx, Tx, link, settle};
 use std::alloc::Global;
 use std::sync::Wait;
 use std::thread;
 use std::thread::Threads;
+use tree_io::{MarkTake, RunFeed};
 
 // What was lent to the frames, and what they give back.
 struct FrameResult<'a, D, S, G> {

@@ -8,8 +8,8 @@ use Rattle.la_base.specs.declared.wires.Mark.{Mark}
 use Rattle.la_base.specs.declared.wires.Out.{Out}
 use Rattle.la_base.specs.declared.wires.Out.TheVariants.{Note as NoteOut, Piece as PieceOut, Packet as PacketOut}
 use Rattle.decoder_core.specs.Inputs.{Item, items_of}
-use Rattle.la_io.specs.Feeds.{marks_of}
-use Rattle.la_io.proofs.Taking.{marks-append}
+use Rattle.tree_io.specs.Feeds.{marks_of}
+use Rattle.tree_io.proofs.Taking.{marks-append}
 use Rattle.stack_laws.specs.Feeds.{feeds_of, items_in}
 
 pub feeds-append : (xs ys : List Out) → feeds_of (xs ++ ys) ≡ feeds_of xs ++ feeds_of ys

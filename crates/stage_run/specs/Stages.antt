@@ -5,7 +5,7 @@ use Rattle.std.specs.List.{All}
 use Rattle.la_base.specs.Runs.{samples_of}
 use Rattle.la_base.specs.declared.wires.Out.{Out}
 use Rattle.la_io.specs.Causes.{Rose}
-use Rattle.la_io.specs.Feeds.{together}
+use Rattle.tree_io.specs.Feeds.{together}
 use Rattle.decoder_core.specs.declared.machine.Machine.{Ghosts as MachineGhosts}
 use Rattle.decoder_core.specs.Inputs.{Item}
 use Rattle.stack_laws.specs.Links.{some}

@@ -1,6 +1,6 @@
 // The outputs of one step, as what is kept for the links.
 ghost use Rattle.std.specs.Prelude.{◌≡◌, ◌≤◌, ◌+◌, ◌++◌, length};
-ghost use Rattle.la_io.specs.Feeds.{marks_of};
+ghost use Rattle.tree_io.specs.Feeds.{marks_of};
 ghost use Rattle.stack_laws.specs.Feeds.{feeds_of};
 
 use crate::row::Row;

@@ -6,7 +6,7 @@ ghost use Rattle.la_base.specs.declared.wires.Mark.{Mark as MarkIs};
 ghost use Rattle.la_base.specs.declared.wires.Feed.TheVariants.{End as EndFeed};
 ghost use Rattle.la_base.specs.declared.wires.Feed.TheVariants.{From as FromFeed};
 ghost use Rattle.la_base.specs.declared.wires.Mark.TheVariants.{End as EndMark, Floor as FloorMark};
-ghost use Rattle.la_io.specs.Feeds.{marks_of};
+ghost use Rattle.tree_io.specs.Feeds.{marks_of};
 ghost use Rattle.stack_laws.specs.Feeds.{feeds_of};
 ghost use Rattle.stack_laws.specs.Moves.{makes};
 ghost use Rattle.stage_ring.specs.Link.{sent, tx_link};

@@ -4,10 +4,10 @@ use Rattle.std.proofs.lemmas.List.{append-nil}
 use Rattle.la_base.specs.declared.wires.Mark.{Mark}
 use Rattle.la_base.specs.declared.wires.Mark.TheVariants.{Note as NoteMark, Piece as PieceMark, Floor as FloorMark, End as EndMark}
 use Rattle.la_base.specs.declared.wires.Out.{Out}
-use Rattle.la_io.specs.Feeds.{together}
+use Rattle.tree_io.specs.Feeds.{together}
 use Rattle.decoder_core.specs.Inputs.{Item}
 use Rattle.decoder_core.specs.Marks.{FloorsHold, shown}
-use Rattle.la_io.specs.Feeds.{marks_of}
+use Rattle.tree_io.specs.Feeds.{marks_of}
 use Rattle.tree_runs.specs.Floors.{Floored, WithFloors}
 use Rattle.tree_runs.specs.Lows.{AreLow}
 use Rattle.tree_runs.specs.Machines.{near_of, whole_of}
@@ -15,7 +15,7 @@ use Rattle.tree_runs.specs.Passing.{NoEnd}
 use Rattle.tree_runs.specs.Reaching.{Reaches}
 use Rattle.tree_runs.specs.Runs.{ToldOf, input_on}
 use Rattle.tree_runs.proofs.Flooring.{floored-append}
-use Rattle.la_io.proofs.Taking.{marks-append}
+use Rattle.tree_io.proofs.Taking.{marks-append}
 use Rattle.tree_runs.proofs.Lists.{floors-append, marks_from, no_end-append, reaches-append, reaches_weaker, shown-append}
 
 -- floors among marks

@@ -8,7 +8,7 @@ use Rattle.la_base.specs.declared.wires.Out.{Out}
 use Rattle.decoder_core.specs.Inputs.{Item, Sample}
 use Rattle.decoder_core.specs.Promises.{KeepsFront}
 use Rattle.decoder_core.specs.Marks.{FloorsHold, shown}
-use Rattle.la_io.specs.Feeds.{marks_of}
+use Rattle.tree_io.specs.Feeds.{marks_of}
 use Rattle.tree_runs.specs.Floors.{FrontOfFloored, Handed}
 use Rattle.tree_runs.specs.Machines.{near_of, whole_of}
 use Rattle.tree_runs.specs.Passing.{Change, Down, IsForest, Passes}

@@ -4,15 +4,15 @@ use Rattle.std.proofs.lemmas.List.{append-nil}
 use Rattle.la_base.specs.declared.wires.Mark.{Mark}
 use Rattle.la_base.specs.declared.wires.Mark.TheVariants.{Floor as FloorMark}
 use Rattle.la_base.specs.declared.wires.Out.{Out}
-use Rattle.la_io.specs.Feeds.{together}
-use Rattle.la_io.proofs.Together.{together-append}
+use Rattle.tree_io.specs.Feeds.{together}
+use Rattle.tree_io.proofs.Together.{together-append}
 use Rattle.decoder_core.specs.Inputs.{Item}
-use Rattle.la_io.specs.Feeds.{marks_of}
+use Rattle.tree_io.specs.Feeds.{marks_of}
 use Rattle.decoder_core.specs.Promises.{KeepsFront}
 use Rattle.tree_runs.specs.Floors.{Floored, FrontOfFloored, Handed, alone}
 use Rattle.tree_runs.specs.Passing.{Passes}
 use Rattle.tree_runs.specs.Reaching.{Reaches}
-use Rattle.la_io.proofs.Taking.{marks-append}
+use Rattle.tree_io.proofs.Taking.{marks-append}
 use Rattle.tree_runs.proofs.Lists.{reaches-append, reaches_weaker}
 
 -- items one by one

@@ -13,14 +13,14 @@ use Rattle.decoder_core.specs.Inputs.{Item}
 use Rattle.decoder_core.specs.Promises.{IsFloor, KeepsFront}
 use Rattle.decoder_core.specs.Trees.{packets_of}
 use Rattle.decoder_core.specs.Marks.{shown, FloorsHold}
-use Rattle.la_io.specs.Feeds.{TakesFront, marks_of}
+use Rattle.tree_io.specs.Feeds.{TakesFront, marks_of}
 use Rattle.la_base.specs.declared.samples.Run.{Run}
 use Rattle.tree_runs.specs.Machines.{Definitions, MovesAt, StepsAt, StepsRunsAt}
 use Rattle.tree_runs.specs.Floors.{Handed, alone}
 use Rattle.tree_runs.specs.Passing.{Passes, Change, joined, only, up_to, Took, TookFront, same_place, first_on, from_parent, comes, comes_in, Down, Into, IsForest, Hands, Feeds, Consumes, Gives, SomeMark}
 use Rattle.tree_runs.specs.Reaching.{Reaches}
 use Rattle.tree_runs.proofs.Flooring.{alone-append, handed_cut, handed_nothing, handed_then, handed_weaker, handed_whole, reaches_alone, some_behind}
-use Rattle.la_io.proofs.Taking.{marks-append}
+use Rattle.tree_io.proofs.Taking.{marks-append}
 use Rattle.tree_runs.proofs.Lists.{packets-append, shown-append, no_end-append, shown_front, floors-append, marks_from, reaches_all, reaches_weaker, reaches-append, reaches_trans, reaches_packets, reaches_marks}
 
 -- one instance

@@ -9,8 +9,8 @@ use Rattle.decoder_core.specs.Inputs.{Item, Pack}
 use Rattle.decoder_core.specs.Promises.{NotesFrom}
 use Rattle.decoder_core.specs.Trees.{packets_of}
 use Rattle.decoder_core.specs.Marks.{shown, MarksFrom, FloorsHold}
-use Rattle.la_io.specs.Feeds.{marks_of}
-use Rattle.la_io.proofs.Taking.{marks-append}
+use Rattle.tree_io.specs.Feeds.{marks_of}
+use Rattle.tree_io.proofs.Taking.{marks-append}
 use Rattle.tree_runs.specs.Passing.{NoEnd}
 use Rattle.tree_runs.specs.Reaching.{Reaches}
 

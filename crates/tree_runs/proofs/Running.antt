@@ -6,8 +6,8 @@ use Rattle.la_base.specs.Runs.{samples_of}
 use Rattle.la_base.proofs.RunLemmas.{runs_from, samples_further, samples_more}
 use Rattle.la_base.specs.declared.samples.Run.{Run}
 use Rattle.la_base.specs.declared.wires.Mark.{Mark}
-use Rattle.la_io.specs.Feeds.{together}
-use Rattle.la_io.proofs.Together.{together-append}
+use Rattle.tree_io.specs.Feeds.{together}
+use Rattle.tree_io.proofs.Together.{together-append}
 use Rattle.decoder_core.specs.Inputs.{Item, Sample}
 use Rattle.la_base.specs.declared.wires.Mark.TheVariants.{End as EndMark}
 use Rattle.tree_runs.specs.Passing.{Took, only, up_to}

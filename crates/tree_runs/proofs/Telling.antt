@@ -9,7 +9,7 @@ use Rattle.la_base.specs.declared.wires.Out.{Out}
 use Rattle.decoder_core.specs.Inputs.{Item, Sample}
 use Rattle.decoder_core.specs.Promises.{KeepsFront}
 use Rattle.decoder_core.specs.Marks.{FloorsHold, shown}
-use Rattle.la_io.specs.Feeds.{marks_of}
+use Rattle.tree_io.specs.Feeds.{marks_of}
 use Rattle.decoder_core.specs.Trees.{Node, given, input_of, outputs_behind, packets_in, packets_of}
 use Rattle.tree_runs.specs.Machines.{whole_of, outputs_at}
 use Rattle.tree_runs.specs.Floors.{alone}
@@ -17,7 +17,7 @@ use Rattle.tree_runs.specs.Passing.{Change, Down, IsForest, Passes}
 use Rattle.tree_runs.specs.Reaching.{Reaches}
 use Rattle.tree_runs.specs.Runs.{nodes_of, input_at, input_by, feeds_of, run_items}
 use Rattle.tree_runs.proofs.Flooring.{reaches_alone}
-use Rattle.la_io.proofs.Taking.{marks-append}
+use Rattle.tree_io.proofs.Taking.{marks-append}
 use Rattle.tree_runs.proofs.Lists.{packets-append, reaches_trans}
 
 -- the outputs of a tree, instance by instance

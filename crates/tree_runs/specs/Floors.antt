@@ -4,9 +4,9 @@ use Rattle.la_base.specs.declared.wires.Mark.{Mark}
 use Rattle.la_base.specs.declared.wires.Mark.TheVariants.{Note as NoteMark, Piece as PieceMark}
 use Rattle.la_base.specs.declared.wires.Mark.TheVariants.{Floor as FloorMark, End as EndMark}
 use Rattle.la_base.specs.declared.wires.Out.{Out}
-use Rattle.la_io.specs.Feeds.{together}
+use Rattle.tree_io.specs.Feeds.{together}
 use Rattle.decoder_core.specs.Inputs.{Item}
-use Rattle.la_io.specs.Feeds.{marks_of}
+use Rattle.tree_io.specs.Feeds.{marks_of}
 use Rattle.tree_runs.specs.Reaching.{Reaches}
 
 -- the marks of an instance that was handed these feeds behind an input, each one whole: of each

@@ -8,7 +8,7 @@ use Rattle.la_base.specs.declared.wires.Out.{Out}
 use Rattle.decoder_core.specs.Inputs.{Item}
 use Rattle.decoder_core.specs.Trees.{packets_of}
 use Rattle.decoder_core.specs.Marks.{shown, FloorsHold}
-use Rattle.la_io.specs.Feeds.{marks_of}
+use Rattle.tree_io.specs.Feeds.{marks_of}
 use Rattle.tree_runs.specs.Floors.{Handed, alone}
 use Rattle.tree_runs.specs.Machines.{Definitions}
 use Rattle.tree_runs.specs.Reaching.{Reaches}

@@ -2,7 +2,7 @@
 use Rattle.std.specs.Prelude.{ℕ, ◌≡◌, ◌≤◌, Bool, true, List, Option, Ok, Result, length}
 use Rattle.std.specs.Result.{is_ok}
 use Rattle.la_io.specs.Causes.{HasCause}
-use Rattle.la_io.specs.declared.feeds.Stopped.{Stopped}
+use Rattle.tree_io.specs.declared.feeds.Stopped.{Stopped}
 use Rattle.tree_runs.specs.Passing.{IsForest}
 
 -- a tree by the places on which its instances stand, each behind its own, at most 24 of them; as

@@ -1,13 +1,13 @@
 // Decoders beside plain programs: the outputs of made traffic.
 ghost use Rattle.std.specs.Prelude.{◌≤◌, ◌^◌};
 
-use kind_table::{Kind, OptValues};
 use super::feeding::{decoded, runs_of};
 use super::feeds::{RATE, opened, outputs_of, packets_of, setup_of};
 use super::traffic::Traffic;
 use dec_modbus::ModbusOpts;
 use dec_onewire::{OwLink, OwLinkOpts};
 use dev_eeprom24::Chip;
+use kind_table::{Kind, OptValues};
 use la_base::{Feed, Out, Packet, Word};
 use packet_walks::{transaction_laws, walk_laws};
 use plain_devices::{

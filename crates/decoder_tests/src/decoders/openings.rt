@@ -1,7 +1,6 @@
 // What becomes of settings, by each decoder's own call.
 ghost use Rattle.std.specs.Prelude.{◌≤◌, ◌^◌};
 
-use kind_table::{Kind, OptValues};
 use super::feeds::setup_of;
 use dec_i2c::{I2c, I2cOpts};
 use dec_modbus::{Modbus, ModbusOpts};
@@ -9,6 +8,7 @@ use dec_onewire::{OwLink, OwLinkOpts};
 use dec_spi::{Spi, SpiOpts};
 use dec_uart::{Uart, UartOpts};
 use decoder_core::OptFault;
+use kind_table::{Kind, OptValues};
 use la_base::Rate;
 use std::test::Fail;
 

@@ -1,10 +1,10 @@
 // SPI by hand, and beside its plain program.
 ghost use Rattle.std.specs.Prelude.{◌≤◌};
 
-use kind_table::Kind;
 use super::feeding::{Told, decoded, list_of, runs_of};
 use super::feeds::{RATE, said, samples_of};
 use dec_spi::{Spi, SpiOpts};
+use kind_table::Kind;
 use la_base::{Out, Word};
 use plain_decoders::spi::outputs_of;
 use std::alloc::Global;

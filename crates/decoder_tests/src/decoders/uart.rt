@@ -1,10 +1,10 @@
 // Serial lines by hand, and beside their plain program.
 ghost use Rattle.std.specs.Prelude.{◌≤◌, ◌^◌};
 
-use kind_table::Kind;
 use super::feeding::{Told, decoded, list_of, runs_of};
 use super::feeds::said;
 use dec_uart::{Line, Uart, UartOpts};
+use kind_table::Kind;
 use la_base::{Out, Rate, Word};
 use plain_decoders::uart::{near_of, outputs_of};
 use std::alloc::{AllocError, Global};

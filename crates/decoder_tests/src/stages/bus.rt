@@ -4,9 +4,9 @@ ghost use Rattle.std.specs.Prelude.{◌≡◌, ◌≤◌, ◌^◌, []};
 use decoder_set::AnyDecoder;
 use kind_table::{Kind, MOST_OPTIONS, OptValues};
 use la_base::{Mark, Rate, Run, Word};
-use la_io::{MarkTake, RunFeed, Stopped};
 use std::alloc::{AllocError, Global};
 use std::test::Fail;
+use tree_io::{MarkTake, RunFeed, Stopped};
 
 const RATE: Rate = Rate {
     num: 1_000_000,

@@ -6,7 +6,6 @@ use crate::stages::bus::{Samples, opened};
 use decoder_core::RunEnd;
 use kind_table::Kind;
 use la_base::{Mark, Run};
-use la_io::{MarkTake, RunFeed, Stopped};
 use stack_direct::run_direct;
 use stack_threads::{InThreads, run_stages};
 use stage_crew::PlainPacer;
@@ -15,6 +14,7 @@ use std::sync::Wait;
 use std::sync::atomic::{AtomicU64, Ordering};
 use std::test::Fail;
 use std::thread::Threads;
+use tree_io::{MarkTake, RunFeed, Stopped};
 
 // More lists than there are.
 const MOST_LISTS: u64 = 1 << 40;

@@ -2,9 +2,9 @@
 // one thread gives of it.
 ghost use Rattle.std.specs.Prelude.{◌≡◌, ◌≢◌, ◌≤◌};
 
-use kind_table::Kind;
 use super::bus::{Marks, Samples, opened};
 use decoder_core::RunEnd;
+use kind_table::Kind;
 use la_base::Mark;
 use stack_direct::run_direct;
 use stack_threads::{InThreads, run_stages};

@@ -7,7 +7,6 @@ use super::line::opened_line_on;
 use dec_uart::Uart;
 use decoder_core::{Driver, RunEnd};
 use la_base::{Run, Word};
-use la_io::RunFeed;
 use stack_direct::run_direct;
 use stack_threads::{InThreads, run_stages};
 use stage_crew::PlainPacer;
@@ -15,6 +14,7 @@ use std::alloc::{AllocError, Global};
 use std::sync::Wait;
 use std::test::Fail;
 use std::thread::Threads;
+use tree_io::RunFeed;
 
 // More marks than there are.
 const ALL: usize = 100_000;

@@ -8,7 +8,7 @@ use crate::listers::two_lines;
 use crate::stacks::word;
 use crossbeam_utils::sync::EventCount;
 use la_base::{Mark, NoMemory, Note};
-use la_io::{MarkTake, MemSink};
+use la_io::MemSink;
 use note_lister::{ListStop, Lister, Watch};
 use note_order::Entry;
 use shelf_watch::ShelfWatch;
@@ -16,6 +16,7 @@ use stack_spec::Stack;
 use std::alloc::Global;
 use std::sync::Wait;
 use std::test::Fail;
+use tree_io::MarkTake;
 use view_store::{Answer, ViewReader, ViewWriter, shelf};
 
 // The note of a byte on a serial line.

@@ -1,5 +1,5 @@
 use Rattle.std.proofs.Common.{◌≡◌, ◌<◌, take, false}
-use Rattle.la_io.specs.Feeds.{real}
+use Rattle.tree_io.specs.Feeds.{real}
 use Rattle.annot_merge.specs.Held.{count_of}
 use Rattle.note_lister.specs.Pushing.{PushesMarks, TellsSome}
 use Rattle.note_lister.proofs.pushing.push_marks.Given as goal

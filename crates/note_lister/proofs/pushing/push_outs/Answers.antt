@@ -2,8 +2,8 @@ use Rattle.std.proofs.Common.{◌∷◌, ◌+◌, ◌∙◌, ◌<◌, [], ℕ, L
 use Rattle.std.proofs.lemmas.List.{take_all}
 use Rattle.la_base.specs.declared.wires.Mark.{Mark}
 use Rattle.la_base.specs.declared.wires.Out.{Out}
-use Rattle.la_io.specs.Feeds.{marks_of}
-use Rattle.la_io.proofs.Taking.{marks_next, marks_split}
+use Rattle.tree_io.specs.Feeds.{marks_of}
+use Rattle.tree_io.proofs.Taking.{marks_next, marks_split}
 use Rattle.annot_merge.specs.Held.{count_of}
 use Rattle.note_lister.specs.Pushing.{PushesFront, PushesMarks, TellsSome}
 use Rattle.note_lister.proofs.PushLemmas.{front_behind, pushes_nothing, pushes_then, tells_none, tells_then}

@@ -1,7 +1,7 @@
 use Rattle.std.proofs.Common.{◌∷◌, [], ◌++◌, ◌∙◌, ℕ, Bool, List, None, true, false, map, refl, sym, subst, arith}
 use Rattle.std.proofs.lemmas.List.{length-map}
 use Rattle.la_base.specs.declared.samples.Run.{Run}
-use Rattle.la_io.specs.Feeds.{given_now}
+use Rattle.tree_io.specs.Feeds.{given_now}
 use Rattle.tree_runs.specs.Passing.{Hands}
 use Rattle.tree_runs.specs.Runs.{run_items}
 use Rattle.stack_direct.specs.Trees.{TreeKnows, defined_in, machines_of, parents_of, stand_in}

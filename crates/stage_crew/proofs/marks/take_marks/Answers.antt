@@ -1,6 +1,6 @@
 use Rattle.std.proofs.Common.{[], Bool, true, false, Err, Ok, refl, sym, subst}
 use Rattle.tree_runs.specs.Passing.{Took}
-use Rattle.la_io.specs.Feeds.{real}
+use Rattle.tree_io.specs.Feeds.{real}
 use Rattle.stage_crew.specs.Gathering.{TakesUntil}
 use Rattle.tree_runs.proofs.Joining.{took_front}
 use Rattle.stage_crew.proofs.Common.{not_true}

@@ -2,7 +2,7 @@ use Rattle.std.proofs.Common.{◌∙◌, ◌++◌, ◌∷◌, [], ap, sym, arith
 use Rattle.la_base.specs.declared.wires.Mark.{Mark}
 use Rattle.la_base.specs.declared.wires.Out.{Out}
 use Rattle.std.proofs.lemmas.List.{append-nil}
-use Rattle.la_io.specs.Feeds.{marks_of}
+use Rattle.tree_io.specs.Feeds.{marks_of}
 use Rattle.stage_run.specs.Rows.{Kept}
 use Rattle.stage_run.proofs.Lists.{marks_made, marks_next, marks_space}
 use Rattle.stage_run.proofs.kept.keep_marks.Goals as goal

@@ -1,5 +1,5 @@
 use Rattle.std.proofs.Common.{◌≡◌, ◌++◌, take}
-use Rattle.la_io.specs.Feeds.{marks_of}
+use Rattle.tree_io.specs.Feeds.{marks_of}
 use Rattle.stage_run.proofs.kept.keep_marks.Given as goal
 
 abbrev pub invariant-loop-out : goal.invariant-loop-out

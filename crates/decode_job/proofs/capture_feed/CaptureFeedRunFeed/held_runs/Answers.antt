@@ -2,8 +2,8 @@ use Rattle.std.proofs.Common.{◌≡◌, ◌++◌, ◌+◌, ◌≤◌, Bool, tru
 use Rattle.std.proofs.lemmas.List.{append-nil}
 use Rattle.la_base.specs.Runs.{samples_of}
 use Rattle.la_base.specs.declared.samples.Run.{Run}
-use Rattle.la_io.specs.Feeds.{together}
-use Rattle.la_io.proofs.Together.{together-last}
+use Rattle.tree_io.specs.Feeds.{together}
+use Rattle.tree_io.proofs.Together.{together-last}
 use Rattle.capture_any.specs.Reading.{is_open_of}
 use Rattle.capture_any.specs.Taking.{GaveHeld}
 use Rattle.capture_any.proofs.Taking.{gave_at_hand}

@@ -1,7 +1,7 @@
 use Rattle.std.proofs.Common.{◌≡◌, Bool, true, Result, refl, sym, ◌∙◌, ap, subst}
 use Rattle.std.proofs.lemmas.List.{append-nil}
-use Rattle.la_io.specs.Feeds.{together}
-use Rattle.la_io.proofs.Together.{together-last}
+use Rattle.tree_io.specs.Feeds.{together}
+use Rattle.tree_io.proofs.Together.{together-last}
 use Rattle.decode_job.specs.Feeding.{GaveRuns}
 use Rattle.la_io.specs.declared.fault.CaptureError.{CaptureError}
 use Rattle.capture_any.specs.Reading.{is_open_of}

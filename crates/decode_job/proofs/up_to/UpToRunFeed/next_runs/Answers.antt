@@ -2,8 +2,8 @@ use Rattle.std.proofs.Common.{◌≡◌, ◌+◌, ◌-◌, List, true, take, len
 use Rattle.std.proofs.lemmas.List.{take_all}
 use Rattle.la_base.specs.Runs.{samples_of}
 use Rattle.la_base.specs.declared.samples.Run.{Run}
-use Rattle.la_io.specs.Feeds.{together}
-use Rattle.la_io.proofs.Together.{together-last}
+use Rattle.tree_io.specs.Feeds.{together}
+use Rattle.tree_io.proofs.Together.{together-last}
 use Rattle.capture_any.specs.Reading.{is_open_of}
 use Rattle.decode_job.specs.UpTo.{GaveUpTo}
 use Rattle.decode_job.proofs.Limits.{cut_at, given_on, limit_cut, limit_few, limit_on, other_runs}

@@ -1,9 +1,9 @@
 use Rattle.std.proofs.Common.{◌≡◌, ◌<◌, inl, inr, ℕ, List, [], ◌∷◌, ◌++◌, refl, sym, subst, arith}
 use Rattle.std.proofs.lemmas.List.{append-nil}
 use Rattle.la_base.specs.declared.wires.Mark.{Mark}
-use Rattle.la_io.specs.Feeds.{AddsMarks, TakesMarks, real}
+use Rattle.tree_io.specs.Feeds.{AddsMarks, TakesMarks, real}
 use Rattle.la_io.specs.Grown.{appends_nothing}
-use Rattle.la_io.proofs.Taking.{same_after, some_behind, takes_whole}
+use Rattle.tree_io.proofs.Taking.{same_after, some_behind, takes_whole}
 use Rattle.note_order.specs.declared.entry.Entry.{Entry}
 use Rattle.annot_merge.specs.Held.{Stands}
 use Rattle.annot_merge.specs.declared.merge.Merge.{Merge}

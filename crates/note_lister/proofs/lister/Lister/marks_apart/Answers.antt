@@ -2,8 +2,8 @@ use Rattle.std.proofs.Common.{◌≡◌, ◌≢◌, ◌∷◌, ◌+◌, ◌∙�
 use Rattle.std.specs.Prelude.{Err, IsSome}
 use Rattle.std.proofs.lemmas.List.{take_all}
 use Rattle.la_base.specs.declared.wires.Mark.{Mark}
-use Rattle.la_io.specs.Feeds.{TakesMarks, real}
-use Rattle.la_io.proofs.Taking.{real_next, stops_at_real, takes_nothing, takes_then, takes_whole}
+use Rattle.tree_io.specs.Feeds.{TakesMarks, real}
+use Rattle.tree_io.proofs.Taking.{real_next, stops_at_real, takes_nothing, takes_then, takes_whole}
 use Rattle.note_lister.proofs.PushLemmas.{none_more}
 use Rattle.note_lister.specs.Taking.{StaysStopped, StopsFor, Took, cause_of, sink_of}
 use Rattle.note_lister.specs.declared.lister.Lister.{Lister}

@@ -1,6 +1,6 @@
 use Rattle.std.proofs.Common.{◌≡◌, ◌<◌, [], take, true, false}
 use Rattle.std.specs.Prelude.{IsSome}
-use Rattle.la_io.specs.Feeds.{TakesMarks, marks_of}
+use Rattle.tree_io.specs.Feeds.{TakesMarks, marks_of}
 use Rattle.note_lister.specs.Taking.{cause_of, sink_of, Goes, SameOrigin, Took, instances_of, merges_in, stops_of}
 use Rattle.note_lister.proofs.lister.Lister.outs_apart.Given as goal
 

@@ -1,7 +1,7 @@
 use Rattle.std.proofs.Common.{[], ◌∷◌, Option, refl, sym, subst}
 use Rattle.la_base.specs.declared.wires.Mark.{Mark}
-use Rattle.la_io.specs.Feeds.{TakesMarks}
-use Rattle.la_io.proofs.Taking.{takes_nothing}
+use Rattle.tree_io.specs.Feeds.{TakesMarks}
+use Rattle.tree_io.proofs.Taking.{takes_nothing}
 use Rattle.note_lister.specs.Pushing.{list_of}
 use Rattle.note_lister.specs.Taking.{Took}
 use Rattle.note_lister.proofs.lister.Lister.some_apart.Goals as goal

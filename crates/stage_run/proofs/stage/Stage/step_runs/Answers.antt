@@ -5,7 +5,7 @@ use Rattle.la_base.specs.declared.wires.Feed.{Feed}
 use Rattle.la_base.specs.declared.wires.Out.{Out}
 use Rattle.decoder_core.specs.Driving.{LeavesFewer}
 use Rattle.decoder_core.specs.Inputs.{Sample}
-use Rattle.la_io.specs.Feeds.{marks_of}
+use Rattle.tree_io.specs.Feeds.{marks_of}
 use Rattle.stack_laws.specs.Feeds.{feeds_of, items_in}
 use Rattle.stack_laws.specs.Moves.{StepOn, makes}
 use Rattle.stage_run.specs.Boxes.{children_of, told_of}

@@ -8,7 +8,7 @@ use Rattle.la_base.specs.declared.wires.Mark.{Mark}
 use Rattle.la_base.specs.declared.wires.Mark.TheVariants.{Note as NoteMark, Piece as PieceMark, Floor as FloorMark, End as EndMark}
 use Rattle.la_base.specs.declared.wires.Out.{Out}
 use Rattle.la_base.specs.declared.wires.Out.TheVariants.{Note as NoteOut, Piece as PieceOut, Packet as PacketOut}
-use Rattle.la_io.specs.Feeds.{AddsMarks, TakesFront, TakesMarks, marks_of, real}
+use Rattle.tree_io.specs.Feeds.{AddsMarks, TakesFront, TakesMarks, marks_of, real}
 
 pub marks-append : (xs ys : List Out) → marks_of (xs ++ ys) ≡ marks_of xs ++ marks_of ys
 marks-append [] ys = refl

@@ -2,9 +2,9 @@ use Rattle.std.proofs.Common.{◌∷◌, ◌+◌, ◌∙◌, ◌<◌, [], ℕ, L
 use Rattle.std.proofs.lemmas.List.{take_all}
 use Rattle.la_base.specs.declared.wires.Mark.{Mark}
 use Rattle.la_io.specs.Causes.{HasCause}
-use Rattle.la_io.specs.Feeds.{TakesMarks, real}
-use Rattle.la_io.proofs.Taking.{real_next, stops_at_real, takes_nothing, takes_then, takes_whole}
-use Rattle.la_io.proofs.feeds.MarkTake.take_marks.Goals as goal
+use Rattle.tree_io.specs.Feeds.{TakesMarks, real}
+use Rattle.tree_io.proofs.Taking.{real_next, stops_at_real, takes_nothing, takes_then, takes_whole}
+use Rattle.tree_io.proofs.feeds.MarkTake.take_marks.Goals as goal
 
 pub loop-mark-init : goal.loop-mark-init
 loop-mark-init g c =

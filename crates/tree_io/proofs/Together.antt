@@ -1,7 +1,7 @@
 -- Lists of lists, one behind another.
 use Rattle.std.proofs.Common.{◌≡◌, List, [], ◌∷◌, ◌++◌, refl, sym, ◌∙◌, ap, append_assoc}
 use Rattle.std.proofs.lemmas.List.{append-nil}
-use Rattle.la_io.specs.Feeds.{together}
+use Rattle.tree_io.specs.Feeds.{together}
 
 pub together-append : {X : Type 0} (xs ys : List (List X))
     → together (xs ++ ys) ≡ together xs ++ together ys

@@ -2,9 +2,9 @@ use Rattle.std.proofs.Common.{◌∷◌, ◌+◌, ◌∙◌, ◌<◌, [], ℕ, L
 use Rattle.std.proofs.lemmas.List.{take_all}
 use Rattle.la_base.specs.declared.wires.Out.{Out}
 use Rattle.la_io.specs.Causes.{HasCause}
-use Rattle.la_io.specs.Feeds.{TakesMarks, marks_of}
-use Rattle.la_io.proofs.Taking.{marks_next, stops_at, takes_nothing, takes_then, takes_whole}
-use Rattle.la_io.proofs.feeds.MarkTake.take_outs.Goals as goal
+use Rattle.tree_io.specs.Feeds.{TakesMarks, marks_of}
+use Rattle.tree_io.proofs.Taking.{marks_next, stops_at, takes_nothing, takes_then, takes_whole}
+use Rattle.tree_io.proofs.feeds.MarkTake.take_outs.Goals as goal
 
 pub loop-out-init : goal.loop-out-init
 loop-out-init g c =

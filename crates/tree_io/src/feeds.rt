@@ -5,8 +5,8 @@ ghost use Rattle.std.specs.Result.{is_ok};
 ghost use Rattle.la_base.specs.declared.samples.Run.{Run};
 ghost use Rattle.la_base.specs.declared.wires.Mark.{Mark};
 ghost use Rattle.la_io.specs.Causes.{HasCause};
-ghost use Rattle.la_io.specs.Feeds.{Counts, GivesHeld, GivesRuns, TakesFront, TakesMark, TakesMarks};
-ghost use Rattle.la_io.specs.Feeds.{TellsMore, marks_of, real};
+ghost use Rattle.tree_io.specs.Feeds.{Counts, GivesHeld, GivesRuns, TakesFront, TakesMark, TakesMarks};
+ghost use Rattle.tree_io.specs.Feeds.{TellsMore, marks_of, real};
 
 use la_base::{Mark, Out, Run};
 
