@@ -20,13 +20,12 @@ use la_io::{Buffered, Failed, Sink, Source};
 use note_lister::{ListStop, Lister, Watch};
 use std::snapshot::Snapshot;
 
-/// Capture, source, sink and what looked on behind a run, and how the run ended.
-pub(crate) struct Ran<'a, 'b, 'c, S: Source, K: Sink, W: Watch> {
+/// Capture, source and sink behind a run, and what it came to.
+pub(crate) struct Ran<'a, 'b, 'c, S: Source, K: Sink, T> {
     pub(crate) capture: &'a mut Capture,
     pub(crate) source: &'b mut S,
     pub(crate) sink: &'c mut K,
-    pub(crate) watch: W,
-    pub(crate) end: ListingEnd,
+    pub(crate) came_to: T,
 }
 
 // How a run ends for which there is this cause.
@@ -62,7 +61,7 @@ pub(crate) fn close<'a, 'b, 'c, S: Source, K: Sink, W: Watch, M: Machine>(
     feed: CaptureFeed<'a, 'b, S>,
     lister: Lister<'_, 'c, K, W>,
     ran: Result<RunEnd, NoMemory>,
-) -> Ran<'a, 'b, 'c, S, K, W>
+) -> Ran<'a, 'b, 'c, S, K, (ListingEnd, W)>
     requires lawful { IsLawful parents.now
         (defined M.outputs M.near (map M.setup before.value.items)) }
     requires tree { IsTree parents.now (length before.value.items) (instances_of lister) }
@@ -73,9 +72,9 @@ pub(crate) fn close<'a, 'b, 'c, S: Source, K: Sink, W: Watch, M: Machine>(
     ensures same_sink { result.sink.ghost_name ≡ (first_of lister.entry).ghost_name }
     ensures decodes { Decodes M.Machine S.Source K.Sink (stack_of lister.entry) before.value.items
         parents.now feed.entry.first_capture.value.now feed.entry.first_source.value.now
-        result.source.now (first_sink lister.entry) result.sink.now (W.saw result.watch)
-        result.end }
-    ensures watch { result.watch ≡ watch_of lister.entry }
+        result.source.now (first_sink lister.entry) result.sink.now (W.saw result.came_to.1)
+        result.came_to.0 }
+    ensures watch { result.came_to.1 ≡ watch_of lister.entry }
     ensures goes_on { K.goes_on (first_sink lister.entry) result.sink.now }
 {
     let CaptureFeed {
@@ -94,8 +93,7 @@ pub(crate) fn close<'a, 'b, 'c, S: Source, K: Sink, W: Watch, M: Machine>(
         capture,
         source,
         sink,
-        watch,
-        end: end_behind(ran, cause, end),
+        came_to: (end_behind(ran, cause, end), watch),
     }
 }
 

@@ -1,17 +1,14 @@
 // The job `decode`.
-ghost use Rattle.std.specs.Prelude.{◌≡◌, ◌≤◌, [], length, true};
+ghost use Rattle.std.specs.Prelude.{◌≡◌, [], length, true};
 ghost use Rattle.capture_any.specs.Reading.{is_open_of};
-ghost use Rattle.annot_merge.specs.Held.{count_of};
-ghost use Rattle.tree_runs.specs.Passing.{IsForest};
-ghost use Rattle.tree_runs.specs.Taking.{IsTree};
-ghost use Rattle.stack_spec.specs.Stacks.{instances_in};
-ghost use Rattle.decode_job.specs.Asking.{IsNew, WantsOf};
+ghost use Rattle.decode_job.specs.Asking.{CanDecode, CanList};
 ghost use Rattle.decode_job.specs.Decoding.{Decodes};
 
 use crate::DecodeEnd;
 use crate::capture_feed::CaptureFeed;
 use crate::ending::{Ran, close, goes_back, hand_on};
-use crate::running::run_here;
+use crate::running::run_alone;
+use crate::tree::Tree;
 use annot_merge::Merge;
 use capture_any::Capture;
 use decoder_core::Machine;
@@ -19,7 +16,6 @@ use la_base::NoMemory;
 use la_io::{Buffered, Sink, Source};
 use note_lister::{Lister, Watch};
 use stack_laws::laws::machines_are_a_tree;
-use stack_spec::Stack;
 use stack_threads::{InThreads, run_stages};
 use stage_crew::Pacer;
 use std::alloc::Global;
@@ -29,41 +25,42 @@ use std::thread::Threads;
 
 // Runs the machines over the capture to its end, and writes what they give as it comes.
 fn list_here<S: Source, K: Sink, W: Watch, M: Machine + Drop>(
-    stack: &Stack,
+    tree: Tree<'_, M>,
     merge: Merge,
     capture: &mut Capture,
-    machines: Vec<M>,
-    parents: &[Option<u32>],
     source: &mut S,
     sink: &mut K,
     watch: W,
 ) -> (DecodeEnd, W)
     requires unseen { W.saw watch [] }
     requires is_open { is_open_of capture.old ≡ true }
-    requires tree { IsTree parents.now (length machines.items) (count_of merge) }
-    requires new { IsNew merge }
-    requires wanted { WantsOf stack.now (length parents.now) }
-    ensures decodes { Decodes M.Machine S.Source K.Sink stack.now machines.items parents.now
-        capture.old source.old source.new sink.old sink.new (W.saw result.1) result.0 }
+    requires lists { CanList tree.stack.now (length tree.machines.items) tree.parents.now merge }
+    ensures decodes { Decodes M.Machine S.Source K.Sink tree.entry.stack.now
+        tree.entry.machines.items tree.entry.parents.now capture.old source.old source.new
+        sink.old sink.new (W.saw result.1) result.0 }
     ensures origin { W.origin result.1 ≡ W.origin watch }
     ensures goes_on { K.goes_on sink.old sink.new }
 {
+    let Tree {
+        stack,
+        machines,
+        parents,
+    } = tree;
     let mut feed = CaptureFeed::new(capture, source);
     let mut lister = Lister::over(stack, merge, sink, watch);
     let before = Snapshot::of(&machines);
     machines_are_a_tree(&machines, parents);
-    let ran = run_here(machines, parents, &mut feed, &mut lister);
+    let ran = run_alone(machines, parents, &mut feed, &mut lister);
     let Ran {
         capture: read,
         source: read_from,
         sink: written_to,
-        watch,
-        end,
+        came_to,
     } = close(before, parents, feed, lister, ran);
     goes_back(read);
     goes_back(read_from);
     goes_back(written_to);
-    (end, watch)
+    came_to
 }
 
 // The same with a thread for each machine.
@@ -76,25 +73,27 @@ fn list_in_threads<
     M: Machine + Send + Drop,
 >(
     way: &InThreads<R, P>,
-    stack: &Stack,
+    tree: Tree<'_, M>,
     merge: Merge,
     capture: &mut Capture,
-    machines: Vec<M>,
-    parents: &[Option<u32>],
     source: &mut S,
     sink: &mut K,
     watch: W,
 ) -> (DecodeEnd, W)
     requires unseen { W.saw watch [] }
     requires is_open { is_open_of capture.old ≡ true }
-    requires tree { IsTree parents.now (length machines.items) (count_of merge) }
-    requires new { IsNew merge }
-    requires wanted { WantsOf stack.now (length parents.now) }
-    ensures decodes { Decodes M.Machine S.Source K.Sink stack.now machines.items parents.now
-        capture.old source.old source.new sink.old sink.new (W.saw result.1) result.0 }
+    requires lists { CanList tree.stack.now (length tree.machines.items) tree.parents.now merge }
+    ensures decodes { Decodes M.Machine S.Source K.Sink tree.entry.stack.now
+        tree.entry.machines.items tree.entry.parents.now capture.old source.old source.new
+        sink.old sink.new (W.saw result.1) result.0 }
     ensures origin { W.origin result.1 ≡ W.origin watch }
     ensures goes_on { K.goes_on sink.old sink.new }
 {
+    let Tree {
+        stack,
+        machines,
+        parents,
+    } = tree;
     let mut feed = CaptureFeed::new(capture, source);
     let mut lister = Lister::over(stack, merge, sink, watch);
     let before = Snapshot::of(&machines);
@@ -104,59 +103,43 @@ fn list_in_threads<
         capture: read,
         source: read_from,
         sink: written_to,
-        watch,
-        end,
+        came_to,
     } = close(before, parents, feed, lister, ran);
     goes_back(read);
     goes_back(read_from);
     goes_back(written_to);
-    (end, watch)
+    came_to
 }
 
 /// Reads the capture to its end, and writes the notes that the machines give, those of the
 /// instances that are shown, in the order of a listing and each as soon as no earlier one can come;
-/// or the bytes of the binary data that is wanted, and nothing else. A machine with no parent reads
-/// the samples, each other one the packets of its parent. What is written goes through a buffer
-/// before the sink, which hands all on at the end.
+/// or the bytes of the binary data that is wanted, and nothing else. What is written goes through a
+/// buffer before the sink, which hands all on at the end.
 ///
 /// What looks on has seen nothing yet. It is shown the notes as their lines are written, and given
 /// back. Where a write fails, it may have seen notes whose lines were still in the buffer.
 pub fn decode<S: Source, K: Sink, W: Watch, M: Machine + Drop>(
     alloc: Global,
-    stack: &Stack,
+    tree: Tree<'_, M>,
     capture: &mut Capture,
-    machines: Vec<M>,
-    parents: &[Option<u32>],
     source: &mut S,
     sink: &mut K,
     watch: W,
 ) -> (DecodeEnd, W)
     requires unseen { W.saw watch [] }
     requires is_open { is_open_of capture.old ≡ true }
-    requires forest { IsForest parents.now }
-    requires few { length parents.now ≤ 24 }
-    requires each { length machines.items ≡ length parents.now }
-    requires instances { length (instances_in stack.now) ≡ length parents.now }
-    requires wanted { WantsOf stack.now (length parents.now) }
-    ensures decodes { Decodes M.Machine S.Source K.Sink stack.now machines.items parents.now
-        capture.old source.old source.new sink.old sink.new (W.saw result.1) result.0 }
+    requires tree { CanDecode tree.stack.now (length tree.machines.items) tree.parents.now }
+    ensures decodes { Decodes M.Machine S.Source K.Sink tree.entry.stack.now
+        tree.entry.machines.items tree.entry.parents.now capture.old source.old source.new
+        sink.old sink.new (W.saw result.1) result.0 }
     ensures origin { W.origin result.1 ≡ W.origin watch }
 {
-    let merge = match Merge::new(alloc, stack.count()) {
+    let merge = match Merge::new(alloc, tree.stack.count()) {
         Ok(merge) => merge,
         Err(NoMemory) => return (DecodeEnd::NoMemory, watch),
     };
     let mut buffered = Buffered::new(sink);
-    let (end, watch) = list_here(
-        stack,
-        merge,
-        capture,
-        machines,
-        parents,
-        source,
-        &mut buffered,
-        watch,
-    );
+    let (end, watch) = list_here(tree, merge, capture, source, &mut buffered, watch);
     (hand_on(&mut buffered, end), watch)
 }
 
@@ -171,40 +154,25 @@ pub fn decode_in_threads<
     M: Machine + Send + Drop,
 >(
     way: &InThreads<R, P>,
-    stack: &Stack,
+    tree: Tree<'_, M>,
     capture: &mut Capture,
-    machines: Vec<M>,
-    parents: &[Option<u32>],
     source: &mut S,
     sink: &mut K,
     watch: W,
 ) -> (DecodeEnd, W)
     requires unseen { W.saw watch [] }
     requires is_open { is_open_of capture.old ≡ true }
-    requires forest { IsForest parents.now }
-    requires few { length parents.now ≤ 24 }
-    requires each { length machines.items ≡ length parents.now }
-    requires instances { length (instances_in stack.now) ≡ length parents.now }
-    requires wanted { WantsOf stack.now (length parents.now) }
-    ensures decodes { Decodes M.Machine S.Source K.Sink stack.now machines.items parents.now
-        capture.old source.old source.new sink.old sink.new (W.saw result.1) result.0 }
+    requires tree { CanDecode tree.stack.now (length tree.machines.items) tree.parents.now }
+    ensures decodes { Decodes M.Machine S.Source K.Sink tree.entry.stack.now
+        tree.entry.machines.items tree.entry.parents.now capture.old source.old source.new
+        sink.old sink.new (W.saw result.1) result.0 }
     ensures origin { W.origin result.1 ≡ W.origin watch }
 {
-    let merge = match Merge::new(way.alloc, stack.count()) {
+    let merge = match Merge::new(way.alloc, tree.stack.count()) {
         Ok(merge) => merge,
         Err(NoMemory) => return (DecodeEnd::NoMemory, watch),
     };
     let mut buffered = Buffered::new(sink);
-    let (end, watch) = list_in_threads(
-        way,
-        stack,
-        merge,
-        capture,
-        machines,
-        parents,
-        source,
-        &mut buffered,
-        watch,
-    );
+    let (end, watch) = list_in_threads(way, tree, merge, capture, source, &mut buffered, watch);
     (hand_on(&mut buffered, end), watch)
 }

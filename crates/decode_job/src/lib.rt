@@ -9,6 +9,7 @@ mod laws;
 mod part_end;
 mod part_job;
 mod running;
+mod tree;
 mod up_to;
 
 pub use capture_any::ListingEnd as DecodeEnd;
@@ -18,3 +19,4 @@ pub use laws::parts_list_the_whole;
 pub use part_end::PartEnd;
 pub use part_job::part;
 pub use stack_threads::InThreads;
+pub use tree::{PartStart, Tree};

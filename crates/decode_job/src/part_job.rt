@@ -1,12 +1,10 @@
 // The decoding of a part of a capture.
 ghost use Rattle.std.specs.Prelude.{◌≡◌, ◌≤◌, ◌-◌, ◌^◌, [], length, map, true};
 ghost use Rattle.capture_any.specs.Reading.{is_open_of};
-ghost use Rattle.annot_merge.specs.Held.{count_of as merged_of};
 ghost use Rattle.note_lister.specs.Taking.{cause_of, sink_of, sink_ref};
 ghost use Rattle.stack_spec.specs.Stacks.{instances_in};
 ghost use Rattle.tree_runs.specs.Passing.{IsForest};
-ghost use Rattle.tree_runs.specs.Taking.{IsTree};
-ghost use Rattle.decode_job.specs.Asking.{IsNew, WantsOf};
+ghost use Rattle.decode_job.specs.Asking.{CanList, WantsOf};
 ghost use Rattle.decode_job.specs.Flushing.{Flushes};
 ghost use Rattle.decode_job.specs.PartRunning.{Checks, ListsPart, end_of_part};
 ghost use Rattle.decode_job.specs.Parting.{DecodesPart, room_behind};
@@ -15,8 +13,9 @@ ghost use Rattle.decode_job.specs.declared.part_end.PartEnd.TheVariants.{Ended a
 ghost use Rattle.capture_any.specs.declared.end.ListingEnd.TheVariants.{Write as WriteEnd};
 
 use crate::capture_feed::CaptureFeed;
-use crate::ending::{end_of_stop, goes_back};
+use crate::ending::{Ran, end_of_stop, goes_back};
 use crate::part_end::PartEnd;
+use crate::tree::PartStart;
 use crate::up_to::UpTo;
 use annot_merge::Merge;
 use capture_any::{Capture, ListingEnd};
@@ -27,7 +26,6 @@ use la_io::{Buffered, Failed, Sink, Source};
 use note_lister::{ListStop, Lister, Unwatched, Watch};
 use stack_direct::run_direct;
 use stack_laws::laws::machines_are_a_tree;
-use stack_spec::Stack;
 use std::alloc::Global;
 
 // How many samples may come before a checkpoint.
@@ -38,14 +36,6 @@ const MOST_SAMPLES: u64 = 1 << 59;
 struct Listed {
     end: PartEnd,
     given: u64,
-}
-
-// Source and sink behind a run, and what it came to.
-struct Ran<'a, 'b, 'c, S: Source, K: Sink> {
-    capture: &'a mut Capture,
-    source: &'b mut S,
-    sink: &'c mut K,
-    listed: Listed,
 }
 
 // How a part ends, by the cause for which its run was stopped, if it was, by whether there were
@@ -64,14 +54,14 @@ fn end_of_part(cause: Option<ListStop>, past: bool, end: ListingEnd) -> PartEnd
 fn close_part<'a, 'b, 'c, S: Source, K: Sink, W: Watch + Drop>(
     feed: UpTo<'a, 'b, S>,
     lister: Lister<'_, 'c, K, W>,
-) -> Ran<'a, 'b, 'c, S, K>
+) -> Ran<'a, 'b, 'c, S, K, Listed>
     ensures source { result.source.now ≡ (inner_of feed.entry).source.now }
     ensures same_source { result.source.ghost_name ≡ (inner_of feed.entry).source.ghost_name }
     ensures sink { result.sink.now ≡ sink_of lister.entry }
     ensures same_sink { result.sink.ghost_name ≡ (sink_ref lister.entry).ghost_name }
-    ensures end { result.listed.end
+    ensures end { result.came_to.end
         ≡ end_of_part (cause_of lister.entry) (is_past feed.entry) (inner_of feed.entry).end }
-    ensures given { result.listed.given ≡ count_of feed.entry }
+    ensures given { result.came_to.given ≡ count_of feed.entry }
 {
     let UpTo {
         feed,
@@ -90,7 +80,7 @@ fn close_part<'a, 'b, 'c, S: Source, K: Sink, W: Watch + Drop>(
         capture,
         source,
         sink,
-        listed: Listed {
+        came_to: Listed {
             end: end_of_part(cause, past, end),
             given,
         },
@@ -100,44 +90,40 @@ fn close_part<'a, 'b, 'c, S: Source, K: Sink, W: Watch + Drop>(
 // Runs the machines over the capture, behind so many earlier samples, and writes what they add as
 // it comes.
 fn list_part<S: Source, K: Sink, W: Watch + Drop, M: Machine>(
-    stack: &Stack,
+    start: &PartStart,
     merge: Merge,
     capture: &mut Capture,
     machines: &mut [M],
-    parents: &[Option<u32>],
-    earlier: u64,
     source: &mut S,
     sink: &mut K,
     watch: W,
 ) -> Listed
     requires unseen { W.saw watch [] }
     requires is_open { is_open_of capture.old ≡ true }
-    requires tree { IsTree parents.now (length machines.old) (merged_of merge) }
-    requires new { IsNew merge }
-    requires wanted { WantsOf stack.now (length parents.now) }
-    requires few { earlier ≤ 2 ^ 59 }
-    ensures lists { ListsPart M.Machine S.Source K.Sink stack.now machines.old machines.new
-        parents.now earlier capture.old source.old source.new sink.old sink.new result.end
-        result.given }
-    ensures fits { result.given ≤ room_behind earlier }
+    requires lists { CanList start.now.stack.now (length machines.old) start.now.parents.now merge }
+    requires few { start.now.earlier ≤ 2 ^ 59 }
+    ensures lists { ListsPart M.Machine S.Source K.Sink start.now.stack.now machines.old
+        machines.new start.now.parents.now start.now.earlier capture.old source.old source.new
+        sink.old sink.new result.end result.given }
+    ensures fits { result.given ≤ room_behind start.now.earlier }
     ensures setups { map M.setup machines.new ≡ map M.setup machines.old }
     ensures goes_on { K.goes_on sink.old sink.new }
 {
     let captured = CaptureFeed::new(capture, source);
-    let mut feed = UpTo::new(captured, MOST_SAMPLES - earlier);
-    let mut lister = Lister::over(stack, merge, sink, watch);
-    machines_are_a_tree(machines, parents);
-    run_direct(machines, parents, &mut feed, &mut lister);
+    let mut feed = UpTo::new(captured, MOST_SAMPLES - start.earlier);
+    let mut lister = Lister::over(start.stack, merge, sink, watch);
+    machines_are_a_tree(machines, start.parents);
+    run_direct(machines, start.parents, &mut feed, &mut lister);
     let Ran {
         capture: read,
         source: read_from,
         sink: written_to,
-        listed,
+        came_to,
     } = close_part(feed, lister);
     goes_back(read);
     goes_back(read_from);
     goes_back(written_to);
-    listed
+    came_to
 }
 
 // Writes the checkpoint where the capture ended well, and answers how the part ended then.
@@ -185,43 +171,39 @@ fn hand_part_on<K: Sink>(buffered: &mut Buffered<K>, end: PartEnd) -> PartEnd
 /// Of machines that stand for no samples nothing is said of what is written.
 pub fn part<S: Source, K: Sink, M: Keep>(
     alloc: Global,
-    stack: &Stack,
+    start: &PartStart,
     capture: &mut Capture,
     machines: &mut [M],
-    kinds: &[u8],
-    parents: &[Option<u32>],
-    earlier: u64,
     source: &mut S,
     sink: &mut K,
 ) -> PartEnd
     requires is_open { is_open_of capture.old ≡ true }
-    requires forest { IsForest parents.now }
-    requires each { length machines.old ≡ length parents.now }
-    requires instances { length (instances_in stack.now) ≡ length parents.now }
-    requires wanted { WantsOf stack.now (length parents.now) }
-    requires kinds { length kinds.now ≡ length machines.old }
-    requires most { length kinds.now ≤ 8 }
-    requires few { earlier ≤ 2 ^ 59 }
-    ensures { DecodesPart M.Machine M.saves S.Source K.Sink stack.now machines.old kinds.now
-        parents.now earlier capture.old source.old source.new sink.old sink.new result }
+    requires forest { IsForest start.now.parents.now }
+    requires each { length machines.old ≡ length start.now.parents.now }
+    requires instances { length (instances_in start.now.stack.now) ≡ length start.now.parents.now }
+    requires wanted { WantsOf start.now.stack.now (length start.now.parents.now) }
+    requires kinds { length start.now.kinds.now ≡ length machines.old }
+    requires most { length start.now.kinds.now ≤ 8 }
+    requires few { start.now.earlier ≤ 2 ^ 59 }
+    ensures { DecodesPart M.Machine M.saves S.Source K.Sink start.now.stack.now machines.old
+        start.now.kinds.now start.now.parents.now start.now.earlier capture.old source.old
+        source.new sink.old sink.new result }
 {
-    let merge = match Merge::new(alloc, stack.count()) {
+    let merge = match Merge::new(alloc, start.stack.count()) {
         Ok(merge) => merge,
         Err(NoMemory) => return PartEnd::Ended(ListingEnd::NoMemory),
     };
     let mut buffered = Buffered::new(sink);
     let listed = list_part(
-        stack,
+        start,
         merge,
         capture,
         machines,
-        parents,
-        earlier,
         source,
         &mut buffered,
         Unwatched,
     );
-    let samples = earlier + listed.given;
-    let end = check_behind(&mut buffered, samples, machines, kinds, listed.end);
+    let samples = start.earlier + listed.given;
+    let end = check_behind(&mut buffered, samples, machines, start.kinds, listed.end);
     hand_part_on(&mut buffered, end)
 }

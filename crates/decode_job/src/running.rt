@@ -16,7 +16,7 @@ use tree_io::{MarkTake, RunFeed};
 
 /// Runs the tree to the end of the feed, or until the one that takes the marks has stopped, on the
 /// thread that asks for it.
-pub(crate) fn run_here<M: Machine + Drop, F: RunFeed, G: MarkTake>(
+pub(crate) fn run_alone<M: Machine + Drop, F: RunFeed, G: MarkTake>(
     machines: Vec<M>,
     parents: &[Option<u32>],
     feed: &mut F,

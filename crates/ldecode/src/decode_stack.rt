@@ -8,7 +8,7 @@ ghost use Rattle.ldecode.specs.Asking.{NamesNoHead};
 ghost use Rattle.ldecode.specs.Calls.{AreRead, DecodesAs};
 
 use crate::open_stack::{Opened, open_stack};
-use decode_job::{DecodeEnd, InThreads, decode, decode_in_threads};
+use decode_job::{DecodeEnd, InThreads, Tree, decode, decode_in_threads};
 use la_io::{Sink, Source};
 use note_lister::Watch;
 use run_status::Status;
@@ -48,16 +48,12 @@ pub(crate) fn decode_stack<S: Source, K: Sink, W: Watch>(
         Err(status) => return (Err(status), watch),
     };
     let mut capture = capture;
-    let (end, watch) = decode(
-        alloc,
-        &stack,
-        &mut capture,
+    let tree = Tree {
+        stack: &stack,
         machines,
-        &parents,
-        source,
-        sink,
-        watch,
-    );
+        parents: &parents,
+    };
+    let (end, watch) = decode(alloc, tree, &mut capture, source, sink, watch);
     (Ok(end), watch)
 }
 
@@ -95,16 +91,12 @@ pub(crate) fn decode_stack_in_threads<
         Err(status) => return (Err(status), watch),
     };
     let mut capture = capture;
-    let (end, watch) = decode_in_threads(
-        way,
-        &stack,
-        &mut capture,
+    let tree = Tree {
+        stack: &stack,
         machines,
-        &parents,
-        source,
-        sink,
-        watch,
-    );
+        parents: &parents,
+    };
+    let (end, watch) = decode_in_threads(way, tree, &mut capture, source, sink, watch);
     (Ok(end), watch)
 }
 

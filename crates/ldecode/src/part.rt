@@ -17,7 +17,7 @@ use crate::open_stack::{Opened, open_stack};
 use crate::part_status::status_of_part;
 use arrayvec::ArrayVec;
 use check_point::{CheckFault, CheckWhy, read_check};
-use decode_job::part;
+use decode_job::{PartStart, part};
 use decoder_core::Keep;
 use decoder_set::AnyDecoder;
 use kind_table::place_of;
@@ -106,16 +106,13 @@ pub fn part_stack<S: Source, K: Sink>(
         Ok(earlier) => earlier,
         Err(fault) => return Status::Check(fault),
     };
-    let mut capture = capture;
-    status_of_part(part(
-        alloc,
-        &stack,
-        &mut capture,
-        machines,
-        places(&stack).as_slice(),
-        &parents,
+    let kinds = places(&stack);
+    let start = PartStart {
+        stack: &stack,
+        parents: &parents,
+        kinds: kinds.as_slice(),
         earlier,
-        source,
-        sink,
-    ))
+    };
+    let mut capture = capture;
+    status_of_part(part(alloc, &start, &mut capture, machines, source, sink))
 }

@@ -10,8 +10,8 @@ returns-in-Err-clause-decodes g c = record {
       let m = g.M.Machine in
       let s = g.S.Source in
       let k = g.K.Sink in
-      let machines = c.args.machines.items in
-      nothing_done c.args.capture.now before told (s.left c.args.source.now) (k.written c.args.sink.now) (output m s k c.args.stack.now machines c.args.parents.now) (notes m s k c.args.stack.now machines c.args.parents.now) (g.W.Watch.saw c.args.watch) c.requires.unseen at stands;
+      let machines = c.args.tree.machines.items in
+      nothing_done c.args.capture.now before told (s.left c.args.source.now) (k.written c.args.sink.now) (output m s k c.args.tree.stack.now machines c.args.tree.parents.now) (notes m s k c.args.tree.stack.now machines c.args.tree.parents.now) (g.W.Watch.saw c.args.watch) c.requires.unseen at stands;
   read = omega arith;
   write = refl;
 }
@@ -20,5 +20,5 @@ pub returns-clause-decodes : goal.returns-clause-decodes
 returns-clause-decodes g c =
     let listed = c.list_in_threads-end in
     let decodes = listed.ensures.decodes in
-    through g.M.Machine g.S.Source g.K.Sink c.args.stack.now c.args.machines.items c.args.parents.now c.args.capture.now c.args.source.now listed.new.source (g.W.Watch.saw listed.result.1) c.args.sink.now _ c.new-buffered.result listed.new.sink c.hand_on.new.buffered c.new-buffered.ensures.sink c.new-buffered.ensures.empty
+    through g.M.Machine g.S.Source g.K.Sink c.args.tree.stack.now c.args.tree.machines.items c.args.tree.parents.now c.args.capture.now c.args.source.now listed.new.source (g.W.Watch.saw listed.result.1) c.args.sink.now _ c.new-buffered.result listed.new.sink c.hand_on.new.buffered c.new-buffered.ensures.sink c.new-buffered.ensures.empty
     listed.ensures.goes_on (λ same. search rules) listed.result.0 c.hand_on.result decodes.lists decodes.read decodes.write c.hand_on.ensures

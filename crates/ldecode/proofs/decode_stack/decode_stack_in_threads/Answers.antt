@@ -1,5 +1,5 @@
-use Rattle.std.proofs.Common.{◌≡◌, sym, subst}
-use Rattle.tree_runs.specs.Passing.{IsForest}
+use Rattle.std.proofs.Common.{◌≡◌, length, sym, subst}
+use Rattle.decode_job.specs.Asking.{CanDecode}
 use Rattle.words.specs.Settings.{meaning_of}
 use Rattle.ldecode.specs.Asking.{NamesNoHead}
 use Rattle.ldecode.specs.Watching.{IsSeen, IsSeenFront}
@@ -39,5 +39,8 @@ returns-clause-causes g c =
       write = sink_cause (g.K.Sink.faults c.args.sink.now) (g.K.Sink.faults ran.new.sink) ran.result.0 ran.ensures.decodes.write;
     }
 
-pub decode_in_threads-end-requires-clause-forest : goal.decode_in_threads-end-requires-clause-forest
-decode_in_threads-end-requires-clause-forest g c κs within = subst IsForest (sym c.deref.ensures.value) c.in-Ok.ensures.opened.forest
+pub decode_in_threads-end-requires-clause-tree : goal.decode_in_threads-end-requires-clause-tree
+decode_in_threads-end-requires-clause-tree g c κs within =
+    let is = c.in-Ok.ensures.opened in
+    subst (CanDecode c.in-Ok.opened.stack (length c.in-Ok.opened.machines.items)) (sym c.deref.ensures.value)
+    (record { forest = is.forest; few = is.few; each = is.each; instances = is.instances; wanted = is.wanted })

@@ -28,7 +28,7 @@ returns-clause-works g c =
     let decoders : List AnyDecoder = c.as_mut_slice-machines.result.now in
     let same : decoders ≡ opened.machines.items = search rules in
     let parents : c.deref-2.result.now ≡ opened.parents.items = c.deref-2.ensures.value in
-    let kinds : c.as_slice.result.now ≡ places_of (map setup_of decoders) = c.as_slice.ensures.value ∙ (c.places.ensures ∙ (sym (places_same opened.machines.items (instances_in opened.stack) is.kinds) ∙ ap (λ (l : List AnyDecoder). places_of (map setup_of l)) (sym same))) in
+    let kinds : c.as_slice.result.now ≡ places_of (map setup_of decoders) = c.as_slice.ensures.value ∙ (c.places-kinds.ensures ∙ (sym (places_same opened.machines.items (instances_in opened.stack) is.kinds) ∙ ap (λ (l : List AnyDecoder). places_of (map setup_of l)) (sym same))) in
     let lists = c.part.ensures.lists is.bytes is.told is.at is.stands in
     subst (WorksOn _ (meaning_of settings) (g.S.Source.left c.args.source.now) (g.S.Source.left c.part.new.source) (g.K.Sink.written c.args.sink.now) (g.K.Sink.written c.part.new.sink)) (sym c.status_of_part.ensures)
     (part_comes_by _ (meaning_of settings) c.requires.job (g.S.Source.left c.args.source.now) (g.S.Source.left c.open_stack.new.source) (g.S.Source.left c.part.new.source) (g.K.Sink.written c.args.sink.now) (g.K.Sink.written c.part.new.sink) opened is
