@@ -1,5 +1,5 @@
 // What is wanted is worked by hand, in tables that are texts. On all short lists, on some long ones and on made traffic a
-// decoder is compared with its plain program.
+// decoder is compared with its reference program.
 mod feeding;
 pub mod feeds;
 mod i2c;

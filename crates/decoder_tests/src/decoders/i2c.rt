@@ -1,10 +1,10 @@
-// I2C beside its plain program.
+// I2C beside its reference program.
 use super::feeding::{decoded, list_of, runs_of};
 use super::feeds::RATE;
 use crate::stages::bus::waves_of;
 use dec_i2c::{I2c, I2cOpts};
 use la_base::Word;
-use plain_decoders::i2c::outputs_of;
+use reference_decoders::i2c::outputs_of;
 use std::alloc::Global;
 use std::process::Abort;
 use std::test::Fail;
@@ -12,7 +12,7 @@ use std::test::Fail;
 // The lines of all samples.
 const LINES: I2cOpts = I2cOpts { scl: 0, sda: 1 };
 
-// The decoder gives of samples what the plain program gives.
+// The decoder gives of samples what the reference program gives.
 fn check(rt: &impl Abort, alloc: Global, samples: &[Word]) -> Result<(), Fail> {
     let Ok(machine) = I2c::open(LINES, RATE) else {
         return Err("not opened".into());

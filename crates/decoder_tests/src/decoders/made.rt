@@ -1,4 +1,4 @@
-// Decoders beside plain programs: the outputs of made traffic.
+// Decoders beside reference programs: the outputs of made traffic.
 ghost use Rattle.std.specs.Prelude.{◌≤◌, ◌^◌};
 
 use super::feeding::{decoded, runs_of};
@@ -10,7 +10,7 @@ use dev_eeprom24::Chip;
 use kind_table::{Kind, OptValues};
 use la_base::{Feed, Out, Packet, Word};
 use packet_walks::{transaction_laws, walk_laws};
-use plain_devices::{
+use reference_devices::{
     clock_outputs_of, eeprom_outputs_of, flash_outputs_of, link_outputs_of, lm75_outputs_of,
     midi_outputs_of, modbus_outputs_of, net_outputs_of, probe_outputs_of,
 };
@@ -45,7 +45,7 @@ fn eeprom_of(values: &OptValues) -> Chip {
     }
 }
 
-// What a plain program gives of packets.
+// What a reference program gives of packets.
 fn plain_outputs(
     alloc: Global,
     kind: Kind,
@@ -86,7 +86,7 @@ fn feeds_of(alloc: Global, packets: &[Packet]) -> Result<Vec<Feed>, AllocError> 
     Ok(feeds)
 }
 
-// What a decoder gives of packets, which has to be what its plain program gives.
+// What a decoder gives of packets, which has to be what its reference program gives.
 fn check(
     rt: &impl Abort,
     alloc: Global,
@@ -177,7 +177,7 @@ const MADE: &str = "\
 8 0 0 65535|midi
 9 0 0 65535|midi";
 
-// Whether a decoder gives of the traffic of its row what its plain program gives, and enough of it.
+// Whether a decoder gives of the traffic of its row what its reference program gives, and enough of it.
 fn row_holds(rt: &impl Abort, alloc: Global, row: &str) -> Result<bool, Fail> {
     let (numbers, setup) = row.split_once('|').unwrap_or(("", ""));
     let mut numbers = numbers.split(' ');
@@ -201,7 +201,7 @@ fn made_traffic(rt: HostRuntime) -> Result<(), Fail> {
     Ok(())
 }
 
-// The outputs of the samples of a 1-Wire line, which have to be what the plain program gives.
+// The outputs of the samples of a 1-Wire line, which have to be what the reference program gives.
 fn check_link(
     rt: &impl Abort,
     alloc: Global,

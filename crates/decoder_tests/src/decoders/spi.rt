@@ -1,4 +1,4 @@
-// SPI by hand, and beside its plain program.
+// SPI by hand, and beside its reference program.
 ghost use Rattle.std.specs.Prelude.{◌≤◌};
 
 use super::feeding::{Told, decoded, list_of, runs_of};
@@ -6,7 +6,7 @@ use super::feeds::{RATE, said, samples_of};
 use dec_spi::{Spi, SpiOpts};
 use kind_table::Kind;
 use la_base::{Out, Word};
-use plain_decoders::spi::outputs_of;
+use reference_decoders::spi::outputs_of;
 use std::alloc::Global;
 use std::process::Abort;
 use std::test::Fail;
@@ -76,7 +76,7 @@ fn given(alloc: Global, opts: SpiOpts, samples: &[Word], most: u64) -> Result<To
     }
 }
 
-// What the plain program gives of them.
+// What the reference program gives of them.
 fn wanted(alloc: Global, opts: SpiOpts, samples: &[Word]) -> Result<Vec<Out>, Fail> {
     match Spi::open(opts, RATE) {
         Ok(_) => Ok(outputs_of(alloc, &opts, samples)?),
@@ -84,7 +84,7 @@ fn wanted(alloc: Global, opts: SpiOpts, samples: &[Word]) -> Result<Vec<Out>, Fa
     }
 }
 
-// However they are cut into runs, the decoder gives of samples what the plain program gives.
+// However they are cut into runs, the decoder gives of samples what the reference program gives.
 fn check(rt: &impl Abort, alloc: Global, opts: SpiOpts, samples: &[Word]) -> Result<(), Fail> {
     let want = wanted(alloc, opts, samples)?;
     for most in [1, 2, u64::MAX] {

@@ -5,7 +5,7 @@ use decoder_set::AnyDecoder;
 use dev_eeprom24::Chip;
 use kind_table::Kind;
 use la_base::{Feed, Mark, Out, Packet, Run};
-use plain_devices::eeprom_outputs_of;
+use reference_devices::eeprom_outputs_of;
 use stack_direct::run_direct;
 use std::alloc::{AllocError, Global};
 use std::test::Fail;

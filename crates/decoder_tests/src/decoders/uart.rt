@@ -1,4 +1,4 @@
-// Serial lines by hand, and beside their plain program.
+// Serial lines by hand, and beside their reference program.
 ghost use Rattle.std.specs.Prelude.{◌≤◌, ◌^◌};
 
 use super::feeding::{Told, decoded, list_of, runs_of};
@@ -6,7 +6,7 @@ use super::feeds::said;
 use dec_uart::{Line, Uart, UartOpts};
 use kind_table::Kind;
 use la_base::{Out, Rate, Word};
-use plain_decoders::uart::{near_of, outputs_of};
+use reference_decoders::uart::{near_of, outputs_of};
 use std::alloc::{AllocError, Global};
 use std::process::Abort;
 use std::test::Fail;
@@ -44,7 +44,7 @@ fn given(
     }
 }
 
-// What the plain program gives of them.
+// What the reference program gives of them.
 fn wanted(alloc: Global, opts: UartOpts, rate: Rate, samples: &[Word]) -> Result<Told, Fail>
     requires { rate.num ≤ 10 ^ 15 }
 {
@@ -60,7 +60,7 @@ fn wanted(alloc: Global, opts: UartOpts, rate: Rate, samples: &[Word]) -> Result
     }
 }
 
-// What the plain program gives of samples, which has to be what the decoder gives, however they are cut into runs.
+// What the reference program gives of samples, which has to be what the decoder gives, however they are cut into runs.
 fn check(
     rt: &impl Abort,
     alloc: Global,

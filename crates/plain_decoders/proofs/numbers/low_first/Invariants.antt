@@ -1,6 +1,0 @@
-use Rattle.std.proofs.Common.{◌≡◌, take}
-use Rattle.list_cuts.specs.Bits.{low_first}
-use Rattle.plain_decoders.proofs.numbers.low_first.Given as goal
-
-abbrev pub invariant-loop-place : goal.invariant-loop-place
-invariant-loop-place l = l.number ≡ low_first (take l.place l.levels)

@@ -1,7 +1,0 @@
-use Rattle.std.proofs.Common.{◌≡◌}
-use Rattle.dec_uart.specs.Chain.{levels_at}
-use Rattle.plain_decoders.specs.Looking.{line_shape}
-use Rattle.plain_decoders.proofs.uart.levels_at.Given as goal
-
-abbrev pub invariant-loop-i : goal.invariant-loop-i
-invariant-loop-i l = l.levels.items ≡ levels_at (line_shape l.line) l.samples l.f l.i

@@ -1,8 +1,0 @@
-//! Decoders as plain programs: slow, each by the definition of its outputs over the whole list of
-//! samples.
-#![tactic(auto)]
-
-pub mod i2c;
-mod numbers;
-pub mod spi;
-pub mod uart;

@@ -1,7 +1,0 @@
-use Rattle.std.proofs.Common.{◌≡◌, map, take}
-use Rattle.dev_eeprom24.specs.Eeprom.{pointer}
-use Rattle.plain_devices.specs.Meant.{meant}
-use Rattle.plain_devices.proofs.eeprom24.pointer.Given as goal
-
-abbrev pub invariant-loop-meaning : goal.invariant-loop-meaning
-invariant-loop-meaning l = l.at ≡ pointer l.chip (map meant (take l.meaning-index l.before))

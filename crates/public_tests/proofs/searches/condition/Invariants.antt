@@ -1,6 +1,0 @@
-use Rattle.std.proofs.Common.{length}
-use Rattle.wait_cond.specs.Binding.{AllBelow, Distinct}
-use Rattle.public_tests.proofs.searches.condition.Given as goal
-
-abbrev pub invariant-loop-word : goal.invariant-loop-word
-invariant-loop-word l = record { distinct : Distinct l.pins.items; below : AllBelow (length l.names) l.pins.items }

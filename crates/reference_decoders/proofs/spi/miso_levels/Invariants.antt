@@ -1,0 +1,7 @@
+use Rattle.std.proofs.Common.{◌≡◌, map, take}
+use Rattle.dec_spi.specs.Bus.{miso_of}
+use Rattle.reference_decoders.specs.Happenings.{meant}
+use Rattle.reference_decoders.proofs.spi.miso_levels.Given as goal
+
+abbrev pub invariant-loop-clock : goal.invariant-loop-clock
+invariant-loop-clock l = l.levels.items ≡ map miso_of (map meant (take l.clock-index l.clocks))

@@ -1,0 +1,7 @@
+use Rattle.std.proofs.Common.{◌≡◌, ◌++◌, take}
+use Rattle.std.specs.List.{flat_map, enumerate_from}
+use Rattle.dev_eeprom24.specs.Eeprom.{write_outs}
+use Rattle.reference_devices.proofs.eeprom24.add_data.Given as goal
+
+abbrev pub invariant-loop-place : goal.invariant-loop-place
+invariant-loop-place l = l.outs.items ≡ l.initial.outs.items ++ flat_map (write_outs l.chip l.word) (enumerate_from 0 (take l.place l.data))
