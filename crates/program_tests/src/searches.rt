@@ -55,23 +55,21 @@ fn condition(alloc: Global, words: &str, names: &Names, pins: &mut Pins) -> Resu
     Ok(cond.ok_or("no alternative")?)
 }
 
-// How a search of a capture of so many channels ends, and what it writes: in reads of `length` bytes and writes of
-// `most`, where these calls fail.
+// How a search of a capture of so many channels ends, and what it writes: in reads and writes of so many bytes, of which
+// these calls fail.
 fn search(
     alloc: Global,
     words: &str,
     channels: u32,
-    length: usize,
-    read_fails: &[u64],
-    most: usize,
-    write_fails: &[u64],
+    reads: (usize, &[u64]),
+    writes: (usize, &[u64]),
     buffered: bool,
 ) -> Result<String, Fail>
     requires channels { (1 ≤ channels) × (channels ≤ MOST_PINS) }
-    requires parts { (1 ≤ length) × (1 ≤ most) }
+    requires parts { (1 ≤ reads.0) × (1 ≤ writes.0) }
 {
-    let mut source = source_of(alloc, &SAMPLES, length, read_fails)?;
-    let mut sink = MemSink::new(alloc, most, write_fails.to_vec(alloc)?, AMPLE)?;
+    let mut source = source_of(alloc, &SAMPLES, reads.0, reads.1)?;
+    let mut sink = MemSink::new(alloc, writes.0, writes.1.to_vec(alloc)?, AMPLE)?;
     let rate = Rate {
         num: 1_000_000,
         den: 1,
@@ -95,7 +93,7 @@ fn any_cut_gives_the_lines_and_a_failure_a_front(rt: HostRuntime) -> Result<(), 
     for buffered in [true, false] {
         for length in 1..7 {
             for most in 1..4 {
-                let told = search(alloc, WORDS, 8, length, &[], most, &[], buffered)?;
+                let told = search(alloc, WORDS, 8, (length, &[]), (most, &[]), buffered)?;
                 assert!(rt; is_front(told.as_str(), "Done ", LINES, 22));
             }
         }
@@ -106,21 +104,21 @@ fn any_cut_gives_the_lines_and_a_failure_a_front(rt: HostRuntime) -> Result<(), 
                     settled = bytes;
                 }
             }
-            let told = search(alloc, WORDS, 8, 1, &[number as u64], 2, &[], buffered)?;
+            let told = search(alloc, WORDS, 8, (1, &[number as u64]), (2, &[]), buffered)?;
             assert!(rt;
                 is_front(told.as_str(), "Read ", LINES, settled),
                 "{number}"
             );
         }
         for number in 0..22 {
-            let told = search(alloc, WORDS, 8, 2, &[], 1, &[number as u64], buffered)?;
+            let told = search(alloc, WORDS, 8, (2, &[]), (1, &[number as u64]), buffered)?;
             assert!(rt;
                 is_front(told.as_str(), "Write ", LINES, number),
                 "{number}"
             );
         }
         // Two whole units, and one byte of a third.
-        let told = search(alloc, "D8=h", 16, 1, &[], 2, &[], buffered)?;
+        let told = search(alloc, "D8=h", 16, (1, &[]), (2, &[]), buffered)?;
         assert!(rt; told.as_str() == "Fault(ShortUnit { at: 4 }) 0: 0|1: 0|");
     }
     Ok(())
