@@ -22,8 +22,8 @@ use Rattle.tree_runs.specs.Taking.{IsTree}
 use Rattle.tree_runs.proofs.Fresh.{fresh}
 use Rattle.stack_laws.specs.Laws.{IsLawful}
 use Rattle.annot_merge.specs.Held.{count_of}
-use Rattle.stack_spec.specs.Accepting.{Accepted}
-use Rattle.stack_spec.specs.Stacks.{stack_meaning}
+use Rattle.stack_words.specs.Accepting.{Accepted}
+use Rattle.stack_words.specs.Stacks.{stack_meaning}
 use Rattle.note_order.specs.declared.entry.Entry.{Entry}
 use Rattle.note_lister.specs.Prompt.{Prompts}
 use Rattle.note_lister.specs.Taking.{Goes, Took, WritesAll, first_sink, instances_of, sink_of, stack_of, watch_of}

@@ -13,7 +13,7 @@ use Rattle.capture_any.specs.declared.end.ListingEnd.{ListingEnd}
 use Rattle.capture_any.specs.declared.end.ListingEnd.TheVariants as end
 use Rattle.capture_any.specs.declared.form.Form.{Form}
 use Rattle.capture_any.proofs.ListingLemmas.{IsFront}
-use Rattle.stack_spec.specs.Accepting.{Accepted}
+use Rattle.stack_words.specs.Accepting.{Accepted}
 use Rattle.annot_merge.specs.Held.{count_of}
 use Rattle.annot_merge.specs.declared.merge.Merge.{Merge}
 use Rattle.note_order.specs.declared.entry.Entry.{Entry}

@@ -13,7 +13,7 @@ use Rattle.capture_any.specs.declared.capture.Capture.{Capture}
 use Rattle.capture_any.specs.declared.end.ListingEnd.{ListingEnd}
 use Rattle.capture_any.specs.declared.end.ListingEnd.TheVariants.{Write}
 use Rattle.decoder_core.specs.declared.machine.Machine.{Ghosts as MachineGhosts}
-use Rattle.stack_spec.specs.declared.stack.Stack.{Stack}
+use Rattle.stack_words.specs.declared.stack.Stack.{Stack}
 use Rattle.note_order.specs.declared.entry.Entry.{Entry}
 use Rattle.decode_job.specs.Decoding.{Decodes, notes, output}
 use Rattle.decode_job.specs.Flushing.{Broke, Flushes, Left, Went}

@@ -27,7 +27,7 @@ use Rattle.tree_runs.specs.Runs.{ToldOn as ToldOf, input_at, nodes_of}
 use Rattle.tree_runs.proofs.Fresh.{reads_nothing}
 use Rattle.tree_io.proofs.Taking.{marks-append}
 use Rattle.tree_runs.proofs.Telling.{given_at, given_len}
-use Rattle.stack_spec.specs.Accepting.{Accepted}
+use Rattle.stack_words.specs.Accepting.{Accepted}
 use Rattle.annot_merge.specs.Bounds.{bound_of}
 use Rattle.annot_merge.specs.Marks.{AreTrue, Begins, Continues, StartFrom, notes_from, notes_in, sorted_notes}
 use Rattle.annot_merge.specs.Held.{count_of, held_in}

@@ -30,9 +30,9 @@ use Rattle.tree_runs.specs.Runs.{RunsOn, ToldOn as ToldOf, feeds_on, input_at, i
 use Rattle.tree_runs.specs.Taking.{IsTree}
 use Rattle.stack_laws.specs.Laws.{IsLawful}
 use Rattle.annot_merge.specs.Held.{count_of as merged_of}
-use Rattle.stack_spec.specs.Accepting.{Accepted}
-use Rattle.stack_spec.specs.Stacks.{stack_meaning}
-use Rattle.stack_spec.specs.declared.stack.Stack.{Stack}
+use Rattle.stack_words.specs.Accepting.{Accepted}
+use Rattle.stack_words.specs.Stacks.{stack_meaning}
+use Rattle.stack_words.specs.declared.stack.Stack.{Stack}
 use Rattle.note_order.specs.declared.entry.Entry.{Entry}
 use Rattle.note_lister.specs.Prompt.{Prompts}
 use Rattle.note_lister.specs.Taking.{Goes, Took, WritesAll as ListerWrites, first_sink, instances_of, sink_of, stack_of}

@@ -21,7 +21,7 @@ use Rattle.capture_any.specs.declared.end.ListingEnd.TheVariants.{Done, Fault, N
 use Rattle.capture_any.specs.declared.form.Form.{Form}
 use Rattle.check_point.specs.Checks.{IsCheckOf, check_line}
 use Rattle.decoder_core.specs.declared.machine.Machine.{Ghosts as MachineGhosts}
-use Rattle.stack_spec.specs.declared.stack.Stack.{Stack}
+use Rattle.stack_words.specs.declared.stack.Stack.{Stack}
 use Rattle.decode_job.specs.Flushing.{Broke, Flushes, Left, Went}
 use Rattle.decode_job.specs.PartRunning.{Checks, ListsAll, ListsPart}
 use Rattle.decode_job.specs.Parting.{Behind, ChecksBehind, CutsBehind, CutsCheck, DecodesPart, PartLists, PartReadCause, PartSays, PartWriteCause, WritesAll, WritesCheck, WritesFront, WritesUpTo, output_behind, room_behind}

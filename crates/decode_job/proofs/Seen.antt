@@ -15,7 +15,7 @@ use Rattle.capture_any.specs.declared.end.ListingEnd.{ListingEnd}
 use Rattle.capture_any.proofs.ListingLemmas.{lists_on}
 use Rattle.decoder_core.specs.declared.machine.Machine.{Ghosts as MachineGhosts}
 use Rattle.note_order.specs.declared.entry.Entry.{Entry}
-use Rattle.stack_spec.specs.declared.stack.Stack.{Stack}
+use Rattle.stack_words.specs.declared.stack.Stack.{Stack}
 use Rattle.decode_job.specs.Decoding.{Decodes, notes, output}
 use Rattle.decode_job.specs.Seen.{SeesFirst, WritesFrontSeen, WritesSeen}
 

@@ -9,7 +9,7 @@ use Rattle.note_order.specs.declared.entry.Entry.{Entry}
 use Rattle.annot_merge.specs.Merging.{InOrder, NoneBefore}
 use Rattle.annot_merge.proofs.Orders.{in_order_alike, one_order, order_is_in_order}
 use Rattle.note_lister.specs.Lines.{has_shown, shown_entries}
-use Rattle.stack_spec.specs.Accepting.{Accepted, is_shown}
+use Rattle.stack_words.specs.Accepting.{Accepted, is_shown}
 use Rattle.tree_runs.specs.Listings.{shown_from, where_shown}
 
 -- two tests, one after another

@@ -19,7 +19,7 @@ use Rattle.note_order.proofs.Entries.{entries_rank, instances_make_listing, ties
 use Rattle.note_order.proofs.SortLemmas.{sorted_is_stable}
 use Rattle.note_lister.specs.Lines.{note_line, note_lines}
 use Rattle.stack_laws.proofs.Wires.{notes_of-append}
-use Rattle.stack_spec.specs.Accepting.{Accepted, is_shown}
+use Rattle.stack_words.specs.Accepting.{Accepted, is_shown}
 use Rattle.tree_runs.specs.Listings.{notes_of, shown_from, where_shown}
 use Rattle.tree_runs.specs.Machines.{whole_of}
 use Rattle.tree_runs.specs.Passing.{IsForest}

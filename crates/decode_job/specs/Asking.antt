@@ -1,7 +1,7 @@
 -- What is asked before a tree of decoders is run.
 use Rattle.std.specs.Prelude.{ℕ, ◌≡◌, ◌≤◌, ◌<◌, List, [], Option, IfSome, length}
-use Rattle.stack_spec.specs.Stacks.{instances_in, stack_meaning}
-use Rattle.stack_spec.specs.declared.stack.Stack.{Stack}
+use Rattle.stack_words.specs.Stacks.{instances_in, stack_meaning}
+use Rattle.stack_words.specs.declared.stack.Stack.{Stack}
 use Rattle.tree_runs.specs.Passing.{IsForest}
 use Rattle.tree_runs.specs.Taking.{IsTree}
 use Rattle.annot_merge.specs.Held.{Stands, count_of, held_in}

@@ -11,8 +11,8 @@ use Rattle.capture_any.specs.declared.end.ListingEnd.{ListingEnd}
 use Rattle.decoder_core.specs.declared.machine.Machine.{Ghosts as MachineGhosts}
 use Rattle.tree_runs.specs.Runs.{nodes_of}
 use Rattle.note_order.specs.declared.entry.Entry.{Entry}
-use Rattle.stack_spec.specs.Stacks.{stack_meaning}
-use Rattle.stack_spec.specs.declared.stack.Stack.{Stack}
+use Rattle.stack_words.specs.Stacks.{stack_meaning}
+use Rattle.stack_words.specs.declared.stack.Stack.{Stack}
 use Rattle.decode_job.specs.Listing.{tree_notes, tree_output}
 use Rattle.decode_job.specs.Seen.{WritesFrontSeen, WritesSeen}
 

@@ -11,8 +11,8 @@ use Rattle.note_order.specs.Order.{listed}
 use Rattle.note_order.specs.declared.entry.Entry.{Entry}
 use Rattle.tree_runs.specs.Listings.{notes_of, shown_from}
 use Rattle.note_lister.specs.Lines.{note_lines}
-use Rattle.stack_spec.specs.Accepting.{Accepted, is_shown}
-use Rattle.stack_spec.specs.Instances.{Instance}
+use Rattle.stack_words.specs.Accepting.{Accepted, is_shown}
+use Rattle.stack_words.specs.Instances.{Instance}
 
 -- the notes of a listing of what instances give: those of all that are shown, by start, then by
 -- instance, then as they were given

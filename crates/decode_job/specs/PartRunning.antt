@@ -17,7 +17,7 @@ use Rattle.decoder_core.specs.declared.machine.Machine.{Ghosts as MachineGhosts}
 use Rattle.tree_runs.specs.Machines.{Stand}
 use Rattle.tree_runs.specs.Runs.{StandOn}
 use Rattle.note_lister.specs.declared.stop.ListStop.{ListStop}
-use Rattle.stack_spec.specs.declared.stack.Stack.{Stack}
+use Rattle.stack_words.specs.declared.stack.Stack.{Stack}
 use Rattle.decode_job.specs.Ending.{end_of_stop}
 use Rattle.decode_job.specs.Parting.{Behind, PartLists, PartReadCause, PartWriteCause, WritesAll}
 use Rattle.decode_job.specs.Parting.{WritesFront, WritesUpTo}

@@ -17,8 +17,8 @@ use Rattle.check_laws.specs.Resuming.{IsCheckOn}
 use Rattle.decoder_core.specs.declared.machine.Machine.{Ghosts as MachineGhosts}
 use Rattle.tree_runs.specs.Machines.{Stand}
 use Rattle.tree_runs.specs.Runs.{StandOn, nodes_of}
-use Rattle.stack_spec.specs.Stacks.{stack_meaning}
-use Rattle.stack_spec.specs.declared.stack.Stack.{Stack}
+use Rattle.stack_words.specs.Stacks.{stack_meaning}
+use Rattle.stack_words.specs.declared.stack.Stack.{Stack}
 use Rattle.decode_job.specs.Listing.{tree_output_behind}
 use Rattle.decode_job.specs.declared.part_end.PartEnd.{PartEnd}
 use Rattle.decode_job.specs.declared.part_end.PartEnd.TheVariants.{Ended, Past}

@@ -8,7 +8,7 @@ use Rattle.decoder_core.specs.Trees.{Node, given}
 use Rattle.note_order.specs.Order.{in_order}
 use Rattle.note_order.specs.declared.entry.Entry.{Entry}
 use Rattle.note_lister.specs.Lines.{note_lines}
-use Rattle.stack_spec.specs.Accepting.{Accepted, is_shown}
+use Rattle.stack_words.specs.Accepting.{Accepted, is_shown}
 use Rattle.decode_job.specs.Listing.{given_behind, listed_notes, listing_of}
 
 module _ {S : Type 0} (outputs : S → List Item → List Out) (accepted : Accepted)

@@ -1,6 +1,6 @@
 // A law of the parts of a capture, on a function that does nothing.
 ghost use Rattle.std.specs.Prelude.{◌≡◌, ℕ, List, length, map};
-ghost use Rattle.stack_spec.specs.Accepting.{Accepted};
+ghost use Rattle.stack_words.specs.Accepting.{Accepted};
 ghost use Rattle.tree_runs.specs.Passing.{IsForest};
 ghost use Rattle.tree_runs.specs.Runs.{nodes_of};
 ghost use Rattle.decode_job.specs.Together.{ListTheWhole};

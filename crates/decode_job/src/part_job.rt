@@ -2,7 +2,7 @@
 ghost use Rattle.std.specs.Prelude.{◌≡◌, ◌≤◌, ◌-◌, ◌^◌, [], length, map, true};
 ghost use Rattle.capture_any.specs.Reading.{is_open_of};
 ghost use Rattle.note_lister.specs.Taking.{cause_of, sink_of, sink_ref};
-ghost use Rattle.stack_spec.specs.Stacks.{instances_in};
+ghost use Rattle.stack_words.specs.Stacks.{instances_in};
 ghost use Rattle.tree_runs.specs.Passing.{IsForest};
 ghost use Rattle.decode_job.specs.Asking.{CanList, WantsOf};
 ghost use Rattle.decode_job.specs.Flushing.{Flushes};

@@ -1,5 +1,5 @@
 // A tree of decoders, and what a part of a capture begins with.
-use stack_spec::Stack;
+use stack_words::Stack;
 
 /// The machines of a stack's instances, on their places: a machine with no parent reads the samples,
 /// each other one the packets of its parent.

@@ -1,15 +1,15 @@
 // Worked by hand from what each letter means.
 ghost use Rattle.std.specs.Prelude.{◌≤◌, ◌<◌};
-ghost use Rattle.wait_cond.specs.Binding.{Distinct};
+ghost use Rattle.cond_words.specs.Binding.{Distinct};
 
+use cond_words::{
+    AltWords, BindWhy, CondError, CondFault, CondWhy, ItemFault, Letter, Term, bind_alt, read_alt,
+};
 use la_base::{MOST_PINS, Names, Pins, Run, Word};
 use std::alloc::{AllocError, Global};
 use std::process::Abort;
 use std::test::Fail;
-use wait_cond::{
-    Alt, AltWords, BindWhy, Cond, CondError, CondFault, CondWhy, ItemFault, Letter, Scan, Term,
-    Waiter, all_stops, bind_alt, read_alt,
-};
+use wait_cond::{Alt, Cond, Scan, Waiter, all_stops};
 
 // More samples than come before a run, or in one.
 const FAR: u64 = 1 << 59;

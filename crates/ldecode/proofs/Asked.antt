@@ -5,14 +5,14 @@ use Rattle.std.specs.String.{string_bytes}
 use Rattle.la_base.specs.declared.samples.Rate.{Rate}
 use Rattle.text_parts.specs.Chains.{WordText, chain_of}
 use Rattle.text_parts.specs.declared.chain.ChainWord.{ChainWord}
-use Rattle.wait_cond.specs.Grammar.{terms_of}
-use Rattle.wait_cond.specs.Words.{Meaning}
+use Rattle.cond_words.specs.Grammar.{terms_of}
+use Rattle.cond_words.specs.Words.{Meaning}
 use Rattle.wait_cond.specs.declared.alt.Alt.{Alt}
-use Rattle.wait_cond.specs.declared.words.CondFault.{CondFault}
+use Rattle.cond_words.specs.declared.words.CondFault.{CondFault}
 use Rattle.words.specs.Settings.{Values, meaning_of}
 use Rattle.words.specs.declared.kinds.Job.TheVariants.{Find}
 use Rattle.words.specs.declared.settings.Settings.{Settings}
-use Rattle.stack_spec.specs.declared.faults.BindFault.{BindFault}
+use Rattle.cond_words.specs.declared.faults.BindFault.{BindFault}
 use Rattle.ldecode.specs.Asking.{AsksFor, SearchRefused, Searches, StackRefused, bind_all}
 use Rattle.ldecode.specs.Chosen.{AreTerms, Chosen}
 

@@ -12,7 +12,7 @@ use Rattle.decoder_set.specs.Opening.{HasConsumed, setup_of}
 use Rattle.decoder_set.specs.declared.any.AnyDecoder.{AnyDecoder}
 use Rattle.kind_table.specs.declared.kinds.Kind.{Kind}
 use Rattle.decoder_set.specs.declared.setup.Setup.{Setup}
-use Rattle.stack_spec.specs.Instances.{Instance}
+use Rattle.stack_words.specs.Instances.{Instance}
 use Rattle.std.proofs.Math.Path.{transport}
 use Rattle.check_laws.proofs.Resumes.{loaded_setups, loaded_stand}
 use Rattle.check_laws.specs.Resuming.{IsCheckBehind}

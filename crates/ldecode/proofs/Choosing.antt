@@ -5,14 +5,14 @@ use Rattle.la_base.specs.declared.samples.TheConstants.{MOST_PINS}
 use Rattle.std.proofs.lemmas.List.{append-nil}
 use Rattle.text_parts.specs.Reading.{then_read}
 use Rattle.text_parts.specs.declared.chain.ChainWord.{ChainWord}
-use Rattle.wait_cond.specs.Binding.{Asks, Bound, IsBound, bind_terms, pins_after}
-use Rattle.wait_cond.specs.Grammar.{terms_of}
-use Rattle.wait_cond.specs.Words.{Meaning}
+use Rattle.cond_words.specs.Binding.{Asks, Bound, IsBound, bind_terms, pins_after}
+use Rattle.cond_words.specs.Grammar.{terms_of}
+use Rattle.cond_words.specs.Words.{Meaning}
 use Rattle.wait_cond.specs.declared.alt.Alt.{Alt}
-use Rattle.wait_cond.specs.declared.faults.ItemFault.{ItemFault}
-use Rattle.stack_spec.specs.declared.faults.BindError.{BindError}
-use Rattle.stack_spec.specs.declared.faults.BindError.TheVariants.{Fault, NoMemory}
-use Rattle.stack_spec.specs.declared.faults.BindFault.{BindFault}
+use Rattle.cond_words.specs.declared.faults.ItemFault.{ItemFault}
+use Rattle.cond_words.specs.declared.faults.BindError.{BindError}
+use Rattle.cond_words.specs.declared.faults.BindError.TheVariants.{Fault, NoMemory}
+use Rattle.cond_words.specs.declared.faults.BindFault.{BindFault}
 use Rattle.ldecode.specs.Asking.{EachAsks, bind_all, in_entry, search_pins}
 use Rattle.ldecode.specs.Chosen.{AreTerms, Chooses, ChoosesOne, Chosen}
 

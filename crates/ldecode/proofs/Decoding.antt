@@ -12,8 +12,8 @@ use Rattle.decoder_set.specs.Opening.{setup_of}
 use Rattle.decoder_set.specs.declared.setup.Setup.{Setup}
 use Rattle.note_order.specs.declared.entry.Entry.{Entry}
 use Rattle.tree_runs.specs.Runs.{nodes_of}
-use Rattle.stack_spec.specs.Accepting.{Accepted}
-use Rattle.stack_spec.specs.Stacks.{stack_meaning}
+use Rattle.stack_words.specs.Accepting.{Accepted}
+use Rattle.stack_words.specs.Stacks.{stack_meaning}
 use Rattle.words.specs.Settings.{Values}
 use Rattle.words.specs.declared.kinds.Job.TheVariants.{Decode}
 use Rattle.run_status.specs.Notices.{status_by, status_of}

@@ -9,10 +9,10 @@ use Rattle.capture_any.specs.declared.form.Form.{Form}
 use Rattle.capture_any.proofs.CaptureLaws.{pins_leave_the_ending}
 use Rattle.words.specs.Settings.{Values}
 use Rattle.words.specs.declared.kinds.Job.TheVariants.{Decode, Find, Part}
-use Rattle.stack_spec.specs.Accepting.{Accepted}
+use Rattle.stack_words.specs.Accepting.{Accepted}
 use Rattle.stack_spec.specs.Binding.{bound_of}
-use Rattle.stack_spec.specs.declared.faults.BindFault.{BindFault}
-use Rattle.stack_spec.specs.declared.faults.StackFault.{StackFault}
+use Rattle.cond_words.specs.declared.faults.BindFault.{BindFault}
+use Rattle.stack_words.specs.declared.faults.StackFault.{StackFault}
 use Rattle.check_point.specs.declared.faults.CheckFault.{CheckFault}
 use Rattle.stack_spec.specs.Binding as binding
 use Rattle.stack_spec.specs.Binding.{BoundInstance}

@@ -12,8 +12,8 @@ use Rattle.capture_any.proofs.CaptureLaws.{faults_stay, head_stays, longer_exten
 use Rattle.words.specs.Lexer.{Text}
 use Rattle.words.specs.Settings.{Values, settings_of}
 use Rattle.words.specs.declared.kinds.WordFault.{WordFault}
-use Rattle.stack_spec.specs.declared.faults.BindFault.{BindFault}
-use Rattle.stack_spec.specs.declared.faults.StackFault.{StackFault}
+use Rattle.cond_words.specs.declared.faults.BindFault.{BindFault}
+use Rattle.stack_words.specs.declared.faults.StackFault.{StackFault}
 use Rattle.check_point.specs.declared.faults.CheckFault.{CheckFault}
 use Rattle.la_io.specs.declared.fault.CaptureFault.TheVariants.{Past}
 use Rattle.stack_spec.specs.Binding as binding

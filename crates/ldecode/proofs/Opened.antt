@@ -19,8 +19,8 @@ use Rattle.decoder_set.specs.declared.any.AnyDecoder.{AnyDecoder}
 use Rattle.decoder_set.specs.declared.setup.Setup.{Setup}
 use Rattle.tree_runs.specs.Machines.{Stand}
 use Rattle.tree_runs.specs.Runs.{StandOn, nodes_of}
-use Rattle.stack_spec.specs.Accepting.{Accepted}
-use Rattle.stack_spec.specs.Stacks.{stack_meaning}
+use Rattle.stack_words.specs.Accepting.{Accepted}
+use Rattle.stack_words.specs.Stacks.{stack_meaning}
 use Rattle.decode_job.specs.Listing.{tree_output_behind}
 use Rattle.decode_job.specs.Parting.{Behind, CutsCheck, PartLists as JobLists, WritesAll as JobAll, WritesCheck, WritesFront as JobFront, WritesUpTo, output_behind}
 use Rattle.decode_job.specs.declared.part_end.PartEnd.{PartEnd}

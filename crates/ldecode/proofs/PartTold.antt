@@ -11,7 +11,7 @@ use Rattle.capture_any.specs.declared.form.Form.{Form}
 use Rattle.check_laws.specs.Resuming.{IsCheckOn}
 use Rattle.check_point.specs.Checks.{check_line}
 use Rattle.decoder_core.specs.declared.machine.Machine.{Ghosts as MachineGhosts}
-use Rattle.stack_spec.specs.declared.stack.Stack.{Stack}
+use Rattle.stack_words.specs.declared.stack.Stack.{Stack}
 use Rattle.decode_job.specs.Parting.{Behind, CutsCheck, PartReadCause, PartSays, PartWriteCause, WritesAll as JobAll, WritesCheck, WritesFront as JobFront, WritesUpTo, output_behind, room_behind}
 use Rattle.decode_job.specs.declared.part_end.PartEnd.{PartEnd}
 use Rattle.decode_job.specs.declared.part_end.PartEnd.TheVariants.{Ended, Past}

@@ -15,7 +15,7 @@ use Rattle.decode_job.proofs.Seen.{front_seen}
 use Rattle.decoder_core.specs.Trees.{Node}
 use Rattle.decoder_set.specs.declared.setup.Setup.{Setup}
 use Rattle.note_order.specs.declared.entry.Entry.{Entry}
-use Rattle.stack_spec.specs.Accepting.{Accepted}
+use Rattle.stack_words.specs.Accepting.{Accepted}
 use Rattle.words.specs.Settings.{Values}
 use Rattle.view_store.specs.Listings.{Listing, nothing}
 use Rattle.view_store.specs.Views.{pending, published}

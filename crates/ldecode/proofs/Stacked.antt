@@ -15,15 +15,15 @@ use Rattle.words.specs.Settings.{Values, meaning_of}
 use Rattle.words.specs.declared.settings.Settings.{Settings}
 use Rattle.tree_runs.specs.Passing.{IsForest as IsTree}
 use Rattle.tree_runs.specs.Runs.{nodes_of as tree_nodes}
-use Rattle.stack_spec.specs.Accepting.{Accepted, stack_of}
+use Rattle.stack_words.specs.Accepting.{Accepted, stack_of}
 use Rattle.stack_spec.specs.BindSteps.{IsBound}
 use Rattle.stack_spec.specs.Binding.{BoundInstance, bound_of}
-use Rattle.stack_spec.specs.Instances.{Instance}
-use Rattle.stack_spec.specs.Sound.{HasParent, IsForest}
-use Rattle.stack_spec.specs.Stacks.{stack_meaning}
+use Rattle.stack_words.specs.Instances.{Instance}
+use Rattle.stack_words.specs.Sound.{HasParent, IsForest}
+use Rattle.stack_words.specs.Stacks.{stack_meaning}
 use Rattle.stack_spec.specs.declared.bound.Bound.{Bound}
-use Rattle.stack_spec.specs.declared.faults.BindFault.{BindFault}
-use Rattle.stack_spec.specs.declared.stack.Stack.{Stack}
+use Rattle.cond_words.specs.declared.faults.BindFault.{BindFault}
+use Rattle.stack_words.specs.declared.stack.Stack.{Stack}
 use Rattle.ldecode.specs.Asking.{AsksStack, HasStack, SearchRefused, StackRefused, Stacks, nodes_of, setups_in}
 
 -- a value of an option, as the code hands it on

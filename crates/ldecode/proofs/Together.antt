@@ -19,7 +19,7 @@ use Rattle.decode_job.specs.Together.{ListTheWhole, listings_of_parts, notes_of_
 use Rattle.decode_job.proofs.Together.{list_the_whole}
 use Rattle.note_order.specs.Order.{in_order}
 use Rattle.note_order.specs.declared.entry.Entry.{Entry}
-use Rattle.stack_spec.specs.Accepting.{Accepted, is_shown}
+use Rattle.stack_words.specs.Accepting.{Accepted, is_shown}
 use Rattle.tree_runs.specs.Machines.{whole_of}
 use Rattle.tree_runs.specs.Passing.{IsForest}
 use Rattle.tree_runs.specs.Runs.{nodes_of}

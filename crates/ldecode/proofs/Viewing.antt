@@ -8,7 +8,7 @@ use Rattle.capture_any.specs.declared.end.ListingEnd.TheVariants as ends
 use Rattle.decoder_core.specs.Trees.{Node}
 use Rattle.decoder_set.specs.declared.setup.Setup.{Setup}
 use Rattle.note_order.specs.declared.entry.Entry.{Entry}
-use Rattle.stack_spec.specs.Accepting.{Accepted}
+use Rattle.stack_words.specs.Accepting.{Accepted}
 use Rattle.words.specs.Settings.{Values}
 use Rattle.view_store.specs.Listings.{Listing}
 use Rattle.shelf_watch.specs.Shelves.{pair_of}

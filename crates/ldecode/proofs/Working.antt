@@ -22,7 +22,7 @@ use Rattle.find_job.specs.Finding.{WholeListing, ListingFront}
 use Rattle.wait_cond.specs.declared.alt.Alt.{Alt}
 use Rattle.words.specs.Rates.{RateNumbers, numbers_of}
 use Rattle.words.specs.Settings.{Values}
-use Rattle.stack_spec.specs.Accepting.{Accepted}
+use Rattle.stack_words.specs.Accepting.{Accepted}
 use Rattle.check_point.specs.declared.faults.CheckFault.{CheckFault}
 use Rattle.words.specs.declared.kinds.Job.TheVariants.{Part}
 use Rattle.run_status.specs.Causes.{SinkCause, SourceCause, WhereUnread}
@@ -37,7 +37,7 @@ use Rattle.decoder_set.specs.declared.setup.Setup.{Setup}
 use Rattle.ldecode.specs.Headline.{Refuses, RefusesOn, Worked, Works, WorksOn}
 use Rattle.ldecode.specs.Parting.{CanBegin, Saves}
 use Rattle.ldecode.specs.Parts.{PartEnds, PartLists}
-use Rattle.stack_spec.specs.declared.faults.BindFault.{BindFault}
+use Rattle.cond_words.specs.declared.faults.BindFault.{BindFault}
 
 -- rates with the same numbers are one
 same_numbers : (num den : ℕ) (p q : (1 ≤ num) × (1 ≤ den)) → ◌≡◌ {A = Rate} (record { num = num; den = den; above_zero = p }) (record { num = num; den = den; above_zero = q })

@@ -12,22 +12,22 @@ use Rattle.text_parts.specs.Reading.{then_read}
 use Rattle.capture_any.specs.Captures.{HasNoHead, capture_of}
 use Rattle.capture_any.specs.declared.form.Form.{Form}
 use Rattle.capture_any.specs.declared.form.Form.TheVariants.{Raw, Vcd, Csv}
-use Rattle.wait_cond.specs.Binding.{Bound, Asks, bind_terms, pins_after}
-use Rattle.wait_cond.specs.Grammar.{terms_of}
-use Rattle.wait_cond.specs.Words.{Meaning}
+use Rattle.cond_words.specs.Binding.{Bound, Asks, bind_terms, pins_after}
+use Rattle.cond_words.specs.Grammar.{terms_of}
+use Rattle.cond_words.specs.Words.{Meaning}
 use Rattle.wait_cond.specs.declared.alt.Alt.{Alt}
-use Rattle.wait_cond.specs.declared.faults.ItemFault.{ItemFault}
+use Rattle.cond_words.specs.declared.faults.ItemFault.{ItemFault}
 use Rattle.words.specs.Rates.{numbers_of}
 use Rattle.words.specs.Settings.{Values}
 use Rattle.words.specs.declared.kinds.Format.TheVariants as format
 use Rattle.words.specs.declared.kinds.Job.{Job}
 use Rattle.words.specs.declared.kinds.Job.TheVariants.{Decode, Find, Make, Part}
-use Rattle.stack_spec.specs.Accepting.{Accepted, stack_of}
+use Rattle.stack_words.specs.Accepting.{Accepted, stack_of}
 use Rattle.stack_spec.specs.Binding.{BoundInstance, bound_of}
 use Rattle.stack_spec.specs.Binding as binding
-use Rattle.stack_spec.specs.Instances.{Instance}
-use Rattle.stack_spec.specs.declared.faults.BindFault.{BindFault}
-use Rattle.stack_spec.specs.declared.faults.StackFault.{StackFault}
+use Rattle.stack_words.specs.Instances.{Instance}
+use Rattle.cond_words.specs.declared.faults.BindFault.{BindFault}
+use Rattle.stack_words.specs.declared.faults.StackFault.{StackFault}
 use Rattle.decoder_core.specs.Trees.{Node}
 use Rattle.decoder_set.specs.declared.setup.Setup.{Setup}
 use Rattle.ldecode.specs.Parting.{CanBegin, CantBegin, Saves, most_samples}

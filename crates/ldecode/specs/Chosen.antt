@@ -3,13 +3,13 @@ use Rattle.std.specs.Prelude.{ℕ, ◌≡◌, List, [], map, Result, Ok, Err}
 use Rattle.std.specs.String.{string_bytes}
 use Rattle.la_base.specs.declared.samples.TheConstants.{MOST_PINS}
 use Rattle.text_parts.specs.declared.chain.ChainWord.{ChainWord}
-use Rattle.wait_cond.specs.Binding.{Bound, IsBound, bind_terms}
+use Rattle.cond_words.specs.Binding.{Bound, IsBound, bind_terms}
 use Rattle.wait_cond.specs.Conds.{cond_alts}
-use Rattle.wait_cond.specs.Grammar.{terms_of}
-use Rattle.wait_cond.specs.Words.{Meaning}
+use Rattle.cond_words.specs.Grammar.{terms_of}
+use Rattle.cond_words.specs.Words.{Meaning}
 use Rattle.wait_cond.specs.declared.alt.Alt.{Alt}
-use Rattle.stack_spec.specs.declared.faults.BindError.{BindError}
-use Rattle.stack_spec.specs.declared.faults.BindError.TheVariants.{Fault, NoMemory}
+use Rattle.cond_words.specs.declared.faults.BindError.{BindError}
+use Rattle.cond_words.specs.declared.faults.BindError.TheVariants.{Fault, NoMemory}
 use Rattle.ldecode.specs.Asking.{EachAsks, bind_all, in_entry, search_pins}
 use Rattle.ldecode.specs.declared.alternatives.Wanted.{Wanted}
 

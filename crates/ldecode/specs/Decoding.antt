@@ -3,7 +3,7 @@ use Rattle.std.specs.Prelude.{ℕ, List}
 use Rattle.decoder_core.specs.Trees.{Node}
 use Rattle.decoder_set.specs.Setups.{outs_of}
 use Rattle.decoder_set.specs.declared.setup.Setup.{Setup}
-use Rattle.stack_spec.specs.Accepting.{Accepted}
+use Rattle.stack_words.specs.Accepting.{Accepted}
 use Rattle.note_order.specs.declared.entry.Entry.{Entry}
 use Rattle.decode_job.specs.Listing.{tree_notes, tree_output}
 

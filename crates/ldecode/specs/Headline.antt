@@ -24,9 +24,9 @@ use Rattle.words.specs.Settings.{Values, settings_of}
 use Rattle.words.specs.declared.kinds.Job.TheVariants.{Decode, Make, Part}
 use Rattle.words.specs.declared.kinds.WordFault.{WordFault}
 use Rattle.check_point.specs.declared.faults.CheckFault.{CheckFault}
-use Rattle.stack_spec.specs.Accepting.{Accepted}
-use Rattle.stack_spec.specs.declared.faults.BindFault.{BindFault}
-use Rattle.stack_spec.specs.declared.faults.StackFault.{StackFault}
+use Rattle.stack_words.specs.Accepting.{Accepted}
+use Rattle.cond_words.specs.declared.faults.BindFault.{BindFault}
+use Rattle.stack_words.specs.declared.faults.StackFault.{StackFault}
 use Rattle.decoder_core.specs.Trees.{Node}
 use Rattle.decoder_set.specs.declared.setup.Setup.{Setup}
 use Rattle.run_status.specs.Notices.{line_of}

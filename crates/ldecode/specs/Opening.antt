@@ -9,7 +9,7 @@ use Rattle.capture_any.specs.declared.end.ListingEnd.{ListingEnd}
 use Rattle.decoder_set.specs.Opening.{HasConsumed, setup_of}
 use Rattle.tree_runs.specs.Passing.{IsForest}
 use Rattle.tree_runs.specs.Runs.{nodes_of}
-use Rattle.stack_spec.specs.Stacks.{instances_in, stack_meaning}
+use Rattle.stack_words.specs.Stacks.{instances_in, stack_meaning}
 use Rattle.decode_job.specs.Asking.{WantsOf}
 use Rattle.check_point.specs.declared.faults.CheckFault.{CheckFault}
 use Rattle.words.specs.Settings.{Values}

@@ -8,7 +8,7 @@ use Rattle.decoder_set.specs.declared.setup.Setup.{Setup}
 use Rattle.note_lister.specs.Lines.{note_lines}
 use Rattle.note_order.specs.Order.{in_order}
 use Rattle.note_order.specs.declared.entry.Entry.{Entry}
-use Rattle.stack_spec.specs.Accepting.{Accepted}
+use Rattle.stack_words.specs.Accepting.{Accepted}
 use Rattle.ldecode.specs.Decoding.{decode_notes}
 use Rattle.ldecode.specs.Parting.{Saves}
 use Rattle.ldecode.specs.Parts.{CameBefore, IsCheckAt, WritesAll, part_listing}

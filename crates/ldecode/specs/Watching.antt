@@ -10,7 +10,7 @@ use Rattle.capture_any.specs.declared.end.ListingEnd.{ListingEnd}
 use Rattle.words.specs.Lexer.{Text}
 use Rattle.words.specs.Settings.{Values, settings_of}
 use Rattle.note_order.specs.declared.entry.Entry.{Entry}
-use Rattle.stack_spec.specs.Accepting.{Accepted}
+use Rattle.stack_words.specs.Accepting.{Accepted}
 use Rattle.decoder_core.specs.Trees.{Node}
 use Rattle.decoder_set.specs.declared.setup.Setup.{Setup}
 use Rattle.decode_job.specs.Seen.{WritesFrontSeen, WritesSeen}

@@ -1,18 +1,18 @@
 // Binding the alternatives of a condition to channels.
 ghost use Rattle.std.specs.Prelude.{◌≡◌, ◌<◌, ◌≤◌, List, ℕ, [], length, All, IfOk, IsOk, Ok};
 ghost use Rattle.std.specs.String.{string_bytes};
-ghost use Rattle.wait_cond.specs.Binding.{AllBelow, Distinct};
-ghost use Rattle.wait_cond.specs.Grammar.{terms_of};
-ghost use Rattle.wait_cond.specs.Words.{Meaning};
+ghost use Rattle.cond_words.specs.Binding.{AllBelow, Distinct};
+ghost use Rattle.cond_words.specs.Grammar.{terms_of};
+ghost use Rattle.cond_words.specs.Words.{Meaning};
 ghost use Rattle.words.specs.Readable.{IsReadable};
 ghost use Rattle.words.specs.declared.kinds.Job.TheVariants.{Find};
 ghost use Rattle.ldecode.specs.Chosen.{AreTerms, Chooses, ChoosesOne};
 
+use cond_words::{BindError, BindFault, CondError, bind_alt, read_alt};
 use la_base::{Names, Pins};
-use stack_spec::{BindError, BindFault};
 use std::alloc::Global;
 use text_parts::ChainWord;
-use wait_cond::{Alt, Cond, CondError, bind_alt, read_alt};
+use wait_cond::{Alt, Cond};
 
 /// A condition, and the channels that its lines stand for.
 #[derive(Drop)]

@@ -2,7 +2,7 @@
 ghost use Rattle.std.specs.Prelude.{◌≡◌, List, ◌∷◌, None};
 ghost use Rattle.decoder_core.specs.Trees.{Node};
 ghost use Rattle.decoder_set.specs.declared.setup.Setup.{Setup};
-ghost use Rattle.stack_spec.specs.Accepting.{Accepted};
+ghost use Rattle.stack_words.specs.Accepting.{Accepted};
 ghost use Rattle.tree_runs.specs.Passing.{IsForest};
 ghost use Rattle.ldecode.specs.Parts.{parents_on};
 ghost use Rattle.ldecode.specs.Together.{ArePartRuns, PartRun, WriteTheWhole};

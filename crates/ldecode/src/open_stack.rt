@@ -9,11 +9,13 @@ ghost use Rattle.ldecode.specs.Opening.{IsOpened};
 
 use crate::form::form_of;
 use capture_any::Capture;
+use cond_words::BindError;
 use decoder_core::Keep;
 use decoder_set::AnyDecoder;
 use la_io::Source;
 use run_status::{Status, status_at_head};
-use stack_spec::{BindError, Stack, StackError, bind, read_stack};
+use stack_spec::bind;
+use stack_words::{Stack, StackError, read_stack};
 use std::alloc::Global;
 use words::Settings;
 

@@ -10,12 +10,12 @@ ghost use Rattle.ldecode.specs.Headline.{WorksOn};
 use crate::alternatives::bind_words;
 use crate::form::form_of;
 use capture_any::Capture;
+use cond_words::BindError;
 use decoder_core::Keep;
 use decoder_set::AnyDecoder;
 use find_job::find_buffered;
 use la_io::{Sink, Source};
 use run_status::{Status, status_at_head};
-use stack_spec::BindError;
 use std::alloc::Global;
 use words::Settings;
 

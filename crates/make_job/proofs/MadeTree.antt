@@ -5,7 +5,7 @@ use Rattle.la_base.specs.declared.samples.Rate.{Rate}
 use Rattle.la_base.specs.declared.samples.TheConstants.{MOST_PINS}
 use Rattle.stack_spec.specs.Binding.{BoundInstance, bound_of}
 use Rattle.stack_spec.specs.BindSteps.{IsBound}
-use Rattle.stack_spec.specs.Instances.{Instance}
+use Rattle.stack_words.specs.Instances.{Instance}
 use Rattle.stack_spec.specs.declared.bound.Bound.{Bound}
 use Rattle.make_job.specs.Making.{bus_setup, line_setup, made_rate}
 use Rattle.make_job.specs.MadeTrees.{IsMadeTree, made_instances, made_names}

@@ -2,7 +2,7 @@
 use Rattle.std.specs.Prelude.{ℕ, ◌≡◌, List, [], ◌∷◌, map, codes, None, All}
 use Rattle.decoder_set.specs.Opening.{HasConsumed, setup_of}
 use Rattle.kind_table.specs.declared.kinds.Kind.TheVariants.{I2c, Uart}
-use Rattle.stack_spec.specs.Instances.{Channel, Instance, Number}
+use Rattle.stack_words.specs.Instances.{Channel, Instance, Number}
 use Rattle.stack_spec.specs.declared.bound.Bound.{Bound}
 use Rattle.make_job.specs.Making.{bus_setup, line_setup}
 

@@ -2,20 +2,22 @@
 ghost use Rattle.std.specs.Prelude.{◌≡◌, ◌≤◌, ◌<◌, ◌^◌, ◌*◌, IfOk, map};
 ghost use Rattle.text_parts.specs.Chains.{chain_of};
 ghost use Rattle.listing_out.specs.Summaries.{summary};
-ghost use Rattle.stack_spec.specs.Stacks.{instances_in};
+ghost use Rattle.stack_words.specs.Stacks.{instances_in};
 ghost use Rattle.run_status.specs.Causes.{SinkCause};
 ghost use Rattle.make_job.specs.Making.{MadeBy, made_chains, made_listing};
 ghost use Rattle.make_job.specs.MadeTrees.{IsMadeTree, made_instances, made_names};
 
 use crate::made_feed::MadeFeed;
 use crate::tally_taker::TallyTaker;
+use cond_words::BindError;
 use decoder_core::RunEnd;
 use la_base::{Names, NoMemory, Rate};
 use la_io::{Failed, Sink};
 use listing_out::write_summary;
 use run_status::Status;
 use stack_direct::run_direct;
-use stack_spec::{BindError, Bound, Stack, StackError, bind, read_stack};
+use stack_spec::{Bound, bind};
+use stack_words::{Stack, StackError, read_stack};
 use std::alloc::Global;
 use text_parts::ChainWord;
 

@@ -8,7 +8,7 @@ use Rattle.la_io.specs.Causes.{AppendsFront}
 use Rattle.la_io.specs.Grown.{appends_nothing, appends_on}
 use Rattle.la_io.proofs.Fronts.{front_longer, front_on, front_whole}
 use Rattle.note_order.specs.declared.entry.Entry.{Entry}
-use Rattle.stack_spec.specs.Accepting.{Accepted}
+use Rattle.stack_words.specs.Accepting.{Accepted}
 use Rattle.annot_merge.proofs.PutLemmas.{first_of}
 use Rattle.note_lister.specs.Lines.{has_shown, note_line, note_lines, shown_entries, shown_line, shown_lines}
 use Rattle.note_lister.specs.Watching.{SawFront, Sees, SeesNone, ShowsFront}

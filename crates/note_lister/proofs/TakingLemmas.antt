@@ -16,7 +16,7 @@ use Rattle.la_io.specs.Grown.{appends_nothing, appends_on}
 use Rattle.la_io.proofs.Fronts.{front_on, front_whole}
 use Rattle.tree_io.proofs.Taking.{adds_behind, adds_first, middle, same_after, takes_nothing}
 use Rattle.note_order.specs.declared.entry.Entry.{Entry}
-use Rattle.stack_spec.specs.Accepting.{Accepted}
+use Rattle.stack_words.specs.Accepting.{Accepted}
 use Rattle.annot_merge.specs.Bounds.{IsAllowed}
 use Rattle.annot_merge.specs.Held.{Stands, StandsStill, Takes, count_of, held_in}
 use Rattle.annot_merge.specs.Marks.{Begins, Pushes}

@@ -4,8 +4,8 @@ use Rattle.std.specs.List.{filter, flat_map}
 use Rattle.la_base.specs.declared.wires.Note.{Note}
 use Rattle.listing_out.specs.NoteLines.{line_as}
 use Rattle.note_order.specs.declared.entry.Entry.{Entry}
-use Rattle.stack_spec.specs.Accepting.{Accepted, is_shown}
-use Rattle.stack_spec.specs.Instances.{Instance}
+use Rattle.stack_words.specs.Accepting.{Accepted, is_shown}
+use Rattle.stack_words.specs.Instances.{Instance}
 
 -- the line of a note of an instance
 abbrev pub line_by : Option Instance → Note → List ℕ

@@ -3,7 +3,7 @@ use Rattle.std.specs.Prelude.{ℕ, ◌≡◌, List, [], Option, Some, None}
 use Rattle.std.specs.List.{All}
 use Rattle.la_base.specs.declared.wires.Mark.{Mark}
 use Rattle.note_order.specs.declared.entry.Entry.{Entry}
-use Rattle.stack_spec.specs.Accepting.{Accepted}
+use Rattle.stack_words.specs.Accepting.{Accepted}
 use Rattle.annot_merge.specs.Bounds.{IsAllowed}
 use Rattle.annot_merge.specs.Merging.{Merges}
 use Rattle.note_lister.specs.Data.{bytes_in}

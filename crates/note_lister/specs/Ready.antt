@@ -4,7 +4,7 @@ use Rattle.std.specs.Io.KnownBytes.{Appends}
 use Rattle.la_base.specs.declared.wires.Mark.{Mark}
 use Rattle.la_io.specs.Causes.{Rose}
 use Rattle.note_order.specs.declared.entry.Entry.{Entry}
-use Rattle.stack_spec.specs.Accepting.{Accepted}
+use Rattle.stack_words.specs.Accepting.{Accepted}
 use Rattle.annot_merge.specs.Held.{Stands, count_of, held_in}
 use Rattle.annot_merge.specs.declared.merge.Merge.{Merge}
 use Rattle.note_lister.specs.Lines.{shown_entries, shown_lines}

@@ -6,9 +6,9 @@ use Rattle.la_base.specs.declared.wires.Mark.{Mark}
 use Rattle.la_io.specs.Causes.{AppendsFront, Rose}
 use Rattle.tree_io.specs.declared.feeds.Stopped.{Stopped}
 use Rattle.note_order.specs.declared.entry.Entry.{Entry}
-use Rattle.stack_spec.specs.Accepting.{Accepted}
-use Rattle.stack_spec.specs.Stacks.{stack_meaning}
-use Rattle.stack_spec.specs.declared.stack.Stack.{Stack}
+use Rattle.stack_words.specs.Accepting.{Accepted}
+use Rattle.stack_words.specs.Stacks.{stack_meaning}
+use Rattle.stack_words.specs.declared.stack.Stack.{Stack}
 use Rattle.std.proofs.Common.{Bor, MutBor}
 use Rattle.std.specs.declared.snapshot.Snapshot.{Snapshot}
 use Rattle.annot_merge.specs.Held.{Stands, count_of, held_in}

@@ -4,7 +4,7 @@ ghost use Rattle.std.specs.Io.KnownBytes.{Appends};
 ghost use Rattle.la_base.specs.declared.wires.Mark.{Mark};
 ghost use Rattle.note_order.specs.declared.entry.Entry.{Entry};
 ghost use Rattle.la_io.specs.Causes.{AppendsFront, HasCause};
-ghost use Rattle.stack_spec.specs.Stacks.{stack_meaning};
+ghost use Rattle.stack_words.specs.Stacks.{stack_meaning};
 ghost use Rattle.annot_merge.specs.Held.{Stands, count_of};
 ghost use Rattle.note_lister.specs.Lines.{note_line, shown_entries, shown_line, shown_lines};
 ghost use Rattle.note_lister.specs.Ready.{ListCause, ListsReady};
@@ -16,7 +16,7 @@ use annot_merge::{Entry, Merge};
 use la_base::NoMemory;
 use la_io::{Failed, Sink};
 use listing_out::NoteLine;
-use stack_spec::Stack;
+use stack_words::Stack;
 
 // Writes the line of a note of an instance that is shown. One that isn't there has none.
 #[inline(always)]

@@ -1,11 +1,11 @@
 // The lister.
 ghost use Rattle.std.specs.Prelude.{◌≡◌, IsSome, None, false, true};
-ghost use Rattle.stack_spec.specs.Stacks.{stack_meaning};
+ghost use Rattle.stack_words.specs.Stacks.{stack_meaning};
 
 use crate::stop::ListStop;
 use annot_merge::Merge;
 use listing_out::NoteLine;
-use stack_spec::Stack;
+use stack_words::Stack;
 use std::snapshot::Snapshot;
 
 /// Takes the marks of the instances of a stack, and writes the line of each note of an instance

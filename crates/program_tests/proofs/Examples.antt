@@ -11,12 +11,12 @@ use Rattle.words.specs.declared.kinds.WordWhy.{WordWhy}
 use Rattle.words.specs.declared.kinds.WordWhy.TheVariants as word_why
 use Rattle.kind_table.specs.Kinds.{OptionRow, Text, Pin, Number, Choice}
 use Rattle.kind_table.specs.declared.kinds.Asked.{Asked}
-use Rattle.stack_spec.specs.Instances.{Given, has_numbers}
-use Rattle.stack_spec.specs.Options.{options_at}
+use Rattle.stack_words.specs.Instances.{Given, has_numbers}
+use Rattle.stack_words.specs.Options.{options_at}
 use Rattle.la_io.specs.declared.fault.CaptureFault.TheVariants as capture
-use Rattle.stack_spec.specs.declared.faults.StackFault.{StackFault}
-use Rattle.stack_spec.specs.declared.faults.StackWhy.{StackWhy}
-use Rattle.stack_spec.specs.declared.faults.StackWhy.TheVariants as stack_why
+use Rattle.stack_words.specs.declared.faults.StackFault.{StackFault}
+use Rattle.stack_words.specs.declared.faults.StackWhy.{StackWhy}
+use Rattle.stack_words.specs.declared.faults.StackWhy.TheVariants as stack_why
 use Rattle.run_status.specs.Notices.{notice_of}
 use Rattle.run_status.specs.declared.status.Status.TheVariants.{Capture, NoMemory}
 

@@ -6,7 +6,7 @@ use crate::stacks::word;
 use la_base::{Mark, Note, Piece};
 use la_io::MemSink;
 use note_lister::{ListStop, Lister, Unwatched};
-use stack_spec::{ChainWord, Stack, read_stack};
+use stack_words::{ChainWord, Stack, read_stack};
 use std::alloc::Global;
 use std::test::Fail;
 use tree_io::{MarkTake, Stopped};

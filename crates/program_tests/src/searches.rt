@@ -1,16 +1,17 @@
 // Searches through the public calls, worked out by hand.
 ghost use Rattle.la_base.specs.declared.samples.TheConstants.{MOST_PINS};
 ghost use Rattle.std.specs.Prelude.{◌≤◌, length};
-ghost use Rattle.wait_cond.specs.Binding.{AllBelow, Distinct};
+ghost use Rattle.cond_words.specs.Binding.{AllBelow, Distinct};
 
 use crate::rows::{barred, is_front, source_of};
 use capture_any::{Capture, Form};
+use cond_words::{bind_alt, read_alt};
 use find_job::{find, find_buffered};
 use la_base::{Names, Pins, Rate};
 use la_io::MemSink;
 use std::alloc::Global;
 use std::test::Fail;
-use wait_cond::{Cond, bind_alt, read_alt};
+use wait_cond::Cond;
 
 // More than any test writes.
 const AMPLE: usize = 4096;

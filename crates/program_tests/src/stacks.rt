@@ -4,11 +4,11 @@ ghost use Rattle.std.specs.Prelude.{◌≤◌, All, IfOk, length};
 ghost use Rattle.std.specs.String.{string_bytes};
 
 use crate::rows::parts_of;
+use cond_words::{BindFault, BindWhy};
 use decoder_core::OptFault;
-use stack_spec::{BindFault, ChainWord, Stack, StackError, StackFault, StackWhy, read_stack};
+use stack_words::{ChainWord, Stack, StackError, StackFault, StackWhy, read_stack};
 use std::alloc::Global;
 use std::test::Fail;
-use wait_cond::BindWhy;
 
 // A row has between brackets the chains, and behind a bar the option that names nothing, whose word is 100; before the brackets
 // how many buses stand in front; and behind them how many instances there are, or the word at fault, the place of the fault in

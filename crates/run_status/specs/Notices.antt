@@ -5,14 +5,14 @@ use Rattle.la_io.specs.declared.fault.CaptureError.{CaptureError}
 use Rattle.la_io.specs.declared.fault.CaptureError.TheVariants as error
 use Rattle.la_io.specs.declared.fault.CaptureFault.{CaptureFault}
 use Rattle.la_io.specs.declared.fault.CaptureFault.TheVariants as capture
-use Rattle.wait_cond.specs.declared.faults.BindWhy.{BindWhy}
-use Rattle.wait_cond.specs.declared.faults.BindWhy.TheVariants as binding
+use Rattle.cond_words.specs.declared.faults.BindWhy.{BindWhy}
+use Rattle.cond_words.specs.declared.faults.BindWhy.TheVariants as binding
 use Rattle.words.specs.declared.kinds.WordWhy.{WordWhy}
 use Rattle.words.specs.declared.kinds.WordsError.{WordsError}
 use Rattle.words.specs.declared.kinds.WordsError.TheVariants as words
 use Rattle.words.specs.declared.kinds.WordWhy.TheVariants as word
-use Rattle.stack_spec.specs.declared.faults.StackWhy.{StackWhy}
-use Rattle.stack_spec.specs.declared.faults.StackWhy.TheVariants as stack
+use Rattle.stack_words.specs.declared.faults.StackWhy.{StackWhy}
+use Rattle.stack_words.specs.declared.faults.StackWhy.TheVariants as stack
 use Rattle.check_point.specs.declared.faults.CheckWhy.{CheckWhy}
 use Rattle.check_point.specs.declared.faults.CheckWhy.TheVariants as check
 use Rattle.capture_any.specs.declared.end.ListingEnd.{ListingEnd}

@@ -7,11 +7,11 @@ ghost use Rattle.run_status.specs.Notices.{check_why, line_of, notice_of, viewer
 use crate::outcome::Outcome;
 use crate::status::Status;
 use check_point::CheckWhy;
+use cond_words::BindWhy;
 use la_io::CaptureFault;
 use line_text::LineBuf;
 use listing_out::push_text;
-use stack_spec::StackWhy;
-use wait_cond::BindWhy;
+use stack_words::StackWhy;
 use words::WordWhy;
 
 // Why a word is refused.

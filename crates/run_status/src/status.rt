@@ -4,8 +4,9 @@ ghost use Rattle.run_status.specs.Notices.{code_of, status_at_head, status_by};
 
 use capture_any::ListingEnd;
 use check_point::CheckFault;
+use cond_words::BindFault;
 use la_io::{CaptureError, CaptureFault};
-use stack_spec::{BindFault, StackFault};
+use stack_words::StackFault;
 use words::WordFault;
 
 /// How a run ends.

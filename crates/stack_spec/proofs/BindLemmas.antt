@@ -3,11 +3,11 @@ use Rattle.std.proofs.Common.{◌≡◌, ℕ, zero, suc, ◌+◌, ◌<◌, ◌�
 use Rattle.std.specs.Prelude.{nat_lt}
 use Rattle.std.proofs.lemmas.Bool.Decides.{Decides-eqb, nat_tests}
 use Rattle.std.proofs.lemmas.List.{length_push}
-use Rattle.wait_cond.specs.Binding.{is_pin}
-use Rattle.wait_cond.specs.Steps.{with_pin, Placed}
-use Rattle.wait_cond.proofs.PinLemmas.{distinct_with, below_with, with_old, with_new}
-use Rattle.wait_cond.specs.declared.faults.BindWhy.{BindWhy}
-use Rattle.wait_cond.specs.declared.faults.BindWhy.TheVariants as why
+use Rattle.cond_words.specs.Binding.{is_pin}
+use Rattle.cond_words.specs.Steps.{with_pin, Placed}
+use Rattle.cond_words.proofs.PinLemmas.{distinct_with, below_with, with_old, with_new}
+use Rattle.cond_words.specs.declared.faults.BindWhy.{BindWhy}
+use Rattle.cond_words.specs.declared.faults.BindWhy.TheVariants as why
 use Rattle.stack_spec.specs.Binding.{RowBound, On, bit_of, on_channel}
 use Rattle.stack_spec.specs.BindSteps.{ArePins, BindsRow}
 

@@ -15,16 +15,16 @@ use Rattle.kind_table.specs.Values.{in_range}
 use Rattle.decoder_set.specs.declared.any.AnyDecoder.{AnyDecoder}
 use Rattle.kind_table.specs.declared.values.OptValues.{OptValues}
 use Rattle.decoder_set.specs.declared.setup.Setup.{Setup}
-use Rattle.wait_cond.specs.Binding.{is_pin, first_uses}
-use Rattle.wait_cond.specs.declared.faults.BindWhy.TheVariants as why
-use Rattle.stack_spec.specs.declared.faults.BindFault.{BindFault}
+use Rattle.cond_words.specs.Binding.{is_pin, first_uses}
+use Rattle.cond_words.specs.declared.faults.BindWhy.TheVariants as why
+use Rattle.cond_words.specs.declared.faults.BindFault.{BindFault}
 use Rattle.stack_spec.specs.Binding.{RowBound, channels, with_channels, values_of, BoundInstance, stack_pins, setup_of, bind_fault, opened_at, rows_bound, instance_bound, bound_at, bound_of}
 use Rattle.stack_spec.specs.BindSteps.{BindsRows, BindsInstance, IsBound}
 use Rattle.stack_spec.specs.declared.bound.Bound.{Bound}
-use Rattle.stack_spec.specs.Instances.{Instance}
-use Rattle.stack_spec.specs.Sound.{options_fit, parent_fits, is_right, right_from}
-use Rattle.stack_spec.proofs.OptionLemmas.{both}
-use Rattle.stack_spec.proofs.LinkLemmas.{flat_map-append}
+use Rattle.stack_words.specs.Instances.{Instance}
+use Rattle.stack_words.specs.Sound.{options_fit, parent_fits, is_right, right_from}
+use Rattle.stack_words.proofs.OptionLemmas.{both}
+use Rattle.stack_words.proofs.LinkLemmas.{flat_map-append}
 use Rattle.stack_spec.proofs.RowLemmas.{parts_turn, rows_in_range, not_slow, slow}
 
 module _ (most : ℕ) (names : List (List ℕ)) (rate : Rate) (pins : List ℕ) (entry : ℕ) (instance : Instance) (new : List ℕ) (values : OptValues)

@@ -1,9 +1,3 @@
-pub mod ListLemmas
-pub mod Refusals
-pub mod LinkLemmas
-pub mod OptionLemmas
-pub mod SoundLemmas
-pub mod ForestLemmas
 pub mod BindLemmas
 pub mod RowLemmas
 pub mod BoundLemmas

@@ -7,9 +7,9 @@ use Rattle.std.proofs.Math.ListN.{set}
 use Rattle.std.proofs.lemmas.List.{append-nil, length_push, at_drop_more, at_drop_all, length-map}
 use Rattle.text_parts.specs.Reading.{read_parts, then_read}
 use Rattle.text_parts.proofs.ReadLemmas.{map-push}
-use Rattle.wait_cond.proofs.PinLemmas.{uses_more}
-use Rattle.wait_cond.specs.declared.faults.BindWhy.{BindWhy}
-use Rattle.wait_cond.specs.declared.faults.BindWhy.TheVariants as why
+use Rattle.cond_words.proofs.PinLemmas.{uses_more}
+use Rattle.cond_words.specs.declared.faults.BindWhy.{BindWhy}
+use Rattle.cond_words.specs.declared.faults.BindWhy.TheVariants as why
 use Rattle.la_base.specs.Naming.{find_channel}
 use Rattle.la_base.specs.declared.samples.Rate.{Rate}
 use Rattle.decoder_core.specs.declared.faults.OptFault.{OptFault}
@@ -22,10 +22,10 @@ use Rattle.kind_table.proofs.WholeRows.{kind_whole}
 use Rattle.kind_table.specs.declared.kinds.Kind.{Kind}
 use Rattle.stack_spec.specs.Binding.{RowBound, Absent, Plain, On, channels, with_channels, at_item, bit_of, on_channel, bind_value, row_at, given_rows, value_of, values_of, rows_bound}
 use Rattle.stack_spec.specs.BindSteps.{pins_behind, BindsRow, BindsRows}
-use Rattle.stack_spec.specs.Instances.{Value, Channel, Given, Instance, given_at}
-use Rattle.stack_spec.specs.Instances as value
-use Rattle.stack_spec.specs.Sound.{each_fits, fits, options_fit}
-use Rattle.stack_spec.proofs.OptionLemmas.{both, join}
+use Rattle.stack_words.specs.Instances.{Value, Channel, Given, Instance, given_at}
+use Rattle.stack_words.specs.Instances as value
+use Rattle.stack_words.specs.Sound.{each_fits, fits, options_fit}
+use Rattle.stack_words.proofs.OptionLemmas.{both, join}
 
 -- reading goes on behind a part
 pub parts_turn : {P V F : Type 0} (judge : List V → P → Result V F) (before : List V) (parts : List P) (k : ℕ) (part : P) → k < length parts → get_or parts k part ≡ part

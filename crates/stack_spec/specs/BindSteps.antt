@@ -5,16 +5,16 @@ use Rattle.la_base.specs.declared.samples.Rate.{Rate}
 use Rattle.decoder_set.specs.Opening.{HasConsumed, setup_of as setup_in}
 use Rattle.decoder_set.specs.declared.any.AnyDecoder.{AnyDecoder}
 use Rattle.kind_table.specs.declared.values.OptValues.{OptValues}
-use Rattle.wait_cond.specs.Binding.{AllBelow, Distinct}
-use Rattle.wait_cond.specs.Steps.{with_pin}
-use Rattle.wait_cond.specs.declared.faults.BindWhy.{BindWhy}
-use Rattle.stack_spec.specs.declared.faults.BindError.{BindError}
-use Rattle.stack_spec.specs.declared.faults.BindError.TheVariants as error
-use Rattle.stack_spec.specs.declared.faults.BindFault.{BindFault}
+use Rattle.cond_words.specs.Binding.{AllBelow, Distinct}
+use Rattle.cond_words.specs.Steps.{with_pin}
+use Rattle.cond_words.specs.declared.faults.BindWhy.{BindWhy}
+use Rattle.cond_words.specs.declared.faults.BindError.{BindError}
+use Rattle.cond_words.specs.declared.faults.BindError.TheVariants as error
+use Rattle.cond_words.specs.declared.faults.BindFault.{BindFault}
 use Rattle.stack_spec.specs.declared.bound.Bound.{Bound}
 use Rattle.stack_spec.specs.Binding.{RowBound, Absent, Plain, On, channels, with_channels, value_of}
 use Rattle.stack_spec.specs.Binding.{values_of, BoundInstance, stack_pins, bound_of}
-use Rattle.stack_spec.specs.Instances.{Instance}
+use Rattle.stack_words.specs.Instances.{Instance}
 
 -- pins of a capture with so many channels: each once, no more than `most`
 pub record ArePins (most count : ℕ) (pins : List ℕ) : Type 0 where

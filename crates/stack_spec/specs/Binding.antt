@@ -8,11 +8,11 @@ use Rattle.text_parts.specs.Reading.{read_parts, then_read}
 use Rattle.kind_table.specs.Kinds.{kind_row}
 use Rattle.decoder_set.specs.Faults.{too_slow}
 use Rattle.decoder_set.specs.declared.setup.Setup.{Setup}
-use Rattle.wait_cond.specs.Binding.{first_uses}
-use Rattle.wait_cond.specs.declared.faults.BindWhy.{BindWhy}
-use Rattle.wait_cond.specs.declared.faults.BindWhy.TheVariants as why
-use Rattle.stack_spec.specs.declared.faults.BindFault.{BindFault}
-use Rattle.stack_spec.specs.Instances.{Value, Channel, Number, Instance, given_at}
+use Rattle.cond_words.specs.Binding.{first_uses}
+use Rattle.cond_words.specs.declared.faults.BindWhy.{BindWhy}
+use Rattle.cond_words.specs.declared.faults.BindWhy.TheVariants as why
+use Rattle.cond_words.specs.declared.faults.BindFault.{BindFault}
+use Rattle.stack_words.specs.Instances.{Value, Channel, Number, Instance, given_at}
 
 -- what a row of an instance's options is bound to: nothing, where it isn't given; a number; a
 -- channel with its bit

@@ -7,19 +7,18 @@ ghost use Rattle.la_base.specs.Naming.{find_channel};
 ghost use Rattle.kind_table.specs.Kinds.{kind_row};
 ghost use Rattle.stack_spec.specs.BindSteps.{ArePins, Binds, InstanceStep, RowStep, RowsStep};
 ghost use Rattle.stack_spec.specs.Binding.{bind_value, instance_bound, on_channel, rows_bound};
-ghost use Rattle.stack_spec.specs.Meaning.{given_of, instance_of, meaning_of};
+ghost use Rattle.stack_words.specs.Meaning.{given_of, instance_of, meaning_of};
 ghost use Rattle.decoder_set.specs.Opening.{setup_of};
-ghost use Rattle.stack_spec.specs.Sound.{IsForest, options_fit};
-ghost use Rattle.stack_spec.specs.Stacks.{instances_in};
+ghost use Rattle.stack_words.specs.Sound.{IsForest, options_fit};
+ghost use Rattle.stack_words.specs.Stacks.{instances_in};
 
-use crate::instance::{GivenValue, Instance};
-use crate::options::value_at;
-use crate::{BindError, BindFault, Bound, Stack};
+use crate::Bound;
+use cond_words::{BindError, BindFault, BindWhy, place_of};
 use decoder_set::AnyDecoder;
 use kind_table::{MOST_OPTIONS, OptValues, options_of};
 use la_base::{Names, Pins, Rate};
+use stack_words::{GivenValue, Instance, Stack, value_at};
 use std::alloc::Global;
-use wait_cond::{BindWhy, place_of};
 
 // The bit of the channel that a reference names, which joins the pins if it isn't one.
 fn bind_channel(reference: &str, names: &Names, pins: &mut Pins) -> Result<Option<u64>, BindWhy>
@@ -148,7 +147,7 @@ pub fn bind(alloc: Global, stack: &Stack, names: &Names, rate: Rate) -> Result<B
     let mut machines = Vec::new(alloc);
     let mut parents = Vec::new(alloc);
     let mut pins = Pins::new();
-    for (entry, instance) in stack.instances.iter().enumerate() {
+    for (entry, instance) in stack.instances().iter().enumerate() {
         match bind_instance(instance, names, rate, entry as u32, &mut pins) {
             Ok(machine) => {
                 if machines.push(machine).is_err() {

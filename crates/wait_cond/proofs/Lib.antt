@@ -4,12 +4,8 @@ mod Passing
 pub mod Runs
 pub mod StandingLemmas
 pub mod ChainLemmas
-pub mod PinLemmas
 mod AllStops
 mod WatchLemmas
-pub mod BoundLemmas
-pub mod HoldLemmas
-pub mod WordLemmas
 pub mod PairLemmas
 pub mod PairSets
 pub mod Exact

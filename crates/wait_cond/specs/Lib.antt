@@ -5,10 +5,5 @@ pub mod StopLaws
 pub mod Standing
 pub mod Waiting
 pub mod Watching
-pub mod Words
-pub mod Grammar
-pub mod Binding
-pub mod Steps
-pub mod Holding
 pub mod Pairs
 pub mod Walks

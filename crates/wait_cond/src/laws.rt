@@ -1,6 +1,5 @@
 // What holds of stops and waiters, as functions that do nothing: each contract is a law.
 ghost use Rattle.wait_cond.specs.StopLaws.{ChainStays, GoOn, NoneStays, OneList, OneStop};
-ghost use Rattle.wait_cond.specs.Holding.{MetWhereTermsHold};
 ghost use Rattle.wait_cond.specs.Waiting.{OneWaiter, EveryList};
 
 /// A wait has one stop at most: two are equal in place and set.
@@ -27,10 +26,4 @@ pub fn stops_go_on_with_samples()
 pub fn samples_make_the_waiter()
     ensures one { OneWaiter }
     ensures every { EveryList }
-{}
-
-/// An alternative that terms are bound to is met at a sample exactly where each of the terms holds:
-/// each letter of the channel of its reference, and each skip.
-pub fn bound_terms_are_what_is_met()
-    ensures { MetWhereTermsHold }
 {}

@@ -7,9 +7,9 @@ use Rattle.std.proofs.lemmas.List.{length-map}
 use Rattle.std.proofs.lemmas.Option.{slice_get-map}
 use Rattle.text_parts.specs.Chains.{WordText, chain_of}
 use Rattle.text_parts.specs.declared.chain.ChainWord.{ChainWord}
-use Rattle.wait_cond.specs.Words.{Meaning}
-use Rattle.wait_cond.specs.Grammar.{terms_of}
-use Rattle.wait_cond.specs.declared.words.CondFault.{CondFault}
+use Rattle.cond_words.specs.Words.{Meaning}
+use Rattle.cond_words.specs.Grammar.{terms_of}
+use Rattle.cond_words.specs.declared.words.CondFault.{CondFault}
 use Rattle.words.specs.Readable.{IsReadable, IsShort}
 use Rattle.words.specs.Settings.{cond_fault, fault_behind, few_or_many, fault_of, job_fault, many_at, or_else, too_many, words_taken}
 use Rattle.words.specs.declared.kinds.Job.{Job}

@@ -2,7 +2,7 @@
 use Rattle.std.specs.Prelude.{◌≡◌, ◌≤◌, List, length, All, IsOk}
 use Rattle.std.specs.String.{string_bytes}
 use Rattle.text_parts.specs.declared.chain.ChainWord.{ChainWord}
-use Rattle.wait_cond.specs.Grammar.{terms_of}
+use Rattle.cond_words.specs.Grammar.{terms_of}
 use Rattle.words.specs.Settings.{words_taken}
 use Rattle.words.specs.declared.kinds.Job.{Job}
 use Rattle.words.specs.declared.kinds.Job.TheVariants.{Find}

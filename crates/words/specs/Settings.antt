@@ -8,9 +8,9 @@ use Rattle.std.specs.String.{string_bytes}
 use Rattle.text_parts.specs.Chains.{WordText, chain_of}
 use Rattle.text_parts.specs.Numbers.{number_after}
 use Rattle.text_parts.specs.Reading.{then_read}
-use Rattle.wait_cond.specs.Words.{Meaning}
-use Rattle.wait_cond.specs.Grammar.{terms_of}
-use Rattle.wait_cond.specs.declared.words.CondFault.{CondFault}
+use Rattle.cond_words.specs.Words.{Meaning}
+use Rattle.cond_words.specs.Grammar.{terms_of}
+use Rattle.cond_words.specs.declared.words.CondFault.{CondFault}
 use Rattle.words.specs.Lexer.{Text}
 use Rattle.words.specs.Options.{row}
 use Rattle.words.specs.Rates.{RateNumbers, numbers_of, rate_written}

@@ -7,9 +7,9 @@ ghost use Rattle.words.specs.Settings.{too_many, words_taken};
 
 use crate::kinds::WordCount;
 use crate::{Format, Job, WordFault, WordWhy};
+use cond_words::{CondError, read_alt};
 use std::alloc::{AllocError, Global};
 use text_parts::ChainWord;
-use wait_cond::{CondError, read_alt};
 
 // How many such words a job takes.
 fn words_taken(job: Job) -> WordCount

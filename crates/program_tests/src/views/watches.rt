@@ -1,6 +1,6 @@
 // What looks on as notes are listed adds them to a shelf.
 ghost use Rattle.std.specs.Prelude.{◌≡◌, length};
-ghost use Rattle.stack_spec.specs.Stacks.{instances_in};
+ghost use Rattle.stack_words.specs.Stacks.{instances_in};
 ghost use Rattle.view_store.specs.Listings.{nothing};
 ghost use Rattle.view_store.specs.Views.{pending, published};
 
@@ -12,7 +12,7 @@ use la_io::MemSink;
 use note_lister::{ListStop, Lister, Watch};
 use note_order::Entry;
 use shelf_watch::ShelfWatch;
-use stack_spec::Stack;
+use stack_words::Stack;
 use std::alloc::Global;
 use std::sync::Wait;
 use std::test::Fail;

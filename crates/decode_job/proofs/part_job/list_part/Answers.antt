@@ -1,7 +1,7 @@
 use Rattle.std.proofs.Common.{◌≡◌, ◌≤◌, [], length, rules, arith, refl, ap, sym, subst, ◌∙◌}
 use Rattle.tree_runs.specs.Taking.{IsTree}
 use Rattle.note_lister.specs.Taking.{instances_of, stack_of}
-use Rattle.stack_spec.specs.declared.stack.Stack.{Stack}
+use Rattle.stack_words.specs.declared.stack.Stack.{Stack}
 use Rattle.decode_job.specs.Asking.{WantsOf}
 use Rattle.decode_job.specs.Parting.{room_behind}
 use Rattle.decode_job.specs.UpTo.{count_of, most_of}

@@ -1,7 +1,7 @@
 use Rattle.std.proofs.Common.{◌≡◌, List, length}
-use Rattle.wait_cond.specs.Binding.{AllBelow, Distinct}
+use Rattle.cond_words.specs.Binding.{AllBelow, Distinct}
 use Rattle.wait_cond.specs.Conds.{cond_alts}
-use Rattle.wait_cond.specs.Words.{Meaning}
+use Rattle.cond_words.specs.Words.{Meaning}
 use Rattle.ldecode.specs.Chosen.{AreTerms}
 use Rattle.ldecode.proofs.Choosing.{ChosenSoFar}
 use Rattle.ldecode.proofs.alternatives.bind_words.Given as goal

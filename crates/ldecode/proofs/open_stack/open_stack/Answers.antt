@@ -3,10 +3,10 @@ use Rattle.la_base.specs.declared.samples.TheConstants.{MOST_PINS}
 use Rattle.la_base.specs.declared.samples.Rate.{Rate}
 use Rattle.capture_any.specs.Reading.{form_of, names_of, rate_of}
 use Rattle.stack_spec.specs.BindSteps.{Binds}
-use Rattle.stack_spec.specs.Stacks.{stack_meaning}
-use Rattle.stack_spec.specs.declared.faults.BindFault.{BindFault}
-use Rattle.stack_spec.specs.declared.faults.BindError.{BindError}
-use Rattle.stack_spec.specs.declared.faults.BindError.TheVariants.{Fault}
+use Rattle.stack_words.specs.Stacks.{stack_meaning}
+use Rattle.cond_words.specs.declared.faults.BindFault.{BindFault}
+use Rattle.cond_words.specs.declared.faults.BindError.{BindError}
+use Rattle.cond_words.specs.declared.faults.BindError.TheVariants.{Fault}
 use Rattle.words.specs.Settings.{meaning_of}
 use Rattle.capture_any.specs.declared.form.Form.{Form}
 use Rattle.run_status.specs.declared.status.Status.TheVariants.{Bind}

@@ -1,7 +1,7 @@
 use Rattle.std.proofs.Common.{◌≡◌, List, map, sym, ap, subst, ◌∙◌, rules, refl}
 use Rattle.decoder_set.specs.Opening.{setup_of}
 use Rattle.decoder_set.specs.declared.any.AnyDecoder.{AnyDecoder}
-use Rattle.stack_spec.specs.Stacks.{instances_in}
+use Rattle.stack_words.specs.Stacks.{instances_in}
 use Rattle.words.specs.Settings.{meaning_of}
 use Rattle.ldecode.specs.Headline.{WorksOn}
 use Rattle.ldecode.specs.Parting.{places_of}

@@ -1,6 +1,6 @@
 use Rattle.std.proofs.Common.{◌≡◌, map, take}
-use Rattle.stack_spec.specs.Instances.{Instance}
-use Rattle.stack_spec.specs.Stacks.{instances_in}
+use Rattle.stack_words.specs.Instances.{Instance}
+use Rattle.stack_words.specs.Stacks.{instances_in}
 use Rattle.kind_table.specs.Kinds.{place_of}
 use Rattle.ldecode.proofs.part.places.Given as goal
 

@@ -3,8 +3,8 @@ use Rattle.std.specs.Prelude.{Ok, Err, ℕ, List}
 use Rattle.wait_cond.specs.Conds.{cond_alts}
 use Rattle.words.specs.Settings.{meaning_of}
 use Rattle.capture_any.specs.Reading.{names_of, rate_of}
-use Rattle.stack_spec.specs.declared.faults.BindError.{BindError}
-use Rattle.stack_spec.specs.declared.faults.BindError.TheVariants.{Fault}
+use Rattle.cond_words.specs.declared.faults.BindError.{BindError}
+use Rattle.cond_words.specs.declared.faults.BindError.TheVariants.{Fault}
 use Rattle.text_parts.specs.declared.chain.ChainWord.{ChainWord}
 use Rattle.run_status.specs.declared.status.Status.{Status}
 use Rattle.ldecode.specs.Chosen.{AreTerms, Chooses}

@@ -1,6 +1,6 @@
 use Rattle.std.proofs.Common.{List, ◌++◌, ◌∙◌, refl, subst, append_assoc, arith}
 use Rattle.note_order.specs.declared.entry.Entry.{Entry}
-use Rattle.stack_spec.specs.Stacks.{stack_meaning}
+use Rattle.stack_words.specs.Stacks.{stack_meaning}
 use Rattle.annot_merge.specs.Held.{GivesAll, GivesNone, Stands}
 use Rattle.note_lister.proofs.Seeing.{listed_more, no_entries, seen_more, shows_on}
 use Rattle.note_lister.proofs.lines.list_ready.Goals as goal

@@ -1,7 +1,7 @@
 use Rattle.std.proofs.Common.{◌≡◌, List, ℕ, length}
 use Rattle.la_base.specs.declared.wires.Mark.{Mark}
 use Rattle.note_order.specs.declared.entry.Entry.{Entry}
-use Rattle.stack_spec.specs.Stacks.{stack_meaning}
+use Rattle.stack_words.specs.Stacks.{stack_meaning}
 use Rattle.annot_merge.specs.Held.{Stands, count_of, held_in}
 use Rattle.note_lister.specs.Ready.{ListsAll}
 use Rattle.note_lister.proofs.lines.list_ready.Given as goal

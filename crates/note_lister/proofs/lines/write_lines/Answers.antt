@@ -1,5 +1,5 @@
 use Rattle.std.proofs.Common.{arith}
-use Rattle.stack_spec.specs.Stacks.{stack_meaning}
+use Rattle.stack_words.specs.Stacks.{stack_meaning}
 use Rattle.note_lister.proofs.Seeing.{stopped_at}
 use Rattle.note_lister.proofs.lines.write_lines.Goals as goal
 

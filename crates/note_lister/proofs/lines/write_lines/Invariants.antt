@@ -1,6 +1,6 @@
 use Rattle.std.proofs.Common.{◌≡◌, take}
 use Rattle.std.specs.Io.KnownBytes.{Appends}
-use Rattle.stack_spec.specs.Stacks.{stack_meaning}
+use Rattle.stack_words.specs.Stacks.{stack_meaning}
 use Rattle.note_lister.specs.Lines.{shown_entries, shown_lines}
 use Rattle.note_lister.specs.Watching.{Sees}
 use Rattle.note_lister.proofs.lines.write_lines.Given as goal

@@ -1,5 +1,5 @@
 use Rattle.std.proofs.Common.{length}
-use Rattle.wait_cond.specs.Binding.{AllBelow, Distinct}
+use Rattle.cond_words.specs.Binding.{AllBelow, Distinct}
 use Rattle.program_tests.proofs.searches.condition.Given as goal
 
 abbrev pub invariant-loop-word : goal.invariant-loop-word

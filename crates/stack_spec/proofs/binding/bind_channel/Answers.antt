@@ -1,7 +1,7 @@
 use Rattle.std.proofs.Common.{◌≡◌, ◌≤◌, ◌∙◌, ℕ, List, Option, Some, length, sym, ap, subst}
 use Rattle.la_base.specs.Naming.{find_channel}
 use Rattle.la_base.specs.declared.samples.TheConstants.{MOST_PINS}
-use Rattle.wait_cond.proofs.PinLemmas.{found_below}
+use Rattle.cond_words.proofs.PinLemmas.{found_below}
 use Rattle.stack_spec.specs.Binding.{on_channel}
 use Rattle.stack_spec.specs.BindSteps.{ArePins, BindsRow}
 use Rattle.stack_spec.proofs.BindLemmas.{channel_placed, channel_refused, pins_with}

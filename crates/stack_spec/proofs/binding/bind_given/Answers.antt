@@ -3,8 +3,8 @@ use Rattle.la_base.specs.Naming.{find_channel}
 use Rattle.la_base.specs.declared.samples.TheConstants.{MOST_PINS}
 use Rattle.stack_spec.specs.Binding.{bind_value, on_channel}
 use Rattle.stack_spec.specs.BindSteps.{RowStep}
-use Rattle.stack_spec.specs.Meaning.{meaning_of}
-use Rattle.stack_spec.specs.declared.instance.GivenValue.{GivenValue}
+use Rattle.stack_words.specs.Meaning.{meaning_of}
+use Rattle.stack_words.specs.declared.instance.GivenValue.{GivenValue}
 use Rattle.stack_spec.proofs.binding.bind_given.Goals as goal
 
 pub returns-in-Channel-clause-step : goal.returns-in-Channel-clause-step

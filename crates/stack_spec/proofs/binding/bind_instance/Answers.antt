@@ -1,5 +1,5 @@
 use Rattle.la_base.specs.declared.samples.TheConstants.{MOST_PINS}
-use Rattle.stack_spec.specs.Meaning.{instance_of}
+use Rattle.stack_words.specs.Meaning.{instance_of}
 use Rattle.stack_spec.proofs.BoundLemmas.{bound_ok, bound_slow}
 use Rattle.stack_spec.proofs.binding.bind_instance.Goals as goal
 

@@ -4,9 +4,9 @@ use Rattle.la_base.specs.declared.samples.TheConstants.{MOST_PINS}
 use Rattle.kind_table.specs.Kinds.{kind_row, opt_row}
 use Rattle.stack_spec.specs.Binding.{bind_value}
 use Rattle.stack_spec.specs.BindSteps.{BindsRow}
-use Rattle.stack_spec.specs.Instances.{Value, given_at}
-use Rattle.stack_spec.specs.Meaning.{given_of, instance_of}
-use Rattle.stack_spec.specs.declared.instance.GivenOption.{GivenOption}
+use Rattle.stack_words.specs.Instances.{Value, given_at}
+use Rattle.stack_words.specs.Meaning.{given_of, instance_of}
+use Rattle.stack_words.specs.declared.instance.GivenOption.{GivenOption}
 use Rattle.stack_spec.proofs.RowLemmas.{rows_more, rows_stop}
 use Rattle.stack_spec.proofs.binding.bind_rows.Goals as goal
 

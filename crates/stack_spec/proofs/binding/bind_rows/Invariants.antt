@@ -1,7 +1,7 @@
 use Rattle.std.proofs.Common.{length}
 use Rattle.la_base.specs.declared.samples.TheConstants.{MOST_PINS}
 use Rattle.stack_spec.specs.BindSteps.{ArePins}
-use Rattle.stack_spec.specs.Meaning.{instance_of}
+use Rattle.stack_words.specs.Meaning.{instance_of}
 use Rattle.stack_spec.proofs.RowLemmas.{RowsSoFar}
 use Rattle.stack_spec.proofs.binding.bind_rows.Given as goal
 

@@ -7,7 +7,7 @@ use Rattle.tree_io.proofs.Taking.{same_after, some_behind, takes_whole}
 use Rattle.note_order.specs.declared.entry.Entry.{Entry}
 use Rattle.annot_merge.specs.Held.{Stands}
 use Rattle.annot_merge.specs.declared.merge.Merge.{Merge}
-use Rattle.stack_spec.specs.Stacks.{stack_meaning}
+use Rattle.stack_words.specs.Stacks.{stack_meaning}
 use Rattle.note_lister.specs.Taking.{Took, Writes, first_sink, sink_of}
 use Rattle.note_lister.proofs.PushLemmas.{not_ok}
 use Rattle.note_lister.proofs.Seeing.{sees_nothing}

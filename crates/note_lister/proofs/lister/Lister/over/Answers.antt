@@ -1,5 +1,5 @@
 use Rattle.std.proofs.Common.{[], refl, sym, ap, subst, MutBor}
-use Rattle.stack_spec.specs.Stacks.{stack_meaning}
+use Rattle.stack_words.specs.Stacks.{stack_meaning}
 use Rattle.note_lister.specs.Taking.{WritesAll}
 use Rattle.note_lister.proofs.TakingLemmas.{nothing_taken}
 use Rattle.note_lister.proofs.lister.Lister.over.Goals as goal

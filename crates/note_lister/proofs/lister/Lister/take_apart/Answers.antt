@@ -1,7 +1,7 @@
 use Rattle.std.proofs.Common.{◌≡◌, ◌≢◌, ◌<◌, inl, inr, [], ◌∷◌, refl, sym, arith}
 use Rattle.std.specs.Prelude.{IsSome}
 use Rattle.std.proofs.lemmas.Bool.{cases_eq}
-use Rattle.stack_spec.specs.Stacks.{stack_meaning}
+use Rattle.stack_words.specs.Stacks.{stack_meaning}
 use Rattle.note_lister.specs.Taking.{first_sink, sink_of}
 use Rattle.note_lister.proofs.TakingLemmas.{cut_first, stopped_again}
 use Rattle.note_lister.proofs.lister.Lister.take_apart.Goals as goal

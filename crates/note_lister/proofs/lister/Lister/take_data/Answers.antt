@@ -1,5 +1,5 @@
 use Rattle.std.proofs.Common.{arith}
-use Rattle.stack_spec.specs.Stacks.{stack_meaning}
+use Rattle.stack_words.specs.Stacks.{stack_meaning}
 use Rattle.note_lister.specs.Taking.{first_sink, sink_of}
 use Rattle.note_lister.proofs.TakingLemmas.{data_fails, data_writes, never_stopped}
 use Rattle.note_lister.proofs.lister.Lister.take_data.Goals as goal

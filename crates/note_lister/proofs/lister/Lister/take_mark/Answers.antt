@@ -3,7 +3,7 @@ use Rattle.std.proofs.lemmas.List.{append-nil}
 use Rattle.la_io.specs.Grown.{appends_nothing}
 use Rattle.note_order.specs.declared.entry.Entry.{Entry}
 use Rattle.annot_merge.specs.Held.{Stands}
-use Rattle.stack_spec.specs.Stacks.{stack_meaning}
+use Rattle.stack_words.specs.Stacks.{stack_meaning}
 use Rattle.note_lister.specs.Taking.{first_sink, sink_of}
 use Rattle.note_lister.proofs.Seeing.{sees_nothing}
 use Rattle.note_lister.proofs.TakingLemmas.{marks_cut, marks_fail, marks_write, never_stopped, none_pushed, one_pushed, wants_none}

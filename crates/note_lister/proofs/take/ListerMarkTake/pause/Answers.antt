@@ -1,7 +1,7 @@
 use Rattle.std.proofs.Common.{◌≡◌, ◌≢◌, ◌<◌, Option, inl, inr, refl, sym, subst, arith}
 use Rattle.std.specs.Prelude.{IsSome}
 use Rattle.std.proofs.lemmas.Bool.{cases_eq}
-use Rattle.stack_spec.specs.Stacks.{stack_meaning}
+use Rattle.stack_words.specs.Stacks.{stack_meaning}
 use Rattle.note_lister.specs.Taking.{Writes, first_sink, sink_of}
 use Rattle.note_lister.specs.declared.stop.ListStop.{ListStop}
 use Rattle.note_lister.proofs.TakingLemmas.{all_front, none_is, pause_fails, paused_again}

@@ -1,0 +1,4 @@
+pub mod PinLemmas
+pub mod BoundLemmas
+pub mod HoldLemmas
+pub mod WordLemmas

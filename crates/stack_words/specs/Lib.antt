@@ -1,0 +1,9 @@
+pub mod Instances
+pub mod Options
+pub mod Chains
+pub mod Accepting
+pub mod Meaning
+pub mod Steps
+pub mod Sound
+pub mod Stacks
+pub mod Rows
