@@ -79,8 +79,8 @@ shifted_bit : (n first i : ℕ) → bit_at (n / 2 ^ first) i ≡ bit_at n (first
 shifted_bit n first i = ap (λ (m : ℕ). m % 2) (div-div-eq-div-mul n (2 ^ first) (2 ^ i)) ∙ ap (λ (k : ℕ). n / k % 2) (sym (pow-add 2 first i))
 
 -- pins that are neighbours are picked by a shift
-pub stretch_picks : (pins : List ℕ) (first n ones : ℕ) → ones + 1 ≡ 2 ^ length pins → ((k : ℕ) → k < length pins → get_or pins k 0 ≡ first + k) → bit_and (n / 2 ^ first) ones ≡ picked pins n
-stretch_picks pins first n ones is order = same_from_bits (bit_and (n / 2 ^ first) ones) (picked pins n) bits where
+pub neighbours_pick : (pins : List ℕ) (first n ones : ℕ) → ones + 1 ≡ 2 ^ length pins → ((k : ℕ) → k < length pins → get_or pins k 0 ≡ first + k) → bit_and (n / 2 ^ first) ones ≡ picked pins n
+neighbours_pick pins first n ones is order = same_from_bits (bit_and (n / 2 ^ first) ones) (picked pins n) bits where
   all_ones : ones ≡ 2 ^ length pins - 1
   all_ones = omega (arith, is)
 

@@ -1,7 +1,7 @@
 pub mod Raw
 pub mod Masks
 pub mod Pairs
-pub mod Stretches
+pub mod Neighbours
 pub mod Filling
 pub mod Reader
 pub mod Laws

@@ -9,7 +9,7 @@ mod laws;
 mod pairs;
 mod reader;
 mod step;
-mod stretch;
+mod neighbours;
 mod units;
 mod wide;
 

@@ -3,13 +3,13 @@ ghost use Rattle.std.specs.Prelude.{◌≡◌, ◌<◌, ◌≤◌, ℕ, length, 
 ghost use Rattle.la_base.specs.declared.samples.TheConstants.{MOST_PINS};
 ghost use Rattle.capture_raw.specs.Masks.{Covers, OfBytes};
 ghost use Rattle.capture_raw.specs.Raw.{unit_len};
-ghost use Rattle.capture_raw.specs.Stretches.{Picks};
+ghost use Rattle.capture_raw.specs.Neighbours.{Picks};
 
 use crate::RawStep;
 use crate::alike::alike_units;
 use crate::fill::{ROOM, fill};
 use crate::filled::Filled;
-use crate::stretch::{Stretch, stretch_of};
+use crate::neighbours::{Neighbours, neighbours_of};
 use crate::units::{BYTES, MOST_UNIT, mask_of, picked_of, samples_of_bytes};
 use la_base::{MOST_PINS, Pins, Rate, Run, Word};
 use la_io::{Failed, Intake, Source};
@@ -29,7 +29,7 @@ pub struct RawReader {
     of_bytes: [Word; BYTES],
     of_seconds: [Word; BYTES],
     // how a shift picks the samples of longer units, if it does
-    stretch: Stretch,
+    neighbours: Neighbours,
     held: Intake<ROOM>,
     open: bool,
     ghost channels_fit: { (1 ≤ channels) × (channels ≤ MOST_PINS) },
@@ -39,7 +39,7 @@ pub struct RawReader {
     ghost mask_covers: { Covers mask pins.items },
     ghost table_fits: { OfBytes 1 of_bytes pins.items },
     ghost seconds_fit: { OfBytes 256 of_seconds pins.items },
-    ghost stretch_fits: { Picks stretch.holds stretch.first stretch.ones pins.items },
+    ghost neighbours_fit: { Picks neighbours.holds neighbours.first neighbours.ones pins.items },
 }
 
 impl RawReader {
@@ -67,7 +67,7 @@ impl RawReader {
         let pins = Pins::new();
         let of_bytes = samples_of_bytes(&pins, 1);
         let of_seconds = samples_of_bytes(&pins, 256);
-        let stretch = stretch_of(&pins);
+        let neighbours = neighbours_of(&pins);
         RawReader {
             channels,
             unit: channels.div_ceil(8) as usize,
@@ -76,7 +76,7 @@ impl RawReader {
             mask: 0,
             of_bytes,
             of_seconds,
-            stretch,
+            neighbours,
             held: Intake::new(),
             open: true,
         }
@@ -96,12 +96,12 @@ impl RawReader {
         let mask = mask_of(&pins);
         let of_bytes = samples_of_bytes(&pins, 1);
         let of_seconds = samples_of_bytes(&pins, 256);
-        let stretch = stretch_of(&pins);
+        let neighbours = neighbours_of(&pins);
         self.pins = pins;
         self.mask = mask;
         self.of_bytes = of_bytes;
         self.of_seconds = of_seconds;
-        self.stretch = stretch;
+        self.neighbours = neighbours;
     }
 
     /// The rate of its samples.
@@ -140,7 +140,7 @@ impl RawReader {
         if unit == 2 {
             return self.of_bytes[bytes[0] as usize] + self.of_seconds[bytes[1] as usize];
         }
-        picked_of(&self.pins, self.stretch, bytes, unit)
+        picked_of(&self.pins, self.neighbours, bytes, unit)
     }
 
     // The next run of what is held. Units of one byte are the usual ones.

@@ -3,9 +3,9 @@ ghost use Rattle.std.specs.Prelude.{◌≡◌, ◌<◌, ◌≤◌, ◌+◌, ◌*
 ghost use Rattle.std.specs.Int.{bit_at};
 ghost use Rattle.capture_raw.specs.Raw.{number, picked, word_of};
 ghost use Rattle.capture_raw.specs.Masks.{Covers, OfBytes};
-ghost use Rattle.capture_raw.specs.Stretches.{Picks};
+ghost use Rattle.capture_raw.specs.Neighbours.{Picks};
 
-use crate::stretch::Stretch;
+use crate::neighbours::Neighbours;
 use la_base::{HALF_BITS, MOST_PINS, WORD_BYTES, Word, high_half, low_half};
 
 /// How many bytes there are.
@@ -56,17 +56,17 @@ pub fn number(unit: &[u8]) -> Word
 
 /// The sample of the first unit.
 #[inline(always)]
-pub fn picked_of(pins: &[u32], stretch: Stretch, bytes: &[u8], unit: usize) -> Word
+pub fn picked_of(pins: &[u32], neighbours: Neighbours, bytes: &[u8], unit: usize) -> Word
     requires few { length pins.now ≤ MOST_PINS }
-    requires stretch { Picks stretch.holds stretch.first stretch.ones pins.now }
+    requires neighbours { Picks neighbours.holds neighbours.first neighbours.ones pins.now }
     requires within { (k : ℕ) → k < length pins.now → slice_index pins.now k < 8 * unit }
     requires short { unit ≤ MOST_UNIT }
     requires whole { unit ≤ length bytes.now }
     ensures { result ≡ word_of pins.now (take unit bytes.now) }
 {
-    if stretch.holds && bytes.len() >= WORD_BYTES {
+    if neighbours.holds && bytes.len() >= WORD_BYTES {
         // What stands behind the unit has no pin.
-        return stretch.of(broad_at(bytes, 0));
+        return neighbours.of(broad_at(bytes, 0));
     }
     picked_singly(pins, bytes, unit)
 }

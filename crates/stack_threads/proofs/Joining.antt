@@ -15,7 +15,7 @@ use Rattle.stage_ring.specs.declared.ends.Tx.{Tx}
 use Rattle.stage_run.specs.Inputs.{input_link, reads_samples, taken}
 use Rattle.stage_run.specs.Stages.{Links}
 use Rattle.stage_run.specs.declared.input.Input.TheVariants.{Packets}
-use Rattle.stage_run.specs.declared.input.Stretch.{Stretch}
+use Rattle.stage_run.specs.declared.input.HalfRun.{HalfRun}
 use Rattle.stack_threads.specs.Trees.{Reads, Serves, Wired, children_in, is_root, links_down, on_place, place_of}
 use Rattle.stack_threads.specs.Wires.{AreNew, AreWide, AreWired, Grows, Joins, all_links, ends_links, feeds_with, stages_with, with_child}
 use Rattle.stack_threads.specs.declared.rooms.Rooms.{Rooms}
@@ -264,7 +264,7 @@ child_joined (e ∷ ends) zero d new link low is = ap (λ l. l ∷ map ends_link
 child_joined (e ∷ ends) (suc p) d new link low is = ap (λ l. ends_links e ∷ l) (child_joined ends p d new link (omega (arith, low)) is)
 
 -- an input that is linked to its parent
-pub joined_child : (parent : Option ℕ) (p : ℕ) (rooms : Rooms) (tx : Tx Feed) (rx : Rx Feed) (ends : List StageEnds) (old new : StageEnds) (feeds : List (Tx Stretch)) → parent ≡ Some p → p < length ends → old ≡ get_or ends p old
+pub joined_child : (parent : Option ℕ) (p : ℕ) (rooms : Rooms) (tx : Tx Feed) (rx : Rx Feed) (ends : List StageEnds) (old new : StageEnds) (feeds : List (Tx HalfRun)) → parent ≡ Some p → p < length ends → old ≡ get_or ends p old
     → new.input ≡ old.input → new.marks ≡ old.marks → new.children.items ≡ old.children.items ++ tx ∷ [] → Opens rooms.others tx rx → Joins rooms parent (Packets rx) ends (set ends p new) feeds feeds
 joined_child parent p rooms tx rx ends old new feeds is low there input marks children opens = record {
   samples = ap is_root (sym is);

@@ -26,7 +26,7 @@ use Rattle.stage_ring.specs.Link.{received, rx_link, sent, tx_link}
 use Rattle.stage_ring.specs.declared.ends.Rx.{Rx}
 use Rattle.stage_ring.specs.declared.ends.Tx.{Tx}
 use Rattle.stage_run.specs.Stages.{Links, PartsMean, all_sent, blank, is_over, links, parts_links}
-use Rattle.stage_run.specs.declared.input.Stretch.{Stretch}
+use Rattle.stage_run.specs.declared.input.HalfRun.{HalfRun}
 use Rattle.stage_run.specs.declared.stage.Parts.{Parts}
 use Rattle.stage_run.specs.declared.stage.Stage.{Stage}
 use Rattle.stage_crew.specs.Crew.{Each, Ends}
@@ -59,7 +59,7 @@ module _ {A : Type 0} (R : A → A → Type 0) where
   each_len (a ∷ xs) (b ∷ ys) e = ap suc (each_len xs ys e.1)
 
 -- new links are fresh ones
-pub fresh : (feeds : List (Tx Stretch)) (marks : List (Rx Mark)) → All (λ feed. sent feed ≡ []) feeds → All (λ mark. received mark ≡ []) marks → Fresh feeds marks
+pub fresh : (feeds : List (Tx HalfRun)) (marks : List (Rx Mark)) → All (λ feed. sent feed ≡ []) feeds → All (λ mark. received mark ≡ []) marks → Fresh feeds marks
 fresh feeds marks none_sent none_received = record { feeds_fresh = λ k s at. one sent feeds none_sent k s at; marks_fresh = λ k m at. one received marks none_received k m at }
   where
     one : {X Y : Type 0} (f : X → List Y) (xs : List X) → All (λ x. f x ≡ []) xs → (k : ℕ) (y : List Y) → slice_get (map f xs) k ≡ Some y → y ≡ []
@@ -143,7 +143,7 @@ module _ {M S : Type 0} (m : MachineGhosts M S) where
 
     module _ (parents : List (Option ℕ)) (forest : IsForest parents) (each : length machines ≡ length parents) (rooms : Rooms) (wired : AreWired rooms parents wires)
         (parts : List (Parts M)) (alike : AllZip Alike parted parts)
-        (feeds : List (Tx Stretch)) (same_feeds : map tx_link feeds ≡ map tx_link wires.feeds.items)
+        (feeds : List (Tx HalfRun)) (same_feeds : map tx_link feeds ≡ map tx_link wires.feeds.items)
         (marks : List (Rx Mark)) (same_marks : map rx_link marks ≡ map rx_link wires.marks.items)
         (tied : (j : ℕ) → j < length parents → Tied parents (map heard_by parts) (map given_by parts) (map sent_on feeds) (map got_on marks) j)
         {gave_old gave_new : List (List Run) → Type 0} {took_old took_new : (ℕ → List Mark) → Type 0} {at_end : Bool} {result : RunEnd}
@@ -204,17 +204,17 @@ module _ {M S : Type 0} (m : MachineGhosts M S) where
       }
 
 -- the parts are wired as the links were made
-pub wired_parts : {M : Type 0} (rooms : Rooms) (parents : List (Option ℕ)) (wires : Wires) (parted now : List (Parts M)) (feeds_ran feeds : List (Tx Stretch)) (marks_ran marks : List (Rx Mark)) → AreWired rooms parents wires → map parts_links parted ≡ all_links wires → now ≡ parted
+pub wired_parts : {M : Type 0} (rooms : Rooms) (parents : List (Option ℕ)) (wires : Wires) (parted now : List (Parts M)) (feeds_ran feeds : List (Tx HalfRun)) (marks_ran marks : List (Rx Mark)) → AreWired rooms parents wires → map parts_links parted ≡ all_links wires → now ≡ parted
     → feeds ≡ feeds_ran → map tx_link feeds_ran ≡ map tx_link wires.feeds.items → marks ≡ marks_ran → map rx_link marks_ran ≡ map rx_link wires.marks.items → Wired parents (map parts_links now) (map tx_link feeds) (map rx_link marks)
 wired_parts rooms parents wires parted now feeds_ran feeds marks_ran marks wired all is_now is_feeds same_feeds is_marks same_marks = wired_same (ap (map parts_links) is_now ∙ all) (ap (map tx_link) is_feeds ∙ same_feeds) (ap (map rx_link) is_marks ∙ same_marks) wired.wired
 
 -- a driver did the same on the same ends
-pub drove_same : {gave_old gave_new : List (List Run) → Type 0} {took_old took_new : (ℕ → List Mark) → Type 0} {at_end : Bool} {result : RunEnd} {s0 s1 : List (List Stretch)} {m0 m1 : List (List Mark)}
+pub drove_same : {gave_old gave_new : List (List Run) → Type 0} {took_old took_new : (ℕ → List Mark) → Type 0} {at_end : Bool} {result : RunEnd} {s0 s1 : List (List HalfRun)} {m0 m1 : List (List Mark)}
     → s1 ≡ s0 → m1 ≡ m0 → Drove gave_old gave_new took_old took_new at_end result s0 m0 → Drove gave_old gave_new took_old took_new at_end result s1 m1
 drove_same {gave_old} {gave_new} {took_old} {took_new} {at_end} {result} a b d = transport (λ i. Drove gave_old gave_new took_old took_new at_end result (sym a i) (sym b i)) d
 
 -- the same of ends that were tied since
-pub drove_tied : {gave_old gave_new : List (List Run) → Type 0} {took_old took_new : (ℕ → List Mark) → Type 0} {at_end : Bool} {result : RunEnd} (feeds_old feeds_new : List (Tx Stretch)) (marks_old marks_new : List (Rx Mark))
+pub drove_tied : {gave_old gave_new : List (List Run) → Type 0} {took_old took_new : (ℕ → List Mark) → Type 0} {at_end : Bool} {result : RunEnd} (feeds_old feeds_new : List (Tx HalfRun)) (marks_old marks_new : List (Rx Mark))
     → SameEnds feeds_old feeds_new marks_old marks_new → Drove gave_old gave_new took_old took_new at_end result (map sent feeds_old) (map received marks_old)
     → Drove gave_old gave_new took_old took_new at_end result (map sent feeds_new) (map received marks_new)
 drove_tied feeds_old feeds_new marks_old marks_new same d = drove_same (same_sents feeds_old feeds_new same.feeds.0) same.marks.0 d

@@ -42,7 +42,7 @@ use Rattle.stage_run.proofs.Telling.{feeds_in-append, feeds_in_few}
 use Rattle.stage_run.specs.Stages.{PartsMean, all_sent, blank, no_sending}
 use Rattle.stage_run.specs.declared.input.Input.{Input}
 use Rattle.stage_run.specs.declared.input.Input.TheVariants.{Samples, Packets}
-use Rattle.stage_run.specs.declared.input.Stretch.{Stretch}
+use Rattle.stage_run.specs.declared.input.HalfRun.{HalfRun}
 use Rattle.stage_run.specs.declared.stage.Parts.{Parts}
 use Rattle.stage_crew.specs.Driving.{Drove, EndsWith}
 use Rattle.tree_io.specs.Feeds.{real}
@@ -109,7 +109,7 @@ module _ {M S : Type 0} (m : MachineGhosts M S)
     (machines : List M) (parents : List (Option ℕ)) (forest : IsForest parents) (each : length machines ≡ length parents)
     (parts : List (Parts M)) (as_many : length parts ≡ length parents) (made_of : (j : ℕ) (p : Parts M) → slice_get parts j ≡ Some p → (machine : M) × (slice_get machines j ≡ Some machine) × MadeOf m machine p)
     (served : (j : ℕ) (p : Parts M) → slice_get parts j ≡ Some p → length p.children.items ≡ on_place (Some j) parents)
-    (feeds : List (Tx Stretch)) (marks : List (Rx Mark)) (gathers : length marks ≡ length parents)
+    (feeds : List (Tx HalfRun)) (marks : List (Rx Mark)) (gathers : length marks ≡ length parents)
     (tied : (j : ℕ) → j < length parents → Tied parents (map heard_by parts) (map given_by parts) (map sent_on feeds) (map got_on marks) j)
     (root_at : (j : ℕ) → slice_get parents j ≡ Some None → place_of parents j None < length feeds)
     (child_at : (j p : ℕ) → slice_get parents j ≡ Some (Some p) → (above : Parts M) → slice_get parts p ≡ Some above → place_of parents j (Some p) < length above.children.items)
@@ -187,7 +187,7 @@ module _ {M S : Type 0} (m : MachineGhosts M S)
   each_by j (inr past) = length-replicate (length (children_of parents j)) no_sending
 
   -- a root's link
-  root_sent : (j : ℕ) → slice_get parents j ≡ Some None → (tx : Tx Stretch) × (slice_get feeds (place_of parents j None) ≡ Some tx) × (get_or (map sent feeds) (place_of parents j None) [] ≡ sent tx)
+  root_sent : (j : ℕ) → slice_get parents j ≡ Some None → (tx : Tx HalfRun) × (slice_get feeds (place_of parents j None) ≡ Some tx) × (get_or (map sent feeds) (place_of parents j None) [] ≡ sent tx)
   root_sent j at =
       let tx = find feeds (place_of parents j None) (root_at j at) in
       (tx.0, tx.1, get_or_from_slice_get (map sent feeds) (place_of parents j None) (sent tx.0) [] (map_at sent feeds (place_of parents j None) tx.0 tx.1))
@@ -199,7 +199,7 @@ module _ {M S : Type 0} (m : MachineGhosts M S)
       (ap (feeds_in 0) r.2 ∙ fed, ([], sym (append-nil (feeds_in 0 (get_or (map sent feeds) (place_of parents j None) [])))))
 
   -- the input of an instance is tied
-  samples_known : (input : Input) (tx : Tx Stretch) → KnowsSamples (heard_on input) (sent_on tx) → (rest : List Feed) × (came input ++ rest ≡ feeds_in 0 (sent tx)) × (length rest ≤ slots tx)
+  samples_known : (input : Input) (tx : Tx HalfRun) → KnowsSamples (heard_on input) (sent_on tx) → (rest : List Feed) × (came input ++ rest ≡ feeds_in 0 (sent tx)) × (length rest ≤ slots tx)
   samples_known (Samples rx) tx knows = (
     feeds_in (told_behind 0 (received rx)) (known rx),
     sym (feeds_in-append 0 (received rx) (known rx)) ∙ ap (feeds_in 0) knows.all,

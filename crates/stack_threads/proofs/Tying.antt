@@ -14,7 +14,7 @@ use Rattle.stage_run.specs.Inputs.{came, feeds_in, input_link, reads_samples}
 use Rattle.stage_run.specs.Stages.{Links, parts_links}
 use Rattle.stage_run.specs.declared.input.Input.{Input}
 use Rattle.stage_run.specs.declared.input.Input.TheVariants.{Samples, Packets}
-use Rattle.stage_run.specs.declared.input.Stretch.{Stretch}
+use Rattle.stage_run.specs.declared.input.HalfRun.{HalfRun}
 use Rattle.stage_run.specs.declared.stage.Parts.{Parts}
 use Rattle.stack_threads.specs.Ties.{Alike, AllKnown, Given, Got, Heard, SameBut, Sent, Tied, given_by, got_on, sent_on}
 use Rattle.stack_threads.specs.Trees.{Reads, Wired, on_place}
@@ -116,7 +116,7 @@ module _ {M : Type 0} where
   }
 
   -- another end for the input, of the same link and with the same received
-  pub samples_alike : (p : Parts M) (old new : Rx Stretch) → p.input ≡ Samples old → received new ≡ received old → rx_link new ≡ rx_link old → Alike p (record { machine = p.machine; input = Samples new; children = p.children; marks = p.marks })
+  pub samples_alike : (p : Parts M) (old new : Rx HalfRun) → p.input ≡ Samples old → received new ≡ received old → rx_link new ≡ rx_link old → Alike p (record { machine = p.machine; input = Samples new; children = p.children; marks = p.marks })
   samples_alike p old new is same link = record {
     machine = refl;
     links =
@@ -211,7 +211,7 @@ pub reads_same : (parents : List (Option ℕ)) (s0 s1 : List Links) (f : List Li
 reads_same parents s0 s1 f j a r = subst (λ (s : List Links). Reads parents s f j) (sym a) r
 
 -- one more instance is tied, and those before it still are
-pub tied_next : {parents : List (Option ℕ)} {h0 h1 : List Heard} {g0 g1 : List Given} {f0 f1 : List (Sent Stretch)} {m0 m1 : List (Got Mark)} (i : ℕ)
+pub tied_next : {parents : List (Option ℕ)} {h0 h1 : List Heard} {g0 g1 : List Given} {f0 f1 : List (Sent HalfRun)} {m0 m1 : List (Got Mark)} (i : ℕ)
     → SameBut i h0 h1 → g1 ≡ g0 → f1 ≡ f0 → SameBut i m0 m1
     → ((j : ℕ) → j < i → Tied parents h0 g0 f0 m0 j) → Tied parents h1 g1 f1 m1 i → (j : ℕ) → j < i + 1 → Tied parents h1 g1 f1 m1 j
 tied_next {parents} {h0} {h1} {g0} {g1} {f0} {f1} {m0} {m1} i hears gives feeds gathers had new j low = by (cases_eq j i)
@@ -219,7 +219,7 @@ tied_next {parents} {h0} {h1} {g0} {g1} {f0} {f1} {m0} {m1} i hears gives feeds 
     still : j ≢ i → Tied parents h0 g0 f0 m0 j → Tied parents h1 g1 f1 m1 j
     still other t = record {
       marks = λ g m at_g at_m. t.marks g m (ap (λ (l : List Given). slice_get l j) (sym gives) ∙ at_g) (sym (gathers j other) ∙ at_m);
-      root = λ at h s at_h at_s. t.root at h s (sym (hears j other) ∙ at_h) (ap (λ (l : List (Sent Stretch)). slice_get l (on_place None (take j parents))) (sym feeds) ∙ at_s);
+      root = λ at h s at_h at_s. t.root at h s (sym (hears j other) ∙ at_h) (ap (λ (l : List (Sent HalfRun)). slice_get l (on_place None (take j parents))) (sym feeds) ∙ at_s);
       child = λ p at h above s at_h at_above at_s. t.child p at h above s (sym (hears j other) ∙ at_h) (ap (λ (l : List Given). slice_get l p) (sym gives) ∙ at_above) at_s;
     }
 

@@ -10,7 +10,7 @@ use Rattle.stage_run.specs.Inputs.{came}
 use Rattle.stage_run.specs.Stages.{parts_links}
 use Rattle.stage_run.specs.declared.input.Input.{Input}
 use Rattle.stage_run.specs.declared.input.Input.TheVariants.{Samples, Packets}
-use Rattle.stage_run.specs.declared.input.Stretch.{Stretch}
+use Rattle.stage_run.specs.declared.input.HalfRun.{HalfRun}
 use Rattle.stage_run.specs.declared.stage.Parts.{Parts}
 use Rattle.stack_threads.specs.Trees.{place_of}
 
@@ -32,7 +32,7 @@ got_on rx = record { items = received rx; known = known rx }
 
 -- the same of the end that a stage receives from
 pub data Heard : Type 0 where
-  HeardSamples : Got Stretch → Heard
+  HeardSamples : Got HalfRun → Heard
   HeardPackets : Got Feed → Heard
 
 abbrev pub heard_on : Input → Heard
@@ -56,7 +56,7 @@ pub record AllKnown {T : Type 0} (got : Got T) (sent : Sent T) : Type 0 where
   pub all : got.items ++ got.known ≡ sent.items
   pub few : length got.known ≤ sent.slots
 
-abbrev pub KnowsSamples : Heard → Sent Stretch → Type 0
+abbrev pub KnowsSamples : Heard → Sent HalfRun → Type 0
 KnowsSamples (HeardSamples got) sent = AllKnown got sent
 KnowsSamples (HeardPackets got) sent = ⊥
 
@@ -67,10 +67,10 @@ KnowsPackets (HeardPackets got) sent = AllKnown got sent
 -- so it is of the two links of an instance: its marks, and its input, which comes from the driver
 -- or from the stage that it stands on
 pub record Tied (parents : List (Option ℕ)) (heard : List Heard) (given : List Given)
-    (feeds : List (Sent Stretch)) (gathered : List (Got Mark)) (j : ℕ) : Type 0 where
+    (feeds : List (Sent HalfRun)) (gathered : List (Got Mark)) (j : ℕ) : Type 0 where
   pub marks : (g : Given) (m : Got Mark) → slice_get given j ≡ Some g
       → slice_get gathered j ≡ Some m → AllKnown m g.marks
-  pub root : slice_get parents j ≡ Some None → (h : Heard) (s : Sent Stretch)
+  pub root : slice_get parents j ≡ Some None → (h : Heard) (s : Sent HalfRun)
       → slice_get heard j ≡ Some h → slice_get feeds (place_of parents j None) ≡ Some s
       → KnowsSamples h s
   pub child : (p : ℕ) → slice_get parents j ≡ Some (Some p) → (h : Heard) (above : Given)
@@ -85,7 +85,7 @@ pub record Alike {M : Type 0} (old new : Parts M) : Type 0 where
   pub given : given_by new ≡ given_by old
 
 -- the same of the driver's ends
-pub record SameEnds (feeds_old feeds_new : List (Tx Stretch)) (marks_old marks_new : List (Rx Mark))
+pub record SameEnds (feeds_old feeds_new : List (Tx HalfRun)) (marks_old marks_new : List (Rx Mark))
     : Type 0 where
   pub feeds : (map sent_on feeds_new ≡ map sent_on feeds_old)
       × (map tx_link feeds_new ≡ map tx_link feeds_old)

@@ -7,7 +7,7 @@ use Rattle.stage_ring.specs.declared.ends.Tx.{Tx}
 use Rattle.stage_run.specs.Inputs.{input_link, reads_samples, taken}
 use Rattle.stage_run.specs.Stages.{Links}
 use Rattle.stage_run.specs.declared.input.Input.{Input}
-use Rattle.stage_run.specs.declared.input.Stretch.{Stretch}
+use Rattle.stage_run.specs.declared.input.HalfRun.{HalfRun}
 use Rattle.stack_threads.specs.Trees.{Serves, Wired, is_root, on_place}
 use Rattle.stack_threads.specs.declared.rooms.Rooms.{Rooms}
 use Rattle.stack_threads.specs.declared.wiring.StageEnds.{StageEnds}
@@ -52,7 +52,7 @@ feeds_with (Some parent) link feeds = feeds
 
 -- a new input was linked to what feeds those that stand on a place
 pub record Joins (rooms : Rooms) (parent : Option ℕ) (input : Input) (ends_old ends_new : List StageEnds)
-    (feeds_old feeds_new : List (Tx Stretch)) : Type 0 where
+    (feeds_old feeds_new : List (Tx HalfRun)) : Type 0 where
   pub samples : reads_samples input ≡ is_root parent
   pub none : taken input ≡ 0
   pub stages : map ends_links ends_new
@@ -62,8 +62,8 @@ pub record Joins (rooms : Rooms) (parent : Option ℕ) (input : Input) (ends_old
   pub still_feeds : All (λ feed. sent feed ≡ []) feeds_old
       → All (λ feed. sent feed ≡ []) feeds_new
   pub wide_ends : All (AreWide rooms) ends_old → All (AreWide rooms) ends_new
-  pub wide_feeds : All (λ feed. slots feed ≡ rooms.stretches) feeds_old
-      → All (λ feed. slots feed ≡ rooms.stretches) feeds_new
+  pub wide_feeds : All (λ feed. slots feed ≡ rooms.half_runs) feeds_old
+      → All (λ feed. slots feed ≡ rooms.half_runs) feeds_new
 
 -- nothing was received or sent on any link
 pub record AllNew (wires : Wires) : Type 0 where
@@ -74,7 +74,7 @@ pub record AllNew (wires : Wires) : Type 0 where
 -- every link has its room
 pub record AllWide (rooms : Rooms) (wires : Wires) : Type 0 where
   pub ends : All (AreWide rooms) wires.ends.items
-  pub feeds : All (λ feed. slots feed ≡ rooms.stretches) wires.feeds.items
+  pub feeds : All (λ feed. slots feed ≡ rooms.half_runs) wires.feeds.items
 
 -- the links of one more instance, which stands on a place
 pub record Grows (rooms : Rooms) (parent : Option ℕ) (old new : Wires) : Type 0 where

@@ -4,9 +4,9 @@ ghost use Rattle.std.specs.Prelude.{◌≤◌};
 /// For how many items the links of a tree have room: those on which runs are sent, and all others.
 #[derive(Clone, Copy)]
 pub(crate) struct Rooms {
-    pub(crate) stretches: u32,
+    pub(crate) half_runs: u32,
     pub(crate) others: u32,
-    ghost stretches_fit: { (1 ≤ stretches) × (stretches ≤ 16384) },
+    ghost half_runs_fit: { (1 ≤ half_runs) × (half_runs ≤ 16384) },
     ghost others_fit: { (1 ≤ others) × (others ≤ 16384) },
 }
 
@@ -19,13 +19,13 @@ fn room_of(slots: u32, each: u32) -> u32
     (1 + (slots - 1) * each).min(16384)
 }
 
-/// The rooms of links of so many slots. A stretch takes a third of the memory that a packet or a mark
+/// The rooms of links of so many slots. A half run takes a third of the memory that a packet or a mark
 /// takes, and there are more of them.
 pub(crate) fn rooms_of(slots: u32) -> Rooms
     requires { (1 ≤ slots) × (slots ≤ 16384) }
 {
     Rooms {
-        stretches: room_of(slots, 24),
+        half_runs: room_of(slots, 24),
         others: room_of(slots, 8),
     }
 }

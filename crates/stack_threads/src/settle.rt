@@ -8,7 +8,7 @@ ghost use Rattle.tree_runs.specs.Passing.{IsForest, same_place};
 ghost use Rattle.stage_ring.specs.Link.{received, rx_link, tx_link};
 ghost use Rattle.stage_run.specs.Inputs.{input_link, reads_samples};
 ghost use Rattle.stage_run.specs.Stages.{Links, parts_links};
-ghost use Rattle.stage_run.specs.declared.input.Stretch.{Stretch as StretchIs};
+ghost use Rattle.stage_run.specs.declared.input.HalfRun.{HalfRun as HalfRunIs};
 ghost use Rattle.stack_threads.specs.Ties.{Alike, AllKnown, Given, Got, Heard, KnowsPackets};
 ghost use Rattle.stack_threads.specs.Ties.{KnowsSamples, SameBut, SameEnds, Sent, Tied, given_by};
 ghost use Rattle.stack_threads.specs.Ties.{got_on, heard_by, sent_on};
@@ -16,7 +16,7 @@ ghost use Rattle.stack_threads.specs.Trees.{Reads, Wired, place_of};
 
 use la_base::{Feed, Mark};
 use stage_ring::{Rx, Tx, settle};
-use stage_run::{Input, Parts, Stretch};
+use stage_run::{Input, Parts, HalfRun};
 
 // Ties the marks of one instance.
 fn settle_marks<M>(parts: &mut [Parts<M>], marks: &mut [Rx<Mark>], instance: usize)
@@ -37,7 +37,7 @@ fn settle_marks<M>(parts: &mut [Parts<M>], marks: &mut [Rx<Mark>], instance: usi
 }
 
 // Ties the input of a root.
-fn settle_root<M>(parts: &mut [Parts<M>], feeds: &mut [Tx<Stretch>], instance: usize, place: usize)
+fn settle_root<M>(parts: &mut [Parts<M>], feeds: &mut [Tx<HalfRun>], instance: usize, place: usize)
     requires within { (instance < length parts.old) × (place < length feeds.old) }
     requires link { (s : Links) → slice_get (map parts_links parts.old) instance ≡ Some s
         → (slice_get (map tx_link feeds.old) place ≡ Some s.input) × (s.samples ≡ true) }
@@ -46,7 +46,7 @@ fn settle_root<M>(parts: &mut [Parts<M>], feeds: &mut [Tx<Stretch>], instance: u
         × (map tx_link feeds.new ≡ map tx_link feeds.old) }
     ensures len { (length parts.new ≡ length parts.old) × (length feeds.new ≡ length feeds.old) }
     ensures others { SameBut instance (map heard_by parts.old) (map heard_by parts.new) }
-    ensures tied { (h : Heard) (s : Sent StretchIs)
+    ensures tied { (h : Heard) (s : Sent HalfRunIs)
         → slice_get (map heard_by parts.new) instance ≡ Some h
         → slice_get (map sent_on feeds.old) place ≡ Some s → KnowsSamples h s }
 {
@@ -122,7 +122,7 @@ fn settle_below<M>(parts: &mut [Parts<M>], parent: usize, place: usize, instance
 fn settle_input<M>(
     parts: &mut [Parts<M>],
     parents: &[Option<u32>],
-    feeds: &mut [Tx<Stretch>],
+    feeds: &mut [Tx<HalfRun>],
     parent: Option<u32>,
     instance: usize,
 )
@@ -137,7 +137,7 @@ fn settle_input<M>(
         × (map tx_link feeds.new ≡ map tx_link feeds.old) }
     ensures len { length parts.new ≡ length parts.old }
     ensures others { SameBut instance (map heard_by parts.old) (map heard_by parts.new) }
-    ensures root { slice_get parents.now instance ≡ Some None → (h : Heard) (s : Sent StretchIs)
+    ensures root { slice_get parents.now instance ≡ Some None → (h : Heard) (s : Sent HalfRunIs)
         → slice_get (map heard_by parts.new) instance ≡ Some h
         → slice_get (map sent_on feeds.old) (place_of parents.now instance None) ≡ Some s
         → KnowsSamples h s }
@@ -159,7 +159,7 @@ fn settle_input<M>(
 fn settle_one<M>(
     parts: &mut [Parts<M>],
     parents: &[Option<u32>],
-    feeds: &mut [Tx<Stretch>],
+    feeds: &mut [Tx<HalfRun>],
     marks: &mut [Rx<Mark>],
     parent: Option<u32>,
     instance: usize,
@@ -191,7 +191,7 @@ fn settle_one<M>(
 pub fn settle_tree<M>(
     parts: &mut [Parts<M>],
     parents: &[Option<u32>],
-    feeds: &mut [Tx<Stretch>],
+    feeds: &mut [Tx<HalfRun>],
     marks: &mut [Rx<Mark>],
 )
     requires counts { (length parts.old ≡ length parents.now)

@@ -6,7 +6,7 @@ ghost use Rattle.stack_threads.specs.Wires.{AreWired, Grows, Joins};
 use crate::rooms::Rooms;
 use la_base::{Feed, Mark, NoMemory};
 use stage_ring::{Rx, Tx, link};
-use stage_run::{Input, Stretch};
+use stage_run::{Input, HalfRun};
 use std::alloc::Global;
 
 /// The ends of links that the stage of an instance gets.
@@ -22,7 +22,7 @@ pub(crate) struct StageEnds {
 #[derive(Drop)]
 pub(crate) struct Wires {
     pub(crate) ends: Vec<StageEnds>,
-    pub(crate) feeds: Vec<Tx<Stretch>>,
+    pub(crate) feeds: Vec<Tx<HalfRun>>,
     pub(crate) marks: Vec<Rx<Mark>>,
 }
 
@@ -32,7 +32,7 @@ fn join(
     rooms: Rooms,
     parent: Option<u32>,
     ends: &mut Vec<StageEnds>,
-    feeds: &mut Vec<Tx<Stretch>>,
+    feeds: &mut Vec<Tx<HalfRun>>,
 ) -> Result<Input, NoMemory>
     requires within { IfSome parent (λ p. p < vec_len ends.old) }
     ensures { IfOk result (λ input. Joins rooms parent input ends.old.items ends.new.items
@@ -40,7 +40,7 @@ fn join(
 {
     match parent {
         None => {
-            let (sends, receives) = link(alloc, rooms.stretches)?;
+            let (sends, receives) = link(alloc, rooms.half_runs)?;
             feeds.push(sends)?;
             Ok(Input::Samples(receives))
         }

@@ -104,9 +104,9 @@ module _ {A O B Q : Type 0} (f : FeedGhosts A O) (g : TakeGhosts B Q) where
       (c : Collects g take0 take2 result gathered told) (heard : told ≡ [] → received reader.stop ≡ []) where
     -- it has read to the end of its feed, where it wasn't stopped before the ends
     pub read_all : c.done ≡ true → f.at_end reader.feed.now ≡ true
-    read_all done = by reader.told refl
+    read_all done = by reader.stop_heard refl
       where
-        by : (b : Bool) → b ≡ reader.told → f.at_end reader.feed.now ≡ true
+        by : (b : Bool) → b ≡ reader.stop_heard → f.at_end reader.feed.now ≡ true
         by true is = absurd (fed.heard (sym is) (heard (c.untold done)))
         by false is = fed.at_end (fed.in_place.said (sent_all reader.pump over).0) (sym is)
 

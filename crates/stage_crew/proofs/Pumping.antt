@@ -11,8 +11,8 @@ use Rattle.la_base.specs.declared.wires.Feed.TheVariants.{Run as RunFeed}
 use Rattle.tree_io.specs.Feeds.{GivesRuns, TellsMore, given_now, together}
 use Rattle.tree_io.specs.declared.feeds.RunFeed.{Ghosts as FeedGhosts}
 use Rattle.tree_io.proofs.Together.{together-append}
-use Rattle.stage_run.specs.Inputs.{feeds_in, stretch_of, telling, told_behind, upper_of}
-use Rattle.stage_run.specs.declared.input.Stretch.{Stretch}
+use Rattle.stage_run.specs.Inputs.{feeds_in, half_run_of, telling, told_behind, upper_of}
+use Rattle.stage_run.specs.declared.input.HalfRun.{HalfRun}
 use Rattle.stage_run.proofs.Telling.{feeds_in-append, plain_feeds, tell_feeds, tell_told, told-append}
 use Rattle.stage_crew.specs.Fans.{Fans}
 use Rattle.stage_crew.specs.Pumping.{InPlace, IsFree, Pumped, Pumps, PumpsOn, end_if, is_sent}
@@ -21,13 +21,13 @@ use Rattle.stage_crew.specs.declared.pump.Pump.{Pump}
 use Rattle.stage_crew.proofs.Common.{gone, not_true}
 use Rattle.stage_crew.proofs.Handing.{fans_append}
 
--- one more stretch at the front of room
-pub row_next : (runs : List Run) (i : ℕ) (d : Run) (room : List Stretch) (stretch : Stretch) → i < length runs → i < length room → stretch ≡ stretch_of (get_or runs i d)
-    → take i room ≡ map stretch_of (take i runs) → take (i + 1) (set room i stretch) ≡ map stretch_of (take (i + 1) runs)
-row_next runs i d room stretch within low is had =
-    let longer : i < length (set room i stretch) = omega (arith, low, length-set room i stretch) in
-    take_more (set room i stretch) i stretch longer ∙ (λ k. take-set room i stretch k ++ get_or-set_same room i stretch stretch low k ∷ [])
-    ∙ (λ k. had k ++ is k ∷ []) ∙ sym (map-append stretch_of (take i runs) (get_or runs i d ∷ [])) ∙ ap (map stretch_of) (sym (take_more runs i d within))
+-- one more half run at the front of room
+pub row_next : (runs : List Run) (i : ℕ) (d : Run) (room : List HalfRun) (half_run : HalfRun) → i < length runs → i < length room → half_run ≡ half_run_of (get_or runs i d)
+    → take i room ≡ map half_run_of (take i runs) → take (i + 1) (set room i half_run) ≡ map half_run_of (take (i + 1) runs)
+row_next runs i d room half_run within low is had =
+    let longer : i < length (set room i half_run) = omega (arith, low, length-set room i half_run) in
+    take_more (set room i half_run) i half_run longer ∙ (λ k. take-set room i half_run k ++ get_or-set_same room i half_run half_run low k ∷ [])
+    ∙ (λ k. had k ++ is k ∷ []) ∙ sym (map-append half_run_of (take i runs) (get_or runs i d ∷ [])) ∙ ap (map half_run_of) (sym (take_more runs i d within))
 
 -- one more run with this upper half of its lines
 pub uppers_next : (upper : ℕ) (runs : List Run) (i : ℕ) (d : Run) → i < length runs → upper_of (get_or runs i d) ≡ upper → All (λ run. upper_of run ≡ upper) (take i runs) → All (λ run. upper_of run ≡ upper) (take (i + 1) runs)
@@ -35,7 +35,7 @@ uppers_next upper runs i d within is had =
     All-same (λ run. upper_of run ≡ upper) (take (i + 1) runs) (take i runs ++ get_or runs i d ∷ []) (take_more runs i d within) (All-push (λ run. upper_of run ≡ upper) (take i runs) (get_or runs i d) had is)
 
 -- the end isn't told yet
-untold : (fed : List Stretch) (upper : ℕ) (said : Bool) → said ≡ false → fed ++ end_if (telling upper) said ≡ fed
+untold : (fed : List HalfRun) (upper : ℕ) (said : Bool) → said ≡ false → fed ++ end_if (telling upper) said ≡ fed
 untold fed upper said still = ap (λ (b : Bool). fed ++ end_if (telling upper) b) still ∙ append-nil fed
 
 nothing_more : (lists : List (List Run)) → map RunFeed (together lists) ≡ map RunFeed (together (lists ++ []))
@@ -58,7 +58,7 @@ at_end_is : (more ended : Bool) (held : List Run) → TellsMore more ended held 
 at_end_is true ended held tells is = absurd (not_true refl is)
 at_end_is false ended held tells is = tells.0
 
-module _ {A O : Type 0} (f : FeedGhosts A O) (feed : A) (p q : Pump) (sents : List (List Stretch)) where
+module _ {A O : Type 0} (f : FeedGhosts A O) (feed : A) (p q : Pump) (sents : List (List HalfRun)) where
   abbrev held : List Run
   held = f.held feed
 
@@ -66,8 +66,8 @@ module _ {A O : Type 0} (f : FeedGhosts A O) (feed : A) (p q : Pump) (sents : Li
   same_gave earlier had = subst (f.gave feed) (sym (append-nil earlier)) had
 
   -- what was in the row was handed out
-  pub pumps_hand : (sents_new : List (List Stretch)) → InPlace held p → q.at ≡ p.at → q.over ≡ p.over → q.said ≡ p.said → q.upper ≡ p.upper
-      → ((all : List Stretch) → Fans sents p.row p.cursor all → Fans sents_new q.row q.cursor all) → Pumps f feed feed p q sents sents_new
+  pub pumps_hand : (sents_new : List (List HalfRun)) → InPlace held p → q.at ≡ p.at → q.over ≡ p.over → q.said ≡ p.said → q.upper ≡ p.upper
+      → ((all : List HalfRun) → Fans sents p.row p.cursor all → Fans sents_new q.row q.cursor all) → Pumps f feed feed p q sents sents_new
   pumps_hand sents_new place at over said upper fans = record {
     more = [];
     gave = same_gave;
@@ -86,26 +86,26 @@ module _ {A O : Type 0} (f : FeedGhosts A O) (feed : A) (p q : Pump) (sents : Li
   }
 
   -- these were put into the row
-  added_fans : (fed new : List Stretch) → IsFree p → p.cursor.given ≤ length p.row → q.said ≡ p.said → q.cursor ≡ p.cursor → q.row ≡ p.row ++ new → Fans sents p.row p.cursor (fed ++ end_if (telling p.upper) p.said)
+  added_fans : (fed new : List HalfRun) → IsFree p → p.cursor.given ≤ length p.row → q.said ≡ p.said → q.cursor ≡ p.cursor → q.row ≡ p.row ++ new → Fans sents p.row p.cursor (fed ++ end_if (telling p.upper) p.said)
       → Fans sents q.row q.cursor ((fed ++ new) ++ end_if (telling q.upper) q.said)
   added_fans fed new free within said cursor row fans =
-      let all : List Stretch = (fed ++ new) ++ end_if (telling q.upper) q.said in
+      let all : List HalfRun = (fed ++ new) ++ end_if (telling q.upper) q.said in
       subst (λ (h : Cursor). Fans sents q.row h all) (sym cursor)
-      (subst (λ (l : List Stretch). Fans sents l p.cursor all) (sym row)
+      (subst (λ (l : List HalfRun). Fans sents l p.cursor all) (sym row)
       (fans_append fans new all within free.first
-      (untold (fed ++ new) q.upper q.said (said ∙ free.said) ∙ ap (λ (l : List Stretch). l ++ new) (sym (untold fed p.upper p.said free.said)))))
+      (untold (fed ++ new) q.upper q.said (said ∙ free.said) ∙ ap (λ (l : List HalfRun). l ++ new) (sym (untold fed p.upper p.said free.said)))))
 
   -- further runs were put into the row
   pub pumps_fill : (n : ℕ) → InPlace held p → IsFree p → p.cursor.given ≤ length p.row → n ≤ length (take (length held - p.at) (drop p.at held)) → q.at ≡ p.at + n → q.over ≡ p.over → q.said ≡ p.said → q.upper ≡ p.upper → q.cursor ≡ p.cursor
-      → q.row ≡ map stretch_of (take n (take (length held - p.at) (drop p.at held))) → All (λ run. upper_of run ≡ p.upper) (take n (take (length held - p.at) (drop p.at held))) → Pumps f feed feed p q sents sents
+      → q.row ≡ map half_run_of (take n (take (length held - p.at) (drop p.at held))) → All (λ run. upper_of run ≡ p.upper) (take n (take (length held - p.at) (drop p.at held))) → Pumps f feed feed p q sents sents
   pumps_fill n place free within few at over said upper cursor row uppers = record {
     more = [];
     gave = same_gave;
     pumped = λ lists had.
         let runs = take n (drop p.at held) in
-        let new = map stretch_of runs in
+        let new = map half_run_of runs in
         let plain = plain_feeds p.upper runs (subst (λ (l : List Run). All (λ run. upper_of run ≡ p.upper) (take n l)) whole uppers) in
-        let row_is : q.row ≡ p.row ++ new = row ∙ ap (λ (l : List Run). map stretch_of (take n l)) whole ∙ ap (λ (l : List Stretch). l ++ new) (sym free.none) in
+        let row_is : q.row ≡ p.row ++ new = row ∙ ap (λ (l : List Run). map half_run_of (take n l)) whole ∙ ap (λ (l : List HalfRun). l ++ new) (sym free.none) in
         let parts : map RunFeed (drop p.at held) ≡ map RunFeed runs ++ map RunFeed (drop q.at held) =
         ap (map RunFeed) (sym (take-append-drop n (drop p.at held))) ∙ map-append RunFeed runs (drop n (drop p.at held)) ∙ ap (λ (l : List Run). map RunFeed runs ++ map RunFeed l) (drop-drop n p.at held ∙ ap (λ (k : ℕ). drop k held) (omega (arith, at))) in
         let feeds_new : feeds_in 0 (had.fed ++ new) ≡ feeds_in 0 had.fed ++ map RunFeed runs =
@@ -152,7 +152,7 @@ module _ {A O : Type 0} (f : FeedGhosts A O) (feed : A) (p q : Pump) (sents : Li
     more = [];
     gave = same_gave;
     pumped = λ lists had.
-        let end : List Stretch = telling p.upper ∷ [] in
+        let end : List HalfRun = telling p.upper ∷ [] in
         record {
           fed = had.fed;
           left = ap (λ (n : ℕ). feeds_in 0 had.fed ++ map RunFeed (drop n held)) at ∙ had.left ∙ nothing_more lists;
@@ -161,8 +161,8 @@ module _ {A O : Type 0} (f : FeedGhosts A O) (feed : A) (p q : Pump) (sents : Li
           fans = subst (λ (h : Cursor). Fans sents q.row h (had.fed ++ end_if (telling q.upper) q.said)) (sym cursor)
               (subst (λ (u : ℕ). Fans sents q.row p.cursor (had.fed ++ end_if (telling u) q.said)) (sym upper)
               (subst (λ (b : Bool). Fans sents q.row p.cursor (had.fed ++ end_if (telling p.upper) b)) (sym said)
-              (subst (λ (l : List Stretch). Fans sents l p.cursor (had.fed ++ end)) (sym row)
-              (fans_append had.fans end (had.fed ++ end) within free.first (ap (λ (l : List Stretch). l ++ end) (sym (untold had.fed p.upper p.said free.said)))))));
+              (subst (λ (l : List HalfRun). Fans sents l p.cursor (had.fed ++ end)) (sym row)
+              (fans_append had.fans end (had.fed ++ end) within free.first (ap (λ (l : List HalfRun). l ++ end) (sym (untold had.fed p.upper p.said free.said)))))));
         };
     in_place = record { at = omega (arith, at, place.at); said = λ is. over ∙ is_over };
     origin = refl;
@@ -185,7 +185,7 @@ module _ {A O : Type 0} (f : FeedGhosts A O) (feed : A) (p q : Pump) (sents : Li
       told = had.told ∙ sym upper;
       all = λ is. absurd (not_true (said ∙ free.said) is);
       fans = subst (λ (h : Cursor). Fans sents q.row h (had.fed ++ end_if (telling q.upper) q.said)) (sym cursor)
-          (subst (λ (l : List Stretch). Fans sents l p.cursor (had.fed ++ end_if (telling q.upper) q.said)) (sym row)
+          (subst (λ (l : List HalfRun). Fans sents l p.cursor (had.fed ++ end_if (telling q.upper) q.said)) (sym row)
           (subst (λ (u : ℕ). Fans sents p.row p.cursor (had.fed ++ end_if (telling u) q.said)) (sym upper)
           (subst (λ (b : Bool). Fans sents p.row p.cursor (had.fed ++ end_if (telling p.upper) b)) (sym said) had.fans)));
     };
@@ -208,7 +208,7 @@ module _ {A O : Type 0} (f : FeedGhosts A O) (feed : A) (p q : Pump) (sents : Li
       told = had.told ∙ sym upper;
       all = λ is. absurd (not_true (said ∙ free.said) is);
       fans = subst (λ (h : Cursor). Fans sents q.row h (had.fed ++ end_if (telling q.upper) q.said)) (sym cursor)
-          (subst (λ (l : List Stretch). Fans sents l p.cursor (had.fed ++ end_if (telling q.upper) q.said)) (sym row)
+          (subst (λ (l : List HalfRun). Fans sents l p.cursor (had.fed ++ end_if (telling q.upper) q.said)) (sym row)
           (subst (λ (u : ℕ). Fans sents p.row p.cursor (had.fed ++ end_if (telling u) q.said)) (sym upper)
           (subst (λ (b : Bool). Fans sents p.row p.cursor (had.fed ++ end_if (telling p.upper) b)) (sym said) had.fans)));
     };
@@ -228,7 +228,7 @@ ended_then true o2 e1 e2 had keeps asks is = (keeps refl).1 ∙ had refl
 ended_then false o2 e1 e2 had keeps asks is = asks refl is
 
 -- one step behind others
-pumps_both : {A O : Type 0} (f : FeedGhosts A O) {a b c : A} {p q r : Pump} {s0 s1 s2 : List (List Stretch)} → Pumps f a b p q s0 s1 → Pumps f b c q r s1 s2 → Pumps f a c p r s0 s2
+pumps_both : {A O : Type 0} (f : FeedGhosts A O) {a b c : A} {p q r : Pump} {s0 s1 s2 : List (List HalfRun)} → Pumps f a b p q s0 s1 → Pumps f b c q r s1 s2 → Pumps f a c p r s0 s2
 pumps_both f {a} {b} {c} {p} {q} {r} {s2 = s2} x y = record {
   more = x.more ++ y.more;
   gave = λ earlier had. subst (f.gave c) (append_assoc earlier x.more y.more) (y.gave (earlier ++ x.more) (x.gave earlier had));
@@ -239,14 +239,14 @@ pumps_both f {a} {b} {c} {p} {q} {r} {s2 = s2} x y = record {
   at_end = λ still. ended_then q.over r.over (f.at_end b) (f.at_end c) (x.at_end still) (λ is. let n = y.over is in (n.0, ap f.at_end n.1)) y.at_end;
 }
 
-pub pumps_then : {A O : Type 0} (f : FeedGhosts A O) {a b c : A} {p q r : Pump} {s0 s1 s2 : List (List Stretch)} → PumpsOn f a b p q s0 s1 → PumpsOn f b c q r s1 s2 → PumpsOn f a c p r s0 s2
+pub pumps_then : {A O : Type 0} (f : FeedGhosts A O) {a b c : A} {p q r : Pump} {s0 s1 s2 : List (List HalfRun)} → PumpsOn f a b p q s0 s1 → PumpsOn f b c q r s1 s2 → PumpsOn f a c p r s0 s2
 pumps_then f x y place = let first = x place in pumps_both f first (y first.in_place)
 
 -- a pump that is over has told the end, and handed out all of its row
 pub sent_all : (pump : Pump) → is_sent pump ≡ true → (pump.said ≡ true) × (pump.row ≡ []) × (pump.cursor.child ≡ 0)
 sent_all pump is = by pump.said (nat_eq (length pump.row) 0) (nat_eq pump.cursor.child 0) refl refl refl is
   where
-    none : (l : List Stretch) → nat_eq (length l) 0 ≡ true → l ≡ []
+    none : (l : List HalfRun) → nat_eq (length l) 0 ≡ true → l ≡ []
     none [] e = refl
     none (x ∷ l) e = absurd (contra e)
       where

@@ -16,7 +16,7 @@ use Rattle.stage_ring.specs.declared.ends.Rx.{Rx}
 use Rattle.stage_ring.specs.declared.ends.Tx.{Tx}
 use Rattle.stage_ring.specs.Link.{received, sent}
 use Rattle.stage_run.specs.Inputs.{feeds_in}
-use Rattle.stage_run.specs.declared.input.Stretch.{Stretch}
+use Rattle.stage_run.specs.declared.input.HalfRun.{HalfRun}
 
 -- this is the last of a list
 abbrev pub EndsWith : {X : Type 0} → X → List X → Type 0
@@ -27,10 +27,10 @@ EndsWith {X} last xs = (front : List X) × (xs ≡ front ++ last ∷ [])
 -- it was stopped; the ends were taken of the first instances, behind all other marks
 pub record Drove (gave_old gave_new : List (List Run) → Type 0)
     (took_old took_new : (ℕ → List Mark) → Type 0) (at_end : Bool) (result : RunEnd)
-    (sents : List (List Stretch)) (gathered : List (List Mark)) : Type 0 where
+    (sents : List (List HalfRun)) (gathered : List (List Mark)) : Type 0 where
   pub lists : List (List Run)
   pub gave : (earlier : List (List Run)) → gave_old earlier → gave_new (earlier ++ lists)
-  pub fed : (k : ℕ) (s : List Stretch) → slice_get sents k ≡ Some s
+  pub fed : (k : ℕ) (s : List HalfRun) → slice_get sents k ≡ Some s
       → feeds_in 0 s ≡ map RunFeed (together lists) ++ EndFeed ∷ []
   pub came : (i : ℕ) (marks : List Mark) → slice_get gathered i ≡ Some marks
       → EndsWith EndMark marks
@@ -47,6 +47,6 @@ pub record Drove (gave_old gave_new : List (List Run) → Type 0)
       × ((i : ℕ) (marks : List Mark) → slice_get gathered i ≡ Some marks → nat_lt i ends ≡ true)
 
 -- nothing was sent or received yet
-pub record Fresh (feeds : List (Tx Stretch)) (marks : List (Rx Mark)) : Type 0 where
-  pub feeds_fresh : (k : ℕ) (s : List Stretch) → slice_get (map sent feeds) k ≡ Some s → s ≡ []
+pub record Fresh (feeds : List (Tx HalfRun)) (marks : List (Rx Mark)) : Type 0 where
+  pub feeds_fresh : (k : ℕ) (s : List HalfRun) → slice_get (map sent feeds) k ≡ Some s → s ≡ []
   pub marks_fresh : (k : ℕ) (m : List Mark) → slice_get (map received marks) k ≡ Some m → m ≡ []

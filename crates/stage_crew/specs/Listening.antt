@@ -44,9 +44,9 @@ module _ {A : Type 0} where
   -- the feed is called only where the reader has looked for a stop and found none; once it has heard
   -- of one, never again
   pub record Listens (old new : Reader A) : Type 0 where
-    pub stays : old.told ≡ true → new.told ≡ true
-    pub hears : new.told ≡ false → received new.stop ≡ received old.stop
-    pub obeys : old.told ≡ true → new.feed.now ≡ old.feed.now
+    pub stays : old.stop_heard ≡ true → new.stop_heard ≡ true
+    pub hears : new.stop_heard ≡ false → received new.stop ≡ received old.stop
+    pub obeys : old.stop_heard ≡ true → new.feed.now ≡ old.feed.now
     pub looks : (new.feed.now ≡ old.feed.now) ⊎ More (rx_misses old.stop) (rx_misses new.stop)
     pub misses : Later (rx_misses old.stop) (rx_misses new.stop)
 
@@ -72,7 +72,7 @@ module _ {A : Type 0} where
       → Listens one three
   listens_further one two three a b = record {
     stays = λ is. b.stays (a.stays is);
-    hears = λ is. b.hears is ∙ a.hears (unheard two.told three.told b.stays is);
+    hears = λ is. b.hears is ∙ a.hears (unheard two.stop_heard three.stop_heard b.stays is);
     obeys = λ is. b.obeys (a.stays is) ∙ a.obeys is;
     looks = looks_both a.looks b.looks a.misses b.misses;
     misses = later_both a.misses b.misses;

@@ -6,7 +6,7 @@ use Rattle.la_base.specs.declared.wires.Feed.TheVariants.{Run as RunFeed}
 use Rattle.tree_io.specs.Feeds.{together}
 use Rattle.tree_io.specs.declared.feeds.RunFeed.{Ghosts as FeedGhosts}
 use Rattle.stage_run.specs.Inputs.{feeds_in, told_behind, telling}
-use Rattle.stage_run.specs.declared.input.Stretch.{Stretch}
+use Rattle.stage_run.specs.declared.input.HalfRun.{HalfRun}
 use Rattle.stage_crew.specs.Fans.{Fans}
 use Rattle.stage_crew.specs.declared.pump.Pump.{Pump}
 
@@ -18,8 +18,8 @@ end_if last false = []
 -- what is behind a place of the runs that the feed gave last is still to be put into the row; of
 -- the row some is handed out
 pub record Pumped (lists : List (List Run)) (held : List Run) (pump : Pump)
-    (sents : List (List Stretch)) : Type 0 where
-  pub fed : List Stretch
+    (sents : List (List HalfRun)) : Type 0 where
+  pub fed : List HalfRun
   pub left : feeds_in 0 fed ++ map RunFeed (drop pump.at held) ≡ map RunFeed (together lists)
   pub told : told_behind 0 fed ≡ pump.upper
   pub all : pump.said ≡ true → drop pump.at held ≡ []
@@ -44,7 +44,7 @@ module _ {A O : Type 0} (f : FeedGhosts A O) where
   -- more runs were asked of the feed, put into the row or handed out; once no more are asked for,
   -- the feed isn't called
   pub record Pumps (old new : A) (pump_old pump_new : Pump)
-      (sents_old sents_new : List (List Stretch)) : Type 0 where
+      (sents_old sents_new : List (List HalfRun)) : Type 0 where
     pub more : List (List Run)
     pub gave : (earlier : List (List Run)) → f.gave old earlier → f.gave new (earlier ++ more)
     pub pumped : (lists : List (List Run)) → Pumped lists (f.held old) pump_old sents_old
@@ -55,6 +55,6 @@ module _ {A O : Type 0} (f : FeedGhosts A O) where
     pub at_end : pump_old.over ≡ false → pump_new.over ≡ true → f.at_end new ≡ true
 
   -- the same of a pump that is in place
-  abbrev pub PumpsOn : A → A → Pump → Pump → List (List Stretch) → List (List Stretch) → Type 0
+  abbrev pub PumpsOn : A → A → Pump → Pump → List (List HalfRun) → List (List HalfRun) → Type 0
   PumpsOn old new pump_old pump_new sents_old sents_new =
       InPlace (f.held old) pump_old → Pumps old new pump_old pump_new sents_old sents_new

@@ -18,14 +18,14 @@ module _ {A O : Type 0} (f : FeedGhosts A O) where
     pub origin : f.origin reader.feed.now ≡ f.origin start
     pub pumped : Pumped lists (f.held reader.feed.now) reader.pump (map sent reader.feeds.items)
     pub in_place : InPlace (f.held reader.feed.now) reader.pump
-    pub at_end : reader.pump.over ≡ true → reader.told ≡ false → f.at_end reader.feed.now ≡ true
-    pub heard : reader.told ≡ true → received reader.stop ≡ [] → ⊥
-    pub obeys : reader.told ≡ true → reader.pump.over ≡ true
+    pub at_end : reader.pump.over ≡ true → reader.stop_heard ≡ false → f.at_end reader.feed.now ≡ true
+    pub heard : reader.stop_heard ≡ true → received reader.stop ≡ [] → ⊥
+    pub obeys : reader.stop_heard ≡ true → reader.pump.over ≡ true
 
   -- its pump is in place, and over where it has heard of a stop
   pub record Obeys (reader : Reader A) : Type 0 where
     pub in_place : InPlace (f.held reader.feed.now) reader.pump
-    pub over : reader.told ≡ true → reader.pump.over ≡ true
+    pub over : reader.stop_heard ≡ true → reader.pump.over ≡ true
 
   -- it has the ends of the same links and was lent the same feed; what it has read and sent goes on; and
   -- it listens for a stop
@@ -42,7 +42,7 @@ module _ {A O : Type 0} (f : FeedGhosts A O) where
     pub lent : new.feed.ghost_name ≡ old.feed.ghost_name
     pub feeds : map tx_link new.feeds.items ≡ map tx_link old.feeds.items
     pub stop : new.stop ≡ old.stop
-    pub told : new.told ≡ old.told
+    pub told : new.stop_heard ≡ old.stop_heard
     pub keeps : (start : A) → Fed start old → Fed start new
     pub obeys : Obeys old → Obeys new × (old.pump.over ≡ true → new.feed.now ≡ old.feed.now)
 

@@ -4,7 +4,7 @@ ghost use Rattle.std.specs.Prelude.{◌≡◌, ⊤};
 use crate::status::CrewStatus;
 use la_base::Mark;
 use stage_ring::{Rx, Tx};
-use stage_run::Stretch;
+use stage_run::HalfRun;
 use std::alloc::{AllocError, Global};
 
 /// What a crew is run with: its threads, its memory, and how much each stage does in a turn.
@@ -38,7 +38,7 @@ impl<R, P> Copy for Crew<'_, R, P> {}
 /// instances, in their order.
 #[derive(Drop)]
 pub struct CrewEnds {
-    pub feeds: Vec<Tx<Stretch>>,
+    pub feeds: Vec<Tx<HalfRun>>,
     pub marks: Vec<Rx<Mark>>,
 }
 

@@ -63,12 +63,12 @@ fn turn_own<S: Turns, P: Pacer>(
 }
 
 // Tells the reader that no more is wanted, once it was stopped, and never again.
-fn tell_stop(stop: &mut Tx<bool>, stopped: bool, told: &mut bool, crew: &CrewStatus)
+fn tell_stop(stop: &mut Tx<bool>, stopped: bool, stop_sent: &mut bool, crew: &CrewStatus)
     ensures link { tx_link stop.new ≡ tx_link stop.old }
     ensures untold { stopped ≡ false → sent stop.new ≡ sent stop.old }
 {
-    if stopped && !*told {
-        *told = true;
+    if stopped && !*stop_sent {
+        *stop_sent = true;
         let _ = stop.offer(true);
         crew.notify(READER, DRIVER);
     }
@@ -146,7 +146,7 @@ pub(crate) fn drive<R: Wait, D: Turns, S: Turns, P: Pacer, G: MarkTake>(
     let refused = status.refused();
     let reader = [MOST_STAGES as u32; MOST_STAGES];
     let policy = IdlePolicy::new();
-    let mut told = false;
+    let mut stop_sent = false;
     let mut turn: u64 = 0;
     for _ in crew.runtime.forever() {
         let mut quiet = None;
@@ -163,7 +163,7 @@ pub(crate) fn drive<R: Wait, D: Turns, S: Turns, P: Pacer, G: MarkTake>(
             quiet = None;
         }
         let_read(take, &mut state, status, quiet);
-        tell_stop(&mut ends.stop, state.stopped, &mut told, status);
+        tell_stop(&mut ends.stop, state.stopped, &mut stop_sent, status);
         if state.all_over(ends.marks.len()) {
             return finish(ends.marks.len() as u32, take, state.stopped);
         }

@@ -1,14 +1,14 @@
 // How the runs of a feed are sent to the roots.
 ghost use Rattle.std.specs.Prelude.{◌≡◌, ◌≤◌, ◌||◌, [], List, length, map, true, false};
 ghost use Rattle.stage_ring.specs.Link.{sent, tx_link};
-ghost use Rattle.stage_run.specs.declared.input.Stretch.{Stretch as StretchIs};
+ghost use Rattle.stage_run.specs.declared.input.HalfRun.{HalfRun as HalfRunIs};
 
 use crate::fan::{Cursor, hand_out};
 use crate::row::SendRow;
 use crate::status::{CrewStatus, READER};
 use la_base::high_half;
 use stage_ring::Tx;
-use stage_run::{Peer, Peers, Stretch};
+use stage_run::{Peer, Peers, HalfRun};
 use std::cell::Cell;
 use tree_io::RunFeed;
 
@@ -93,11 +93,11 @@ impl Pump {
     }
 
     // Hands out of the row. Answers whether it could.
-    fn hand_on(&mut self, feeds: &mut Vec<Tx<Stretch>>) -> bool
+    fn hand_on(&mut self, feeds: &mut Vec<Tx<HalfRun>>) -> bool
         ensures same { (self.new.at ≡ self.old.at) × (self.new.over ≡ self.old.over)
             × (self.new.said ≡ self.old.said) × (self.new.upper ≡ self.old.upper) }
         ensures links { map tx_link feeds.new.items ≡ map tx_link feeds.old.items }
-        ensures fans { (all : List StretchIs)
+        ensures fans { (all : List HalfRunIs)
             → Fans (map sent feeds.old.items) self.old.row self.old.cursor all
             → Fans (map sent feeds.new.items) self.new.row self.new.cursor all }
     {
@@ -122,7 +122,7 @@ impl Pump {
         requires free { IsFree self.old }
         requires all { length (F.held feed.old) ≤ self.old.at }
         requires going { self.old.over ≡ false }
-        ensures pumps { (sents : List (List StretchIs))
+        ensures pumps { (sents : List (List HalfRunIs))
             → PumpsOn F.RunFeed feed.old feed.new self.old self.new sents sents }
         ensures free { IsFree self.new }
         ensures all { result ≡ false → length (F.held feed.new) ≤ self.new.at }
@@ -156,7 +156,7 @@ impl Pump {
         requires free { IsFree self.old }
         requires all { length (F.held feed.old) ≤ self.old.at }
         requires going { self.old.over ≡ false }
-        ensures { (sents : List (List StretchIs))
+        ensures { (sents : List (List HalfRunIs))
             → PumpsOn F.RunFeed feed.old feed.new self.old self.new sents sents }
     {
         let more = feed.next_runs();
@@ -168,7 +168,7 @@ impl Pump {
     // asks the feed for more, where it may. Answers whether it did.
     fn refill<F: RunFeed>(&mut self, feed: &mut F, crew: &CrewStatus) -> bool
         requires free { IsFree self.old }
-        ensures { (sents : List (List StretchIs))
+        ensures { (sents : List (List HalfRunIs))
             → PumpsOn F.RunFeed feed.old feed.new self.old self.new sents sents }
     {
         let runs = feed.runs();
@@ -176,7 +176,7 @@ impl Pump {
             let upper = high_half(runs[self.at].value);
             if upper != self.upper {
                 self.upper = upper;
-                self.row.push(Stretch::telling(upper));
+                self.row.push(HalfRun::telling(upper));
                 return true;
             }
             let most = crew.room.max(1);
@@ -186,7 +186,7 @@ impl Pump {
         }
         if self.over {
             self.said = true;
-            self.row.push(Stretch::telling(self.upper));
+            self.row.push(HalfRun::telling(self.upper));
             return true;
         }
         if self.look(feed) {
@@ -205,7 +205,7 @@ impl Pump {
     fn step<F: RunFeed>(
         &mut self,
         feed: &mut F,
-        feeds: &mut Vec<Tx<Stretch>>,
+        feeds: &mut Vec<Tx<HalfRun>>,
         crew: &CrewStatus,
     ) -> bool
         ensures links { map tx_link feeds.new.items ≡ map tx_link feeds.old.items }
@@ -227,7 +227,7 @@ impl Pump {
     pub(crate) fn go_on<F: RunFeed>(
         &mut self,
         feed: &mut F,
-        feeds: &mut Vec<Tx<Stretch>>,
+        feeds: &mut Vec<Tx<HalfRun>>,
         crew: &CrewStatus,
         steps: u32,
     ) -> bool

@@ -1,13 +1,13 @@
 // The reader: it reads the feed and sends its runs to the roots.
 ghost use Rattle.std.specs.Prelude.{◌≡◌, [], List, ℕ, Some, false, map, slice_get};
 ghost use Rattle.stage_ring.specs.Link.{sent};
-ghost use Rattle.stage_run.specs.declared.input.Stretch.{Stretch as StretchIs};
+ghost use Rattle.stage_run.specs.declared.input.HalfRun.{HalfRun as HalfRunIs};
 
 use crate::Turns;
 use crate::pump::Pump;
 use crate::status::CrewStatus;
 use stage_ring::{Rx, Tx};
-use stage_run::{Peer, Peers, Stretch, Turn};
+use stage_run::{Peer, Peers, HalfRun, Turn};
 use tree_io::RunFeed;
 
 /// Reads a feed, and sends its runs and then the end to each root, turn by turn: in a thread of its
@@ -16,12 +16,12 @@ use tree_io::RunFeed;
 #[derive(Drop)]
 pub(crate) struct Reader<'a, 'b, F> {
     pub(crate) feed: &'a mut F,
-    pub(crate) feeds: Vec<Tx<Stretch>>,
+    pub(crate) feeds: Vec<Tx<HalfRun>>,
     // on which the driver tells that no more is wanted
     pub(crate) stop: Rx<bool>,
     pub(crate) pump: Pump,
     // it has heard that
-    pub(crate) told: bool,
+    pub(crate) stop_heard: bool,
     crew: &'b CrewStatus,
 }
 
@@ -33,11 +33,11 @@ impl<'a, 'b, F: RunFeed> Reader<'a, 'b, F> {
     /// Nothing was read yet.
     pub(crate) fn new(
         feed: &'a mut F,
-        feeds: Vec<Tx<Stretch>>,
+        feeds: Vec<Tx<HalfRun>>,
         stop: Rx<bool>,
         crew: &'b CrewStatus,
     ) -> Reader<'a, 'b, F>
-        requires fresh { (k : ℕ) (s : List StretchIs)
+        requires fresh { (k : ℕ) (s : List HalfRunIs)
             → slice_get (map sent feeds.items) k ≡ Some s → s ≡ [] }
         ensures feed { (result.feed.now ≡ feed.old)
             × (result.feed.ghost_name ≡ feed.entry.ghost_name) }
@@ -50,7 +50,7 @@ impl<'a, 'b, F: RunFeed> Reader<'a, 'b, F> {
             feeds,
             stop,
             pump,
-            told: false,
+            stop_heard: false,
             crew,
         }
     }
@@ -59,11 +59,11 @@ impl<'a, 'b, F: RunFeed> Reader<'a, 'b, F> {
     fn listen(&mut self)
         ensures reads { ReadsOn F.RunFeed self.old self.new }
         ensures feed { self.new.feed.now ≡ self.old.feed.now }
-        ensures looked { self.new.told ≡ false
+        ensures looked { self.new.stop_heard ≡ false
             → More (rx_misses self.old.stop) (rx_misses self.new.stop) }
     {
         if self.stop.take().is_some() {
-            self.told = true;
+            self.stop_heard = true;
             self.pump.stop(true);
         }
     }

@@ -19,7 +19,7 @@ use Rattle.stage_run.specs.declared.input.Input.{Input}
 use Rattle.stage_run.specs.declared.input.Input.TheVariants.{Samples, Packets}
 use Rattle.stage_run.specs.Rows.{Kept, waiting}
 use Rattle.stage_run.specs.declared.inbox.Inbox.{Inbox}
-use Rattle.stage_run.specs.declared.input.Stretch.{Stretch}
+use Rattle.stage_run.specs.declared.input.HalfRun.{HalfRun}
 use Rattle.stage_run.proofs.Lists.{items-append}
 use Rattle.stage_run.proofs.Telling.{feeds_in-append, told-append, told_more}
 
@@ -35,7 +35,7 @@ pub or_true : (b : Bool) → (b || true) ≡ true
 or_true true = refl
 or_true false = refl
 
--- of a stretch with samples
+-- of a half run with samples
 run_items : (upper value len : ℕ) (run : Run) → run.value ≡ whole_value upper value → run.len ≡ len → items_in (feeds_by upper value len) ≡ map Sample (samples run)
 unfolding samples
 run_items upper value zero run v l = let some = run.not_empty in absurd (omega (arith, some, l))
@@ -58,8 +58,8 @@ told_none : (upper value len : ℕ) → len ≡ 0 → upper_by upper value len �
 told_none upper value zero none = refl
 told_none upper value (suc n) none = absurd (omega (arith, none))
 
-module _ (upper : ℕ) (xs : List Stretch) (i : ℕ) (d : Stretch) (within : i < length xs) where
-  abbrev here : Stretch
+module _ (upper : ℕ) (xs : List HalfRun) (i : ℕ) (d : HalfRun) (within : i < length xs) where
+  abbrev here : HalfRun
   here = get_or xs i d
 
   abbrev front : ℕ → List Feed
@@ -140,7 +140,7 @@ pub came_end : (received more : List Feed) → some ends_feed more ≡ true → 
 came_end received more is = some-append ends_feed received more ∙ ap (λ b. some ends_feed received || b) is ∙ or_true (some ends_feed received)
 
 -- one more run at the front of room
-pub put_items : (upper : ℕ) (xs : List Stretch) (i : ℕ) (d : Stretch) (room : List Run) (run : Run) → i < length xs → i < length room → upper ≡ told_behind upper (take i xs) → run.value ≡ whole_value upper (get_or xs i d).value → run.len ≡ (get_or xs i d).len
+pub put_items : (upper : ℕ) (xs : List HalfRun) (i : ℕ) (d : HalfRun) (room : List Run) (run : Run) → i < length xs → i < length room → upper ≡ told_behind upper (take i xs) → run.value ≡ whole_value upper (get_or xs i d).value → run.len ≡ (get_or xs i d).len
     → map Sample (samples_of (take i room)) ≡ items_in (feeds_in upper (take i xs)) → map Sample (samples_of (take (i + 1) (set room i run))) ≡ items_in (feeds_in upper (take (i + 1) xs))
 put_items upper xs i d room run within low told v l had =
     let longer : i < length (set room i run) = omega (arith, low, length-set room i run) in

@@ -29,13 +29,13 @@ pub is_emptied : (closed : Bool) (outbox : Outbox) → (closed && is_empty outbo
 is_emptied closed outbox is = second closed (is_empty outbox) is
 
 abbrev no_marks : Outbox → Bool
-no_marks outbox = nat_eq (length outbox.told.list) 0
+no_marks outbox = nat_eq (length outbox.kept_marks.list) 0
 
 abbrev no_feeds : Outbox → Bool
 no_feeds outbox = nat_eq (length outbox.fed.list) 0
 
-none_told : (outbox : Outbox) → is_empty outbox ≡ true → outbox.told.list ≡ []
-none_told outbox is = none_of outbox.told.list (first (no_marks outbox) (no_feeds outbox) (first (no_marks outbox && no_feeds outbox) (nat_eq outbox.place 0) is))
+none_told : (outbox : Outbox) → is_empty outbox ≡ true → outbox.kept_marks.list ≡ []
+none_told outbox is = none_of outbox.kept_marks.list (first (no_marks outbox) (no_feeds outbox) (first (no_marks outbox && no_feeds outbox) (nat_eq outbox.place 0) is))
 
 none_fed : (outbox : Outbox) → is_empty outbox ≡ true → outbox.fed.list ≡ []
 none_fed outbox is = none_of outbox.fed.list (second (no_marks outbox) (no_feeds outbox) (first (no_marks outbox && no_feeds outbox) (nat_eq outbox.place 0) is))
@@ -64,7 +64,7 @@ pub empty_children : (outbox : Outbox) → is_empty outbox ≡ true → children
 empty_children outbox is = served_all outbox.place outbox.fed (none_fed outbox is) (map sent outbox.children.items) ∙ sents_map outbox.children.items
 
 pub empty_told : (outbox : Outbox) → is_empty outbox ≡ true → told_of outbox ≡ all_sent (sent outbox.marks)
-empty_told outbox is = ap (λ l. keeps l (sent outbox.marks)) (none_behind outbox.told (none_told outbox is)) ∙ (λ i. record { made = append-nil (sent outbox.marks) i; sent = sent outbox.marks })
+empty_told outbox is = ap (λ l. keeps l (sent outbox.marks)) (none_behind outbox.kept_marks (none_told outbox is)) ∙ (λ i. record { made = append-nil (sent outbox.marks) i; sent = sent outbox.marks })
 
 -- nothing was sent at all
 none_sent : (children : List (Tx Feed)) → All (λ child. sent child ≡ []) children → map (λ child. all_sent (sent child)) children ≡ replicate (length children) no_sending

@@ -59,15 +59,15 @@ owed_few false n = omega arith
 
 module _ {M : Type 0} where
   -- some of what was received was consumed
-  pub less_stepped : (old new : Stage M) → left_in new.inbox < left_in old.inbox → new.closed ≡ old.closed → new.told ≡ false → left_of new < left_of old
+  pub less_stepped : (old new : Stage M) → left_in new.inbox < left_in old.inbox → new.closed ≡ old.closed → new.floor_sent ≡ false → left_of new < left_of old
   less_stepped old new less closed told =
-      let a = owed_few old.told 2 in
+      let a = owed_few old.floor_sent 2 in
       let b = ap (λ (t : Bool). owed t 2) told in
       let c = ap (λ (t : Bool). owed t 1) closed in
       omega (arith, less, a, b, c)
 
   -- a floor was told
-  pub less_told : (old new : Stage M) → new.inbox ≡ old.inbox → new.closed ≡ old.closed → old.told ≡ false → new.told ≡ true → left_of new < left_of old
+  pub less_told : (old new : Stage M) → new.inbox ≡ old.inbox → new.closed ≡ old.closed → old.floor_sent ≡ false → new.floor_sent ≡ true → left_of new < left_of old
   less_told old new input closed untold told =
       let a = ap left_in input in
       let b = ap (λ (t : Bool). owed t 2) untold in
@@ -76,7 +76,7 @@ module _ {M : Type 0} where
       omega (arith, a, b, c, d)
 
   -- the end was made
-  pub less_closed : (old new : Stage M) → new.inbox ≡ old.inbox → new.told ≡ old.told → old.closed ≡ false → new.closed ≡ true → left_of new < left_of old
+  pub less_closed : (old new : Stage M) → new.inbox ≡ old.inbox → new.floor_sent ≡ old.floor_sent → old.closed ≡ false → new.closed ≡ true → left_of new < left_of old
   less_closed old new input told was closed =
       let a = ap left_in input in
       let b = ap (λ (t : Bool). owed t 2) told in

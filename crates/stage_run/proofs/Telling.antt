@@ -1,4 +1,4 @@
--- What stretches mean, one behind another.
+-- What half runs mean, one behind another.
 use Rattle.std.proofs.Common.{◌≡◌, ◌≤◌, ◌<◌, ℕ, zero, suc, ◌+◌, ◌*◌, ◌/◌, ◌%◌, ◌^◌, Bool, true, false, List, [], ◌∷◌, ◌++◌, map, length, length-append, refl, ◌∙◌, ap, sym, arith, append_assoc, if◌then◌else◌}
 use Rattle.std.specs.Prelude.{nat_eq}
 use Rattle.std.specs.List.{All}
@@ -8,17 +8,17 @@ use Rattle.std.proofs.lemmas.List.{append-nil}
 use Rattle.la_base.specs.declared.samples.Run.{Run}
 use Rattle.la_base.specs.declared.wires.Feed.{Feed}
 use Rattle.la_base.specs.declared.wires.Feed.TheVariants.{Run as RunFeed, End as EndFeed}
-use Rattle.stage_run.specs.Inputs.{at_least_one, feeds_by, feeds_in, stretch_of, telling, told_behind, upper_by, upper_of, whole_value}
-use Rattle.stage_run.specs.declared.input.Stretch.{Stretch}
+use Rattle.stage_run.specs.Inputs.{at_least_one, feeds_by, feeds_in, half_run_of, telling, told_behind, upper_by, upper_of, whole_value}
+use Rattle.stage_run.specs.declared.input.HalfRun.{HalfRun}
 
--- stretches in parts
-pub feeds_in-append : (upper : ℕ) (xs ys : List Stretch) → feeds_in upper (xs ++ ys) ≡ feeds_in upper xs ++ feeds_in (told_behind upper xs) ys
+-- half runs in parts
+pub feeds_in-append : (upper : ℕ) (xs ys : List HalfRun) → feeds_in upper (xs ++ ys) ≡ feeds_in upper xs ++ feeds_in (told_behind upper xs) ys
 feeds_in-append upper [] ys = refl
 feeds_in-append upper (x ∷ xs) ys =
     let behind = upper_by upper x.value x.len in
     ap (λ (l : List Feed). feeds_by upper x.value x.len ++ l) (feeds_in-append behind xs ys) ∙ sym (append_assoc (feeds_by upper x.value x.len) (feeds_in behind xs) (feeds_in (told_behind behind xs) ys))
 
-pub told-append : (upper : ℕ) (xs ys : List Stretch) → told_behind upper (xs ++ ys) ≡ told_behind (told_behind upper xs) ys
+pub told-append : (upper : ℕ) (xs ys : List HalfRun) → told_behind upper (xs ++ ys) ≡ told_behind (told_behind upper xs) ys
 told-append upper [] ys = refl
 told-append upper (x ∷ xs) ys = told-append (upper_by upper x.value x.len) xs ys
 
@@ -30,7 +30,7 @@ feeds_by_few upper value zero = by (nat_eq value upper)
     by false = omega arith
 feeds_by_few upper value (suc n) = omega arith
 
-pub feeds_in_few : (upper : ℕ) (xs : List Stretch) → length (feeds_in upper xs) ≤ length xs
+pub feeds_in_few : (upper : ℕ) (xs : List HalfRun) → length (feeds_in upper xs) ≤ length xs
 feeds_in_few upper [] = omega arith
 feeds_in_few upper (x ∷ xs) =
     let behind = upper_by upper x.value x.len in
@@ -52,18 +52,18 @@ halves : (word upper : ℕ) → word / 2 ^ 64 ≡ upper → upper * 2 ^ 64 + wor
 halves word upper is = omega (arith, is)
 
 -- runs whose upper half of the lines was told
-pub plain_feeds : (upper : ℕ) (runs : List Run) → All (λ run. upper_of run ≡ upper) runs → (feeds_in upper (map stretch_of runs) ≡ map RunFeed runs) × (told_behind upper (map stretch_of runs) ≡ upper)
+pub plain_feeds : (upper : ℕ) (runs : List Run) → All (λ run. upper_of run ≡ upper) runs → (feeds_in upper (map half_run_of runs) ≡ map RunFeed runs) × (told_behind upper (map half_run_of runs) ≡ upper)
 plain_feeds upper [] all = (refl, refl)
 plain_feeds upper (run ∷ runs) all =
     let on = plain_feeds upper runs (λ i d low. all (suc i) d (omega (arith, low))) in
     let low = run.value % 2 ^ 64 in
     let still = told_more upper low run.len run.not_empty in (
-      (λ i. run_feed upper low run.len run.value run.not_empty (halves run.value upper (all 0 run (omega arith))) i ++ feeds_in (still i) (map stretch_of runs)) ∙ ap (λ (l : List Feed). RunFeed run ∷ l) on.0,
-      ap (λ n. told_behind n (map stretch_of runs)) still ∙ on.1,
+      (λ i. run_feed upper low run.len run.value run.not_empty (halves run.value upper (all 0 run (omega arith))) i ++ feeds_in (still i) (map half_run_of runs)) ∙ ap (λ (l : List Feed). RunFeed run ∷ l) on.0,
+      ap (λ n. told_behind n (map half_run_of runs)) still ∙ on.1,
     )
 
 -- the end, and what tells something else, behind others
-module _ (front : List Stretch) (upper was : ℕ) (told : told_behind 0 front ≡ was) where
+module _ (front : List HalfRun) (upper was : ℕ) (told : told_behind 0 front ≡ was) where
   tells : feeds_in 0 (front ++ telling upper ∷ []) ≡ feeds_in 0 front ++ feeds_by was upper 0
   tells =
       let new : List Feed = feeds_by was upper 0 in

@@ -57,23 +57,23 @@ children_of outbox = served outbox.place outbox.fed (map sent outbox.children.it
 
 -- what was made for the marks, and what of that was sent
 abbrev pub told_of : Outbox → Sending Mark
-told_of outbox = keeps (waiting outbox.told) (sent outbox.marks)
+told_of outbox = keeps (waiting outbox.kept_marks) (sent outbox.marks)
 
 -- nothing of what is kept was given yet
 pub record IsFresh (outbox : Outbox) : Type 0 where
-  pub told : outbox.told.at ≡ 0
+  pub told : outbox.kept_marks.at ≡ 0
   pub fed : outbox.fed.at ≡ 0
   pub place : outbox.place ≡ 0
 
 -- whether nothing is kept
 abbrev pub is_empty : Outbox → Bool
 is_empty outbox =
-    nat_eq (length outbox.told.list) 0 && nat_eq (length outbox.fed.list) 0
+    nat_eq (length outbox.kept_marks.list) 0 && nat_eq (length outbox.fed.list) 0
     && nat_eq outbox.place 0
 
 -- there is room for so many more
 abbrev pub HasRoom : ℕ → Outbox → Type 0
-HasRoom kept outbox = (length outbox.told.list + kept ≤ 64) × (length outbox.fed.list + kept ≤ 64)
+HasRoom kept outbox = (length outbox.kept_marks.list + kept ≤ 64) × (length outbox.fed.list + kept ≤ 64)
 
 abbrev pub sum : List ℕ → ℕ
 sum [] = 0

@@ -6,7 +6,7 @@ use Rattle.la_base.specs.declared.samples.Run.{Run}
 use Rattle.la_base.specs.declared.wires.Feed.{Feed}
 use Rattle.la_base.specs.declared.wires.Feed.TheVariants.{Run as RunFeed, End as EndFeed}
 use Rattle.stage_ring.specs.Link.{Link, rx_link, received, rx_misses}
-use Rattle.stage_run.specs.declared.input.Stretch.{Stretch}
+use Rattle.stage_run.specs.declared.input.HalfRun.{HalfRun}
 use Rattle.stage_run.specs.declared.input.Input.{Input}
 use Rattle.stage_run.specs.declared.input.Input.TheVariants.{Samples, Packets}
 
@@ -17,29 +17,29 @@ at_least_one n = omega arith
 abbrev pub upper_of : Run → ℕ
 upper_of run = run.value / 2 ^ 64
 
--- a run as a stretch, where that was told
-abbrev pub stretch_of : Run → Stretch
-stretch_of run = record { value = run.value % 2 ^ 64; len = run.len }
+-- a run as a half run, where that was told
+abbrev pub half_run_of : Run → HalfRun
+half_run_of run = record { value = run.value % 2 ^ 64; len = run.len }
 
 -- what tells such an upper half, or the end
-abbrev pub telling : ℕ → Stretch
+abbrev pub telling : ℕ → HalfRun
 telling upper = record { value = upper; len = 0 }
 
 -- both halves of the lines
 abbrev pub whole_value : ℕ → ℕ → ℕ
 whole_value upper lower = upper * 2 ^ 64 + lower
 
--- the upper half of the lines that is told behind a stretch of so many samples
+-- the upper half of the lines that is told behind a half run of so many samples
 abbrev pub upper_by : ℕ → ℕ → ℕ → ℕ
 upper_by upper value zero = value
 upper_by upper value (suc n) = upper
 
 -- the same behind several
-abbrev pub told_behind : ℕ → List Stretch → ℕ
+abbrev pub told_behind : ℕ → List HalfRun → ℕ
 told_behind upper [] = upper
 told_behind upper (s ∷ others) = told_behind (upper_by upper s.value s.len) others
 
--- what a stretch means, where the upper half of the lines was told: a run of so many samples; with
+-- what a half run means, where the upper half of the lines was told: a run of so many samples; with
 -- none it is the end, where it tells the same, and else nothing by itself
 abbrev pub feeds_by : ℕ → ℕ → ℕ → List Feed
 feeds_by upper value zero = if nat_eq value upper then EndFeed ∷ [] else []
@@ -50,7 +50,7 @@ feeds_by upper value (suc n) = RunFeed (record {
 }) ∷ []
 
 -- what several mean
-abbrev pub feeds_in : ℕ → List Stretch → List Feed
+abbrev pub feeds_in : ℕ → List HalfRun → List Feed
 feeds_in upper [] = []
 feeds_in upper (s ∷ others) =
     feeds_by upper s.value s.len ++ feeds_in (upper_by upper s.value s.len) others

@@ -105,7 +105,7 @@ module _ {M : Type 0} where
 
   -- how much is left to do: of what was received, to tell a floor after it, and to make the end
   abbrev pub left_of : Stage M → ℕ
-  left_of s = 3 * left_in s.inbox + owed s.told 2 + owed s.closed 1
+  left_of s = 3 * left_in s.inbox + owed s.floor_sent 2 + owed s.closed 1
 
   -- nothing was given or taken, and the end neither came nor was told
   pub record SameEnds (old new : Stage M) : Type 0 where
@@ -156,7 +156,7 @@ module _ {M S : Type 0} (m : MachineGhosts M S) where
     pub above : s.above ≤ above_in view.received (length view.consumed)
     pub lies : LieIn view.received
         (length view.consumed + length (samples_of (waiting s.inbox.runs))) (waiting s.inbox.feeds)
-    pub told : view.told ≡ s.told
+    pub told : view.told ≡ s.floor_sent
     pub children : view.children ≡ children_of s.outbox
     pub marks : view.marks ≡ told_of s.outbox
     pub closed : view.closed ≡ s.closed

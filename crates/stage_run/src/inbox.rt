@@ -12,7 +12,7 @@ ghost use Rattle.stage_run.specs.Inputs.{came, feeds_in, input_link, input_misse
 ghost use Rattle.stage_run.specs.Inputs.{taken, told_behind, told_on};
 ghost use Rattle.stage_run.specs.Rows.{none_kept, waiting};
 
-use crate::input::{Input, Stretch};
+use crate::input::{Input, HalfRun};
 use crate::row::Row;
 use la_base::{Feed, Run};
 
@@ -20,38 +20,38 @@ use la_base::{Feed, Run};
 #[derive(Drop)]
 pub(crate) struct Inbox {
     pub(crate) input: Input,
-    stretches: Row<Stretch>,
+    half_runs: Row<HalfRun>,
     pub(crate) runs: Row<Run>,
     pub(crate) feeds: Row<Feed>,
-    // the upper half of the lines that the stretches told
+    // the upper half of the lines that the half runs told
     upper: u64,
     // the end has come
     pub(crate) over: bool,
     ghost told: { upper ≡ told_on input },
 }
 
-// Puts stretches as runs into a row, in place of what it had, and answers whether the end is among
+// Puts half runs as runs into a row, in place of what it had, and answers whether the end is among
 // them: one after another. `upper` is the upper half of the lines that was told.
-fn put_each(runs: &mut Row<Run>, upper: &mut u64, stretches: &[Stretch]) -> bool
-    requires { length stretches.now ≤ 64 }
+fn put_each(runs: &mut Row<Run>, upper: &mut u64, half_runs: &[HalfRun]) -> bool
+    requires { length half_runs.now ≤ 64 }
     ensures start { runs.new.at ≡ 0 }
     ensures items { map Sample (samples_of runs.new.list)
-        ≡ items_in (feeds_in upper.old stretches.now) }
-    ensures upper { upper.new ≡ told_behind upper.old stretches.now }
-    ensures ends { result ≡ true → some ends_feed (feeds_in upper.old stretches.now) ≡ true }
+        ≡ items_in (feeds_in upper.old half_runs.now) }
+    ensures upper { upper.new ≡ told_behind upper.old half_runs.now }
+    ensures ends { result ≡ true → some ends_feed (feeds_in upper.old half_runs.now) ≡ true }
 {
     let mut ended = false;
     runs.clear();
-    for stretch in stretches {
-        if stretch.len > 0 {
+    for half_run in half_runs {
+        if half_run.len > 0 {
             runs.push(Run {
-                value: stretch.whole(*upper),
-                len: stretch.len,
+                value: half_run.whole(*upper),
+                len: half_run.len,
             });
-        } else if stretch.value == *upper {
+        } else if half_run.value == *upper {
             ended = true;
         } else {
-            *upper = stretch.value;
+            *upper = half_run.value;
         }
     }
     ended
@@ -59,18 +59,18 @@ fn put_each(runs: &mut Row<Run>, upper: &mut u64, stretches: &[Stretch]) -> bool
 
 // The same, by one look at each where each has samples, as mostly.
 #[inline]
-fn put_runs(runs: &mut Row<Run>, upper: &mut u64, stretches: &[Stretch]) -> bool
-    requires { length stretches.now ≤ 64 }
+fn put_runs(runs: &mut Row<Run>, upper: &mut u64, half_runs: &[HalfRun]) -> bool
+    requires { length half_runs.now ≤ 64 }
     ensures start { runs.new.at ≡ 0 }
     ensures items { map Sample (samples_of runs.new.list)
-        ≡ items_in (feeds_in upper.old stretches.now) }
-    ensures upper { upper.new ≡ told_behind upper.old stretches.now }
-    ensures ends { result ≡ true → some ends_feed (feeds_in upper.old stretches.now) ≡ true }
+        ≡ items_in (feeds_in upper.old half_runs.now) }
+    ensures upper { upper.new ≡ told_behind upper.old half_runs.now }
+    ensures ends { result ≡ true → some ends_feed (feeds_in upper.old half_runs.now) ≡ true }
 {
-    if runs.put(*upper, stretches) {
+    if runs.put(*upper, half_runs) {
         return false;
     }
-    put_each(runs, upper, stretches)
+    put_each(runs, upper, half_runs)
 }
 
 // Whether the last of some feeds is the end.
@@ -119,7 +119,7 @@ impl Inbox {
     {
         Inbox {
             input,
-            stretches: Row::new(Stretch::telling(0)),
+            half_runs: Row::new(HalfRun::telling(0)),
             runs: Row::new(Run { value: 0, len: 1 }),
             feeds: Row::new(Feed::End),
             upper: 0,
@@ -153,8 +153,8 @@ impl Inbox {
     {
         match &mut self.input {
             Input::Samples(from) => {
-                let count = self.stretches.fill(from);
-                self.over = put_runs(&mut self.runs, &mut self.upper, self.stretches.waiting());
+                let count = self.half_runs.fill(from);
+                self.over = put_runs(&mut self.runs, &mut self.upper, self.half_runs.waiting());
                 count
             }
             Input::Packets(from) => {

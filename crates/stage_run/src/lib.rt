@@ -10,6 +10,6 @@ mod row;
 mod stage;
 mod turn;
 
-pub use input::{Input, Stretch};
+pub use input::{Input, HalfRun};
 pub use stage::{Parts, Stage};
 pub use turn::{Peer, Peers, Turn};

@@ -25,11 +25,11 @@ use stage_ring::Tx;
 pub(crate) struct Outbox {
     pub(crate) children: Vec<Tx<Feed>>,
     pub(crate) marks: Tx<Mark>,
-    pub(crate) told: Row<Mark>,
+    pub(crate) kept_marks: Row<Mark>,
     pub(crate) fed: Row<Feed>,
     pub(crate) place: usize,
     // none of a row but some are done, and feeds are kept for children alone
-    ghost some_told: { told.at ≤ length told.list - 1 },
+    ghost some_marks: { kept_marks.at ≤ length kept_marks.list - 1 },
     ghost some_fed: { fed.at ≤ length fed.list - 1 },
     ghost served: { place ≤ vec_len children - 1 },
     ghost for_some: { place ≤ 2 ^ 64 * length fed.list },
@@ -49,7 +49,7 @@ impl Outbox {
         Outbox {
             children,
             marks,
-            told: Row::new(Mark::End),
+            kept_marks: Row::new(Mark::End),
             fed: Row::new(Feed::End),
             place: 0,
         }
@@ -61,7 +61,7 @@ impl Outbox {
         ensures empty { result ≡ is_empty self.now }
         ensures fresh { result ≡ true → IsFresh self.now }
     {
-        self.told.count() == 0 && self.fed.count() == 0 && self.place == 0
+        self.kept_marks.count() == 0 && self.fed.count() == 0 && self.place == 0
     }
 
     /// Whether there is room for what one more step puts out, at most 32 outputs, and for a floor
@@ -71,7 +71,7 @@ impl Outbox {
         ensures room { result ≡ true → HasRoom 33 self.now }
         ensures empty { is_empty self.now ≡ true → result ≡ true }
     {
-        self.told.count() <= 31 && self.fed.count() <= 31
+        self.kept_marks.count() <= 31 && self.fed.count() <= 31
     }
 
     /// Keeps the outputs of a step: notes and pieces for the marks, packets for each child.
@@ -86,7 +86,7 @@ impl Outbox {
         ensures children { children_of self.new
             ≡ map (makes (feeds_of outs.now)) (children_of self.old) }
     {
-        keep_marks(&mut self.told, outs);
+        keep_marks(&mut self.kept_marks, outs);
         if !self.children.is_empty() {
             keep_feeds(&mut self.fed, outs);
         }
@@ -103,7 +103,7 @@ impl Outbox {
         ensures children { children_of self.new
             ≡ map (makes (FromFeed floor ∷ [])) (children_of self.old) }
     {
-        self.told.push(Mark::Floor(floor));
+        self.kept_marks.push(Mark::Floor(floor));
         if !self.children.is_empty() {
             self.fed.push(Feed::From(floor));
         }
@@ -119,7 +119,7 @@ impl Outbox {
         ensures children { children_of self.new
             ≡ map (makes (EndFeed ∷ [])) (children_of self.old) }
     {
-        self.told.push(Mark::End);
+        self.kept_marks.push(Mark::End);
         if !self.children.is_empty() {
             self.fed.push(Feed::End);
         }
@@ -127,7 +127,7 @@ impl Outbox {
 
     /// Gives as many of the marks that are kept as there is room for.
     pub(crate) fn give_marks(&mut self) -> Act
-        requires some { 0 < length self.old.told.list }
+        requires some { 0 < length self.old.kept_marks.list }
         ensures some { result ≢ Act.Worked }
         ensures going { result ≢ Act.Ended }
         ensures links { SameLinks self.old self.new }
@@ -137,13 +137,13 @@ impl Outbox {
         ensures act { Acts result (given_by self.old) (given_by self.new)
             (missed_by self.old) (missed_by self.new) }
     {
-        let kept = self.told.waiting().len();
-        let count = self.marks.offer_some(self.told.waiting());
+        let kept = self.kept_marks.waiting().len();
+        let count = self.marks.offer_some(self.kept_marks.waiting());
         if count < kept {
-            self.told.skip(count);
+            self.kept_marks.skip(count);
             return act_of(count, kept);
         }
-        self.told.clear();
+        self.kept_marks.clear();
         act_of(count, kept)
     }
 

@@ -8,7 +8,7 @@ ghost use Rattle.stage_ring.specs.Link.{received, rx_link, rx_misses, more_if};
 ghost use Rattle.stage_run.specs.Inputs.{feeds_in, told_behind};
 ghost use Rattle.stage_run.specs.Rows.{Kept, none_kept, waiting, with_left};
 
-use crate::input::Stretch;
+use crate::input::HalfRun;
 use la_base::Run;
 use stage_ring::Rx;
 use std::marker::Model;
@@ -142,44 +142,44 @@ impl<T: Copy + Send> Row<T> {
 }
 
 impl Row<Run> {
-    /// Puts in the runs of these stretches, in place of what it had, and answers whether it could.
+    /// Puts in the runs of these half runs, in place of what it had, and answers whether it could.
     /// It can't where one of them has no samples. `upper` is the upper half of all their lines.
     #[inline]
-    pub(crate) fn put(&mut self, upper: u64, stretches: &[Stretch]) -> bool
-        requires { length stretches.now ≤ 64 }
+    pub(crate) fn put(&mut self, upper: u64, half_runs: &[HalfRun]) -> bool
+        requires { length half_runs.now ≤ 64 }
         ensures start { result ≡ true → self.new.at ≡ 0 }
         ensures items { result ≡ true → map Sample (samples_of self.new.list)
-            ≡ items_in (feeds_in upper stretches.now) }
-        ensures upper { result ≡ true → told_behind upper stretches.now ≡ upper }
+            ≡ items_in (feeds_in upper half_runs.now) }
+        ensures upper { result ≡ true → told_behind upper half_runs.now ≡ upper }
     {
         self.at = 0;
         self.count = 0;
-        if !all_runs(&mut self.room, upper, stretches) {
+        if !all_runs(&mut self.room, upper, half_runs) {
             return false;
         }
-        self.count = stretches.len();
+        self.count = half_runs.len();
         true
     }
 }
 
-// The runs of stretches, at the front of room for them; the answer is whether each has samples.
+// The runs of half runs, at the front of room for them; the answer is whether each has samples.
 // Behind one that has none nothing is put.
 #[inline]
-fn all_runs(room: &mut [Run; ROOM], upper: u64, stretches: &[Stretch]) -> bool
-    requires { length stretches.now ≤ 64 }
+fn all_runs(room: &mut [Run; ROOM], upper: u64, half_runs: &[HalfRun]) -> bool
+    requires { length half_runs.now ≤ 64 }
     ensures len { length room.new ≡ 64 }
-    ensures items { result ≡ true → map Sample (samples_of (take (length stretches.now) room.new))
-        ≡ items_in (feeds_in upper stretches.now) }
-    ensures upper { result ≡ true → told_behind upper stretches.now ≡ upper }
+    ensures items { result ≡ true → map Sample (samples_of (take (length half_runs.now) room.new))
+        ≡ items_in (feeds_in upper half_runs.now) }
+    ensures upper { result ≡ true → told_behind upper half_runs.now ≡ upper }
 {
-    for place in 0..stretches.len() {
-        let stretch = stretches[place];
-        if stretch.len == 0 {
+    for place in 0..half_runs.len() {
+        let half_run = half_runs[place];
+        if half_run.len == 0 {
             return false;
         }
         let run = &mut room[place];
-        run.value = stretch.whole(upper);
-        run.len = stretch.len;
+        run.value = half_run.whole(upper);
+        run.len = half_run.len;
     }
     true
 }

@@ -40,7 +40,7 @@ pub struct Stage<M> {
     // each packet that is still to come starts there or later
     above: u64,
     // a floor was told behind all that was consumed
-    told: bool,
+    floor_sent: bool,
     // the end was made for each link
     closed: bool,
     // to whom it gave, or from whom it took, since that was asked
@@ -65,7 +65,7 @@ impl<M: Machine> Stage<M> {
         ensures same { SameEnds self.old self.new }
         ensures fresh { IsFresh self.new.outbox }
         ensures less { left_in self.new.inbox < left_in self.old.inbox }
-        ensures untold { self.new.told ≡ false }
+        ensures untold { self.new.floor_sent ≡ false }
     {
         self.outs.clear();
         let taken = self
@@ -73,7 +73,7 @@ impl<M: Machine> Stage<M> {
             .step_runs(self.inbox.runs.waiting(), &mut self.outs);
         self.inbox.runs.skip_but(taken.count, taken.rest);
         self.outbox.keep(self.outs.list());
-        self.told = false;
+        self.floor_sent = false;
     }
 
     // Steps over the first feed that it received, and keeps what that puts out.
@@ -87,7 +87,7 @@ impl<M: Machine> Stage<M> {
         ensures same { SameEnds self.old self.new }
         ensures fresh { IsFresh self.new.outbox }
         ensures less { left_in self.new.inbox < left_in self.old.inbox }
-        ensures untold { self.new.told ≡ false }
+        ensures untold { self.new.floor_sent ≡ false }
     {
         let feed = self.inbox.feeds.waiting()[0];
         self.above = self.above.max(place_of(feed));
@@ -95,7 +95,7 @@ impl<M: Machine> Stage<M> {
         let left = self.machine.step(feed, &mut self.outs);
         self.inbox.feeds.skip_but(1, left);
         self.outbox.keep(self.outs.list());
-        self.told = false;
+        self.floor_sent = false;
     }
 
     // Tells a floor after all that was consumed: as a mark, and to each child as the place from which
@@ -109,12 +109,12 @@ impl<M: Machine> Stage<M> {
         ensures same { SameEnds self.old self.new }
         ensures fresh { IsFresh self.new.outbox }
         ensures input { self.new.inbox ≡ self.old.inbox }
-        ensures told { self.new.told ≡ true }
+        ensures told { self.new.floor_sent ≡ true }
     {
         let own = self.machine.floor(0);
         let over = self.machine.floor(self.above);
         self.outbox.tell(own.max(over));
-        self.told = true;
+        self.floor_sent = true;
     }
 
     // Steps over what waits, or tells a floor where nothing does. Answers whether to go on.
@@ -122,11 +122,11 @@ impl<M: Machine> Stage<M> {
     fn step(&mut self) -> bool
         requires going { self.old.closed ≡ false }
         requires fresh { IsFresh self.old.outbox }
-        requires busy { is_idle self.old.inbox ≡ true → self.old.told ≡ false }
+        requires busy { is_idle self.old.inbox ≡ true → self.old.floor_sent ≡ false }
         ensures goes { Goes M.Machine Stepping 1 self.old self.new }
         ensures same { SameEnds self.old self.new }
         ensures fresh { IsFresh self.new.outbox }
-        ensures untold { result ≡ true → self.new.told ≡ false }
+        ensures untold { result ≡ true → self.new.floor_sent ≡ false }
         ensures no_more { left_of self.new ≤ left_of self.old }
         ensures less { is_empty self.old.outbox ≡ true → left_of self.new < left_of self.old }
     {
@@ -151,7 +151,7 @@ impl<M: Machine> Stage<M> {
         requires going { self.old.closed ≡ false }
         requires fresh { IsFresh self.old.outbox }
         requires empty { is_empty self.old.outbox ≡ true }
-        requires busy { is_idle self.old.inbox ≡ true → self.old.told ≡ false }
+        requires busy { is_idle self.old.inbox ≡ true → self.old.floor_sent ≡ false }
         ensures goes { Goes M.Machine Stepping 65 self.old self.new }
         ensures same { SameEnds self.old self.new }
         ensures less { left_of self.new < left_of self.old }
@@ -171,7 +171,7 @@ impl<M: Machine> Stage<M> {
         requires going { self.old.closed ≡ false }
         requires over { self.old.inbox.over ≡ true }
         requires done { is_idle self.old.inbox ≡ true }
-        requires told { self.old.told ≡ true }
+        requires told { self.old.floor_sent ≡ true }
         requires fresh { IsFresh self.old.outbox }
         requires empty { is_empty self.old.outbox ≡ true }
         ensures goes { Goes M.Machine Closing 1 self.old self.new }
@@ -194,7 +194,7 @@ impl<M: Machine> Stage<M> {
     // Receives what there is.
     fn receive(&mut self) -> Act
         requires going { self.old.closed ≡ false }
-        requires told { self.old.told ≡ true }
+        requires told { self.old.floor_sent ≡ true }
         requires done { is_idle self.old.inbox ≡ true }
         ensures goes { Goes M.Machine Taking 64 self.old self.new }
         ensures act { Acts result (passed self.old) (passed self.new)
@@ -208,7 +208,7 @@ impl<M: Machine> Stage<M> {
 
     // Gives marks that are kept.
     fn give_marks(&mut self) -> Act
-        requires some { 0 < length self.old.outbox.told.list }
+        requires some { 0 < length self.old.outbox.kept_marks.list }
         ensures goes { Goes M.Machine Telling 64 self.old self.new }
         ensures act { Acts result (passed self.old) (passed self.new)
             (missed self.old) (missed self.new) }
@@ -238,7 +238,7 @@ impl<M: Machine> Stage<M> {
         ensures left { Lessens result (left_of self.old) (left_of self.new) }
         ensures ended { result ≡ Act.Ended → is_over self.new ≡ true }
     {
-        if self.outbox.told.count() > 0 {
+        if self.outbox.kept_marks.count() > 0 {
             let act = self.give_marks();
             self.note(act, Peer::Driver);
             return act;
@@ -252,7 +252,7 @@ impl<M: Machine> Stage<M> {
         if self.closed {
             return Act::Ended;
         }
-        if !self.inbox.is_idle() || !self.told {
+        if !self.inbox.is_idle() || !self.floor_sent {
             self.work();
             return Act::Worked;
         }
@@ -305,7 +305,7 @@ impl<M: Machine> Stage<M> {
 
     /// For whom it waits, where a turn gave and took nothing.
     pub fn waits_for(&self) -> Peer {
-        if self.outbox.told.count() > 0 {
+        if self.outbox.kept_marks.count() > 0 {
             return Peer::Driver;
         }
         if !self.outbox.is_empty() {
@@ -363,7 +363,7 @@ impl<M: Machine> Stage<M> {
             outbox: Outbox::new(children, marks),
             outs: Outs::new(),
             above: 0,
-            told: true,
+            floor_sent: true,
             closed: false,
             touched: Cell::new(Peers::none()),
         }

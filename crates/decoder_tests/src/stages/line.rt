@@ -4,7 +4,7 @@ use dec_modbus::{Modbus, ModbusOpts};
 use dec_uart::{Uart, UartOpts};
 use decoder_core::{Driver, Follower};
 use la_base::{Rate, Run, Word};
-use stage_run::Stretch;
+use stage_run::HalfRun;
 use std::alloc::{AllocError, Global};
 use std::test::Fail;
 
@@ -73,14 +73,14 @@ pub fn runs_of(alloc: Global, bytes: &[u8]) -> Result<Vec<Run>, AllocError> {
     Ok(runs)
 }
 
-/// Runs of which no upper half of the lines is high, as stretches, and the end.
-pub fn stretches_of(alloc: Global, runs: &[Run]) -> Result<Vec<Stretch>, AllocError> {
-    let mut stretches = Vec::new(alloc);
+/// Runs of which no upper half of the lines is high, as half runs, and the end.
+pub fn half_runs_of(alloc: Global, runs: &[Run]) -> Result<Vec<HalfRun>, AllocError> {
+    let mut half_runs = Vec::new(alloc);
     for run in runs {
-        stretches.push(Stretch::of(*run))?;
+        half_runs.push(HalfRun::of(*run))?;
     }
-    stretches.push(Stretch::telling(0))?;
-    Ok(stretches)
+    half_runs.push(HalfRun::telling(0))?;
+    Ok(half_runs)
 }
 
 /// Bytes that two decoders have something to say about: a request with its check sum, notes by

@@ -4,11 +4,11 @@ ghost use Rattle.std.specs.Prelude.{◌≡◌, [], IfOk};
 ghost use Rattle.stage_ring.specs.Link.{received, sent};
 
 use super::alone::{given_alone, shown};
-use super::line::{BYTES, opened_line, opened_midi, opened_modbus, runs_of, stretches_of};
+use super::line::{BYTES, opened_line, opened_midi, opened_modbus, runs_of, half_runs_of};
 use decoder_core::Machine;
 use la_base::{Feed, Mark, Run};
 use stage_ring::{Rx, Tx, link};
-use stage_run::{Input, Stage, Stretch};
+use stage_run::{Input, Stage, HalfRun};
 use std::alloc::{AllocError, Global};
 use std::test::Fail;
 
@@ -29,7 +29,7 @@ fn gather(marks: &mut Rx<Mark>, into: &mut Vec<Mark>) -> Result<(), AllocError> 
 }
 
 // Sends what is next of a list, where there is room.
-fn pump(feeds: &mut Tx<Stretch>, all: &[Stretch], at: usize) -> usize {
+fn pump(feeds: &mut Tx<HalfRun>, all: &[HalfRun], at: usize) -> usize {
     let Some(next) = all.get(at) else { return at };
     if feeds.offer(*next).is_ok() {
         at.saturating_add(1)
@@ -82,8 +82,8 @@ fn give_alone(alloc: Global, runs: &[Run]) -> Result<Gave, Fail> {
 
 // What they give as stages.
 fn run_tree(alloc: Global, runs: &[Run], slots: u32, budget: u32) -> Result<Gave, Fail> {
-    let stretches = stretches_of(alloc, runs)?;
-    let (mut feeds, input) = links_of::<Stretch>(alloc, slots)?;
+    let half_runs = half_runs_of(alloc, runs)?;
+    let (mut feeds, input) = links_of::<HalfRun>(alloc, slots)?;
     let (to_midi, midi_input) = links_of::<Feed>(alloc, slots)?;
     let (to_modbus, modbus_input) = links_of::<Feed>(alloc, slots)?;
     let (line_sends, mut line_marks) = links_of::<Mark>(alloc, slots)?;
@@ -109,7 +109,7 @@ fn run_tree(alloc: Global, runs: &[Run], slots: u32, budget: u32) -> Result<Gave
     };
     let mut at = 0;
     for _ in 0..20_000u32 {
-        at = pump(&mut feeds, stretches.as_slice(), at);
+        at = pump(&mut feeds, half_runs.as_slice(), at);
         go_on(&mut line, budget);
         go_on(&mut midi, budget);
         go_on(&mut modbus, budget);

@@ -2,14 +2,14 @@
 use super::line::{opened_line, opened_midi};
 use la_base::{Feed, Mark, Packet, PacketKind};
 use stage_ring::link;
-use stage_run::{Input, Stage, Stretch, Turn};
+use stage_run::{Input, Stage, HalfRun, Turn};
 use std::test::Fail;
 
-// Nothing to take: idle, with a miss. A stretch: it moves. The end: it ends, after a floor and the
+// Nothing to take: idle, with a miss. A half run: it moves. The end: it ends, after a floor and the
 // end on each link.
 #[test]
 fn a_stage_waits_moves_and_ends(rt: HostRuntime) -> Result<(), Fail> {
-    let Ok((mut feeds, input)) = link::<Stretch>(rt.alloc(), 4) else {
+    let Ok((mut feeds, input)) = link::<HalfRun>(rt.alloc(), 4) else {
         return Err("no memory".into());
     };
     let Ok((child, mut packets)) = link::<Feed>(rt.alloc(), 4) else {
@@ -24,7 +24,7 @@ fn a_stage_waits_moves_and_ends(rt: HostRuntime) -> Result<(), Fail> {
     assert!(rt; !stage.is_over() && stage.turn(5) == Turn::Idle && stage.misses() == 1);
     assert!(rt;
         feeds
-            .offer(Stretch {
+            .offer(HalfRun {
                 value: 1,
                 len: 1000
             })
@@ -40,7 +40,7 @@ fn a_stage_waits_moves_and_ends(rt: HostRuntime) -> Result<(), Fail> {
     assert!(rt; !stage.is_over() && stage.turn(1) == Turn::Moved);
     assert!(rt; matches!(packets.take(), Some(Feed::From(_))) && packets.take().is_none());
     assert!(rt; !stage.is_over() && stage.turn(9) == Turn::Idle && stage.misses() == 2);
-    assert!(rt; feeds.offer(Stretch::telling(0)).is_ok());
+    assert!(rt; feeds.offer(HalfRun::telling(0)).is_ok());
     assert!(rt; !stage.is_over() && stage.turn(9) == Turn::Ended && stage.is_over());
     assert!(rt; matches!(marks.take(), Some(Mark::End)) && marks.take().is_none());
     assert!(rt; packets.take() == Some(Feed::End) && packets.take().is_none());

@@ -1,5 +1,5 @@
 use Rattle.std.proofs.Common.{◌∙◌, List, None, ap, sym, slice_get}
-use Rattle.stage_run.specs.declared.input.Stretch.{Stretch}
+use Rattle.stage_run.specs.declared.input.HalfRun.{HalfRun}
 use Rattle.stack_threads.specs.Ties.{Given, Sent}
 use Rattle.stack_threads.specs.Trees.{place_of}
 use Rattle.stack_threads.proofs.Tying.{alike_each_then, alike_given, alike_links, reads_same}
@@ -22,6 +22,6 @@ returns-clause-tied g c =
     let feeds = c.settle_input.ensures.feeds.0 in
     record {
       marks = λ given m at_g at_m. c.settle_marks.ensures.tied given m (ap (λ (l : List Given). slice_get l k) (sym (then ∙ first)) ∙ at_g) at_m;
-      root = λ at h s at_h at_s. c.settle_input.ensures.root at h s at_h (ap (λ (l : List (Sent Stretch)). slice_get l (place_of c.args.parents.now k None)) (sym feeds) ∙ at_s);
+      root = λ at h s at_h at_s. c.settle_input.ensures.root at h s at_h (ap (λ (l : List (Sent HalfRun)). slice_get l (place_of c.args.parents.now k None)) (sym feeds) ∙ at_s);
       child = λ p at h above s at_h at_above at_s. c.settle_input.ensures.child p at h above s at_h (ap (λ (l : List Given). slice_get l p) (sym then) ∙ at_above) at_s;
     }

@@ -2,7 +2,7 @@ use Rattle.std.proofs.Common.{◌≡◌, ◌∙◌, ap, sym, subst, get_or}
 use Rattle.stage_ring.specs.Link.{tx_link}
 use Rattle.stage_run.specs.Inputs.{input_link}
 use Rattle.stage_run.specs.Stages.{parts_links}
-use Rattle.stage_run.specs.declared.input.Stretch.{Stretch}
+use Rattle.stage_run.specs.declared.input.HalfRun.{HalfRun}
 use Rattle.stack_threads.specs.Ties.{Heard, HeardSamples, KnowsSamples, Sent, got_on, heard_by, sent_on}
 use Rattle.stack_threads.proofs.Tying.{alike_same, alike_set, at_place, but_put, get_map, get_put, known_all, no_packets, put_same, same_sent, samples_alike, some_same}
 use Rattle.stack_threads.proofs.settle.settle_root.Goals as goal
@@ -35,7 +35,7 @@ returns-in-Samples-clause-tied g c = λ h s at_h at_s.
     let tx = get_or c.args.feeds.now c.args.place c.index-feeds-place.result in
     let same : HeardSamples (got_on c.settle.new.rx) ≡ h = some_same (sym (get_put heard_by c.args.parts.now c.args.instance _ c.requires.within.0) ∙ at_h) in
     subst (λ (x : Heard). KnowsSamples x s) same
-    (subst (λ (x : Sent Stretch). KnowsSamples (HeardSamples (got_on c.settle.new.rx)) x) (at_place sent_on c.args.feeds.now c.args.place c.index-feeds-place.result s c.requires.within.1 at_s)
+    (subst (λ (x : Sent HalfRun). KnowsSamples (HeardSamples (got_on c.settle.new.rx)) x) (at_place sent_on c.args.feeds.now c.args.place c.index-feeds-place.result s c.requires.within.1 at_s)
     (known_all c.settle.new.rx tx c.settle.new.tx e.tied e.between e.tx.2 e.tx.1))
 
 pub returns-in-Packets-clause-parts : goal.returns-in-Packets-clause-parts

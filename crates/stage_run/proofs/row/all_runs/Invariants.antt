@@ -7,5 +7,5 @@ use Rattle.stage_run.proofs.row.all_runs.Given as goal
 
 abbrev pub invariant-loop-place : goal.invariant-loop-place
 invariant-loop-place l =
-    (length l.room ≡ 64) × (map Sample (samples_of (take l.place l.room)) ≡ items_in (feeds_in l.upper (take l.place l.stretches)))
-    × (l.upper ≡ told_behind l.upper (take l.place l.stretches))
+    (length l.room ≡ 64) × (map Sample (samples_of (take l.place l.room)) ≡ items_in (feeds_in l.upper (take l.place l.half_runs)))
+    × (l.upper ≡ told_behind l.upper (take l.place l.half_runs))

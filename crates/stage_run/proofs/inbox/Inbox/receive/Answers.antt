@@ -9,7 +9,7 @@ use Rattle.stack_laws.specs.Feeds.{ends_feed, items_in}
 use Rattle.stage_ring.specs.Link.{received}
 use Rattle.stage_run.specs.Inputs.{came, feeds_in, told_behind, told_on}
 use Rattle.stage_run.specs.Rows.{waiting}
-use Rattle.stage_run.specs.declared.input.Stretch.{Stretch}
+use Rattle.stage_run.specs.declared.input.HalfRun.{HalfRun}
 use Rattle.stage_run.proofs.Coming.{all_wait, none_waits}
 use Rattle.stage_run.proofs.Telling.{feeds_in-append, feeds_in_few, told-append}
 use Rattle.stage_run.proofs.inbox.Inbox.receive.Goals as goal
@@ -34,9 +34,9 @@ returns-in-Samples-clause-came c =
       ap (feeds_in 0) e.received ∙ feeds_in-append 0 (received c.in-Samples.from) row.list
           ∙ (λ i. came (sym c.in-Samples.is i) ++ feeds_in (told_on (sym c.in-Samples.is i)) row.list) ∙ ap (λ n. came s.input ++ feeds_in n row.list) (sym told),
       ap (λ (l : List Run). map Sample (samples_of l) ++ items_in (waiting s.feeds)) (all_wait runs p.start)
-          ∙ (λ i. (p.items ∙ ap (λ (l : List Stretch). items_in (feeds_in s.upper l)) is) i ++ items_in ((none_waits (waiting s.runs) (waiting s.feeds) c.requires).1 i))
+          ∙ (λ i. (p.items ∙ ap (λ (l : List HalfRun). items_in (feeds_in s.upper l)) is) i ++ items_in ((none_waits (waiting s.runs) (waiting s.feeds) c.requires).1 i))
           ∙ append-nil (items_in new),
-      λ ends. subst (λ (l : List Stretch). some ends_feed (feeds_in s.upper l) ≡ true) is (p.ends ends),
+      λ ends. subst (λ (l : List HalfRun). some ends_feed (feeds_in s.upper l) ≡ true) is (p.ends ends),
       inl (none_waits (waiting s.runs) (waiting s.feeds) c.requires).1,
     )
 

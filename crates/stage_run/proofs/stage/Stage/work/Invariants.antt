@@ -9,5 +9,5 @@ invariant-loop g l = record {
   same : SameEnds l.fn.self l.self;
   fresh : IsFresh l.self.outbox;
   less : left_of l.self < left_of l.fn.self;
-  untold : l.self.told ≡ false;
+  untold : l.self.floor_sent ≡ false;
 }

@@ -1,7 +1,7 @@
 use Rattle.std.proofs.Common.{◌≡◌, ◌+◌, ◌^◌, ◌∙◌, ℕ, ap, arith, below_more, get_or, length}
 use Rattle.la_base.specs.declared.samples.TheConstants.{MOST_PINS}
-use Rattle.capture_raw.proofs.Picks.{stretch_picks, ones_more}
-use Rattle.capture_raw.proofs.stretch.stretch_of.Goals as goal
+use Rattle.capture_raw.proofs.Picks.{neighbours_pick, ones_more}
+use Rattle.capture_raw.proofs.neighbours.neighbours_of.Goals as goal
 
 pub overflow_mul-ones : goal.overflow_mul-ones
 overflow_mul-ones c =
@@ -31,4 +31,4 @@ returns c =
     let s = c.loop-place in
     let pins = c.args.pins.now in
     let all : s.place ≡ length pins = omega arith in
-    λ holds n. stretch_picks pins (get_or pins 0 0) n s.ones (s.invariant.ones ∙ ap (λ (k : ℕ). 2 ^ k) all) (λ k below. s.invariant.order k (omega (arith, all, below)))
+    λ holds n. neighbours_pick pins (get_or pins 0 0) n s.ones (s.invariant.ones ∙ ap (λ (k : ℕ). 2 ^ k) all) (λ k below. s.invariant.order k (omega (arith, all, below)))

@@ -2,13 +2,13 @@
 ghost use Rattle.std.specs.Prelude.{◌≡◌, ◌<◌, ◌≤◌, ◌/◌, ◌^◌, ℕ, false, length, slice_index};
 ghost use Rattle.la_base.specs.declared.samples.TheConstants.{MOST_PINS};
 ghost use Rattle.std.specs.Int.Bits.{bit_and};
-ghost use Rattle.capture_raw.specs.Stretches.{Picks};
+ghost use Rattle.capture_raw.specs.Neighbours.{Picks};
 
 use la_base::{MOST_PINS, Word};
 
 /// Whether the pins are neighbours in order, and if so the first of them, and a bit for each.
 #[derive(Clone, Copy)]
-pub struct Stretch {
+pub struct Neighbours {
     pub holds: bool,
     pub first: u32,
     pub ones: Word,
@@ -16,7 +16,7 @@ pub struct Stretch {
 }
 
 /// How a shift picks these pins, if it does.
-pub fn stretch_of(pins: &[u32]) -> Stretch
+pub fn neighbours_of(pins: &[u32]) -> Neighbours
     requires few { length pins.now ≤ MOST_PINS }
     requires within { (k : ℕ) → k < length pins.now → slice_index pins.now k < MOST_PINS }
     ensures { Picks result.holds result.first result.ones pins.now }
@@ -34,7 +34,7 @@ pub fn stretch_of(pins: &[u32]) -> Stretch
         ones = 2 * ones + 1;
         place += 1;
     }
-    Stretch {
+    Neighbours {
         holds: true,
         first,
         ones,
@@ -42,17 +42,17 @@ pub fn stretch_of(pins: &[u32]) -> Stretch
 }
 
 // No shift does.
-fn none() -> Stretch
+fn none() -> Neighbours
     ensures { result.holds ≡ false }
 {
-    Stretch {
+    Neighbours {
         holds: false,
         first: 0,
         ones: 0,
     }
 }
 
-impl Stretch {
+impl Neighbours {
     /// What the pins pick of a number, where they are neighbours.
     #[inline(always)]
     pub fn of(self, n: Word) -> Word
