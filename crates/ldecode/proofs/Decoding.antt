@@ -18,12 +18,15 @@ use Rattle.words.specs.Settings.{Values}
 use Rattle.words.specs.declared.kinds.Job.TheVariants.{Decode}
 use Rattle.run_status.specs.Notices.{status_by, status_of}
 use Rattle.run_status.specs.declared.status.Status.{Status}
-use Rattle.ldecode.specs.Headline.{DecodesOn, IsBegun, IsListed, RefusesOn, WorksOn}
+use Rattle.run_asks.specs.Refusing.{RefusesOn}
+use Rattle.run_asks.specs.Parting.{Saves}
+use Rattle.run_asks.proofs.Forms.{head_later}
+use Rattle.run_asks.proofs.Opening.{read_is_cut}
+use Rattle.ldecode.specs.Headline.{DecodesOn, IsBegun, IsListed, WorksOn}
 use Rattle.ldecode.specs.Opening.{IsOpened}
-use Rattle.ldecode.specs.Parting.{Saves}
 use Rattle.ldecode.specs.Watching.{IsSeen, IsSeenFront, is_whole}
 use Rattle.ldecode.specs.declared.open_stack.Opened.{Opened}
-use Rattle.ldecode.proofs.Working.{head_later, read_is_cut, worked, works_refused}
+use Rattle.ldecode.proofs.Working.{worked, works_refused}
 
 -- a decoding of what was opened, told of a copy of its parents
 module _ (saves : Saves) (values : Values) (job : values.job ≡ Decode) (left_old left_now left_new : Option (List ℕ)) (opened : Opened) (is : IsOpened saves values left_old left_now opened) (Whole Front : Accepted → List (Node Setup) → List ℕ → Type 0) where

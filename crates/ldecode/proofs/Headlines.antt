@@ -21,12 +21,12 @@ use Rattle.run_status.specs.Causes.{SinkCause, SourceCause, WhereUnread}
 use Rattle.run_status.specs.declared.status.Status.{Status}
 use Rattle.run_status.specs.declared.status.Status.TheVariants.{Bind, Capture, Check, Done, NoMemory, ReadFault, Stack, Words, WriteFault}
 use Rattle.run_status.specs.Notices.{line_of, notice_of}
-use Rattle.ldecode.specs.Asking.{CanBind, CannotBind, CheckRefused, EndsAs, GoesPast, HasFault, HasStack, HasStackFault, HeadIs, IsFormOf, IsJudged, NamesNoHead}
+use Rattle.run_asks.specs.Asking.{CanBind, CannotBind, CheckRefused, EndsAs, GoesPast, HasFault, HasStack, HasStackFault, HeadIs, IsFormOf, IsJudged, NamesNoHead}
+use Rattle.run_asks.specs.Parting.{Saves, most_samples}
+use Rattle.run_asks.proofs.Exact.{bound_judged, refused_judged, bad_or_can, bad_or_cannot, bad_or_check, can_or_cannot, can_or_check, can_or_stack, cannot_or_stack, check_or_cannot, check_or_stack, head_or_stack, one_bad, one_check, one_ending, one_refusal, one_stack_fault, past_can, unread_or_cannot, unread_or_check, within_or_past}
 use Rattle.ldecode.specs.Headline.{DidFail, Does, Good, IsLine, IsMade, Makes, Notified, OrNoMemory, Parted, Promises, RunTells, Saw, Stream, Tells, Worked, Works}
-use Rattle.ldecode.specs.Parting.{Saves, most_samples}
 use Rattle.ldecode.specs.Watching.{RunsShelved, WatchedHeadline}
 use Rattle.view_store.specs.Listings.{Listing}
-use Rattle.ldecode.proofs.Exact.{bound_judged, refused_judged, bad_or_can, bad_or_cannot, bad_or_check, can_or_cannot, can_or_check, can_or_stack, cannot_or_stack, check_or_cannot, check_or_stack, head_or_stack, one_bad, one_check, one_ending, one_refusal, one_stack_fault, past_can, unread_or_cannot, unread_or_check, within_or_past}
 use Rattle.ldecode.proofs.Running.{of_these}
 
 -- what speaks of a stack or of alternatives doesn't speak of a made capture

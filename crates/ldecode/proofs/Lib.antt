@@ -1,10 +1,7 @@
-pub mod Choosing
 pub mod Working
-pub mod Asked
 pub mod Stacked
 pub mod Running
 pub mod Begun
-pub mod Exact
 pub mod Headlines
 mod Opened
 mod PartTold

@@ -28,11 +28,11 @@ use Rattle.words.specs.Settings.{Values}
 use Rattle.words.specs.declared.kinds.Job.TheVariants.{Part}
 use Rattle.run_status.specs.Notices.{status_of}
 use Rattle.run_status.specs.declared.status.Status.TheVariants.{Check}
-use Rattle.ldecode.specs.Asking.{AsksStack, IsFormOf, IsJudged, StackBound, setups_in}
+use Rattle.run_asks.specs.Asking.{AsksStack, IsFormOf, IsJudged, StackBound, setups_in}
+use Rattle.run_asks.specs.Parting.{Begun, CanBegin, CantBegin, Saves, places_of}
 use Rattle.ldecode.specs.Headline.{WorksOn}
 use Rattle.ldecode.specs.PartStatus.{end_of_part}
 use Rattle.ldecode.specs.Opening.{IsOpened}
-use Rattle.ldecode.specs.Parting.{Begun, CanBegin, CantBegin, Saves, places_of}
 use Rattle.ldecode.specs.Parts.{CameBefore, IsCheckAt, PartLists, parents_on, part_listing, setups_on}
 use Rattle.ldecode.specs.declared.open_stack.Opened.{Opened}
 use Rattle.ldecode.proofs.Begun.{begun_behind, begun_few, begun_setups, parents_of_nodes, setups_of_nodes}

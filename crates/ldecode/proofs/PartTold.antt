@@ -15,8 +15,8 @@ use Rattle.stack_words.specs.declared.stack.Stack.{Stack}
 use Rattle.decode_job.specs.Parting.{Behind, CutsCheck, PartReadCause, PartSays, PartWriteCause, WritesAll as JobAll, WritesCheck, WritesFront as JobFront, WritesUpTo, output_behind, room_behind}
 use Rattle.decode_job.specs.declared.part_end.PartEnd.{PartEnd}
 use Rattle.decode_job.specs.declared.part_end.PartEnd.TheVariants.{Ended, Past}
+use Rattle.run_asks.specs.Parting.{most_samples}
 use Rattle.ldecode.specs.PartStatus.{end_of_part}
-use Rattle.ldecode.specs.Parting.{most_samples}
 use Rattle.ldecode.specs.Parts.{PartEnds, PartWrites, WritesAll, WritesFront, WritesListing, within}
 
 pub part_read : (before now : ℕ) (end : PartEnd) → PartReadCause before now end → ReadCause before now (end_of_part end)

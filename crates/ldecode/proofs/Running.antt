@@ -9,15 +9,15 @@ use Rattle.words.specs.Given.{word_fault_in}
 use Rattle.words.specs.declared.kinds.WordsError.{WordsError}
 use Rattle.words.specs.declared.kinds.WordsError.TheVariants as error
 use Rattle.view_store.specs.Listings.{Listing, nothing}
-use Rattle.ldecode.specs.Asking.{NamesNoHead, is_decode, lists_notes}
-use Rattle.ldecode.specs.Headline.{Does, DoesOn, Good, IsMade, IsWatched, RunTells, Saw, Tells, WorksOn}
 use Rattle.run_status.specs.Causes.{WhereUnread}
-use Rattle.make_job.specs.Making.{MadeBy}
 use Rattle.run_status.specs.Notices.{status_at_words}
 use Rattle.run_status.specs.declared.outcome.Outcome.{Outcome}
 use Rattle.run_status.specs.declared.status.Status.{Status}
 use Rattle.run_status.specs.declared.status.Status.TheVariants.{Bind, Capture, Check, Done, NoMemory, ReadFault, Stack, Words, WriteFault}
-use Rattle.ldecode.specs.Parting.{Saves}
+use Rattle.make_job.specs.Making.{MadeBy}
+use Rattle.run_asks.specs.Asking.{NamesNoHead, is_decode, lists_notes}
+use Rattle.run_asks.specs.Parting.{Saves}
+use Rattle.ldecode.specs.Headline.{Does, DoesOn, Good, IsMade, IsWatched, RunTells, Saw, Tells, WorksOn}
 use Rattle.ldecode.specs.Watching.{IsShelved, RunsShelved, RunsViewed, SawOf, ShelvesOn, ViewsOn}
 use Rattle.ldecode.proofs.Shelving.{works_shelved}
 

@@ -25,9 +25,10 @@ use Rattle.run_status.specs.Causes.{SinkCause, SourceCause, WhereUnread}
 use Rattle.run_status.specs.Notices.{status_by, status_of}
 use Rattle.run_status.specs.declared.status.Status.{Status}
 use Rattle.run_status.specs.declared.status.Status.TheVariants.{Bind, Capture, Check, Done, NoMemory, ReadFault, Stack, Words, WriteFault}
+use Rattle.run_asks.specs.Refusing.{Refuses, RefusesOn}
+use Rattle.run_asks.specs.Parting.{Saves}
 use Rattle.ldecode.specs.Decoding.{decode_listing, decode_notes}
-use Rattle.ldecode.specs.Headline.{DecodedAs, DecodesOn, IsBegun, IsListed, Refuses, RefusesOn, Works, WorksOn}
-use Rattle.ldecode.specs.Parting.{Saves}
+use Rattle.ldecode.specs.Headline.{DecodedAs, DecodesOn, IsBegun, IsListed, Works, WorksOn}
 use Rattle.ldecode.specs.Watching.{EndsShelf, IsSeen, IsSeenFront, IsShelved, IsShown, IsShownFront, ShelvesOn, is_whole, shelf_without}
 use Rattle.ldecode.proofs.Decoding.{by_says, decodes_cut, decodes_front, decodes_less, decodes_whole, works_decoded}
 use Rattle.ldecode.proofs.Working.{refused_works}

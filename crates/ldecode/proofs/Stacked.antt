@@ -1,5 +1,5 @@
 -- What the settings of a decoding ask for, and the listing of decoders that are bound.
-use Rattle.std.proofs.Common.{◌≡◌, ℕ, ◌⊎◌, inr, zero, suc, List, [], ◌∷◌, length, map, Option, Some, None, Ok, Err, refl, sym, ◌∙◌, ap, ap₂, subst, Bor}
+use Rattle.std.proofs.Common.{◌≡◌, ℕ, ◌⊎◌, inr, zero, suc, List, [], ◌∷◌, length, map, Option, Some, None, Ok, Err, refl, sym, ◌∙◌, ap, subst, Bor}
 use Rattle.std.specs.Prelude.{option_map, slice_get}
 use Rattle.std.specs.Option.{option_copied}
 use Rattle.std.proofs.lemmas.List.{length-map}
@@ -24,7 +24,7 @@ use Rattle.stack_words.specs.Stacks.{stack_meaning}
 use Rattle.stack_spec.specs.declared.bound.Bound.{Bound}
 use Rattle.cond_words.specs.declared.faults.BindFault.{BindFault}
 use Rattle.stack_words.specs.declared.stack.Stack.{Stack}
-use Rattle.ldecode.specs.Asking.{AsksStack, HasStack, SearchRefused, StackRefused, Stacks, nodes_of, setups_in}
+use Rattle.run_asks.specs.Asking.{AsksStack, HasStack, SearchRefused, StackRefused, Stacks, nodes_of, setups_in}
 
 -- a value of an option, as the code hands it on
 seen_value : (seen : Option (Bor ChainWord)) (kept : Option ChainWord) → option_copied seen ≡ kept → option_map (λ (chain : Bor ChainWord). chain_of chain.now) seen ≡ option_map chain_of kept
@@ -40,9 +40,6 @@ the_stack settings chains seen wanted stack job chains_are show_is binary_is giv
       ∙ ap (λ b. stack_of (map chain_of chains) (option_map (λ (chain : Bor ChainWord). chain_of chain.now) seen) b) (sym (seen_value wanted settings.binary binary_is))
       ∙ gives;
 }
-
-pub one_stack : (values : Values) (some other : Accepted) → Stacks values some → Stacks values other → some ≡ other
-one_stack values some other a b = let both = sym a.stack ∙ b.stack in cc
 
 module _ (values : Values) (names : List (List ℕ)) (rate : Rate) (accepted : Accepted) (stacks : Stacks values accepted) where
   pub stack_asks : (pins : List ℕ) (bounds : List BoundInstance) → bound_of MOST_PINS names rate accepted.instances ≡ Ok bounds → pins ≡ Rattle.stack_spec.specs.Binding.stack_pins bounds

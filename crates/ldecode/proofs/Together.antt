@@ -1,33 +1,29 @@
 -- Runs over parts write together what a run over the whole does.
 use Rattle.std.proofs.Common.{◌≡◌, ◌<◌, ◌==◌, ◌&&◌, ◌/◌, ◌%◌, ℕ, zero, suc, Bool, true, false, true≢false, not, List, [], ◌∷◌, ◌++◌, length, map, Option, Some, None, refl, sym, ◌∙◌, ap, subst, arith, append_assoc}
 use Rattle.std.specs.Prelude.{codes, slice_index}
-use Rattle.std.specs.List.{flat_map, list_all}
+use Rattle.std.specs.List.{flat_map}
 use Rattle.std.proofs.lemmas.List.{append_cancel_right, length-map}
 use Rattle.hex.specs.Hex.{decode_of, encode_lower, encode_with, lower_digits}
 use Rattle.check_laws.specs.Parts.{all_of}
-use Rattle.check_laws.specs.Resuming.{IsCheckBehind}
 use Rattle.check_point.specs.Checks.{check_line}
 use Rattle.decoder_core.specs.Promises.{GivesNothing, KeepsFront}
 use Rattle.decoder_core.specs.Trees.{Node, given}
 use Rattle.decoder_set.specs.Opening.{opened_by, setup_of}
 use Rattle.decoder_set.specs.Setups.{outs_of}
-use Rattle.decoder_set.specs.declared.any.AnyDecoder.{AnyDecoder}
 use Rattle.decoder_set.specs.declared.setup.Setup.{Setup}
 use Rattle.decoder_set.specs.laws.KindLaws.{promises_of}
 use Rattle.decode_job.specs.Listing.{given_behind, listing_of, notes_to_list, output_of}
 use Rattle.decode_job.specs.Together.{ListTheWhole, listings_of_parts, notes_of_parts}
 use Rattle.decode_job.proofs.Together.{list_the_whole}
-use Rattle.note_order.specs.Order.{in_order}
-use Rattle.note_order.specs.declared.entry.Entry.{Entry}
 use Rattle.stack_words.specs.Accepting.{Accepted, is_shown}
 use Rattle.tree_runs.specs.Machines.{whole_of}
 use Rattle.tree_runs.specs.Passing.{IsForest}
 use Rattle.tree_runs.specs.Runs.{nodes_of}
 use Rattle.tree_runs.proofs.Ending.{keeps_at}
 use Rattle.tree_runs.proofs.Fresh.{nothing_at}
-use Rattle.ldecode.specs.Parting.{Saves, places_of}
+use Rattle.run_asks.specs.Parting.{Saves}
 use Rattle.ldecode.specs.Parts.{CameBefore, parents_on, part_listing, setups_on}
-use Rattle.ldecode.specs.Together.{ArePartRuns, PartRun, WriteTheWhole, all_written, is_one_word}
+use Rattle.ldecode.specs.Together.{ArePartRuns, PartRun, WriteTheWhole, is_one_word}
 
 -- the word behind the last blank of a text is one
 no_word : (a w : List ℕ) → is_one_word (a ++ 32 ∷ w) ≡ false

@@ -15,14 +15,16 @@ use Rattle.shelf_watch.specs.Shelves.{pair_of}
 use Rattle.run_status.specs.Notices.{is_done, status_by, status_of}
 use Rattle.run_status.specs.declared.status.Status.{Status}
 use Rattle.run_status.specs.declared.status.Status.TheVariants.{Bind, Capture, Check, Done, NoMemory, ReadFault, Stack, Words, WriteFault}
+use Rattle.run_asks.specs.Refusing.{RefusesOn}
+use Rattle.run_asks.specs.Parting.{Saves}
+use Rattle.run_asks.proofs.Opening.{no_room}
 use Rattle.ldecode.specs.Decoding.{decode_listing, decode_notes}
-use Rattle.ldecode.specs.Headline.{DecodedAs, DecodesOn, HasNotes, HasSoMany, IsBegun, IsListed, IsWatched, RefusesOn, WorksOn}
-use Rattle.ldecode.specs.Parting.{Saves}
+use Rattle.ldecode.specs.Headline.{DecodedAs, DecodesOn, HasNotes, HasSoMany, IsBegun, IsListed, IsWatched, WorksOn}
 use Rattle.ldecode.specs.Watching.{IsSeen, IsSeenFront, IsShelved, IsShown, IsShownFront, ShelvesOn, ViewsOn}
 use Rattle.ldecode.proofs.Decoding.{by_says, decodes_cut, decodes_less, works_decoded, written}
 use Rattle.ldecode.proofs.Running.{does_work}
 use Rattle.ldecode.proofs.Shelving.{works_shelved}
-use Rattle.ldecode.proofs.Working.{no_room, works_refused}
+use Rattle.ldecode.proofs.Working.{works_refused}
 
 pub done_is : (status : Status) → is_done status ≡ true → status ≡ Done
 done_is Done is = refl

@@ -7,7 +7,8 @@ use Rattle.words.specs.Readable.{IsReadable, IsShort}
 use Rattle.words.specs.Settings.{Values}
 use Rattle.words.specs.declared.settings.Settings.{Settings}
 use Rattle.run_status.specs.declared.status.Status.{Status}
-use Rattle.ldecode.specs.Headline.{DecodesOn, RefusesOn}
+use Rattle.run_asks.specs.Refusing.{RefusesOn}
+use Rattle.ldecode.specs.Headline.{DecodesOn}
 use Rattle.ldecode.specs.Watching.{IsSeen, IsSeenFront}
 
 -- settings are as words are read: as many as their job takes, and none too long

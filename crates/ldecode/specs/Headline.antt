@@ -2,23 +2,22 @@
 -- written with it.
 --
 -- The promise is at the end, `Promises` and `Headline`; what it says by the status is `Tells`, of a
--- decoding `DecodedAs`. To be read with it, in this order: what good words ask for (`Asking`), what
--- a listing is (`Decoding`, and `Listing` of decode_job), how the bytes of a capture settle samples
--- (`Captures` and `Listings` of capture_any), parts and their checkpoints (`Parting`, `Parts`), made
--- captures (`Making`), the lines that tell of a run (`Notices`), and what viewers see (`Watching`).
-use Rattle.std.specs.Prelude.{ℕ, ◌≡◌, ◌≢◌, ◌⊎◌, true, List, [], Option, Some, None, Ok, Err}
+-- decoding `DecodedAs`. To be read with it, in this order: what good words ask for (`Asking` of
+-- run_asks), what a listing is (`Decoding`, and `Listing` of decode_job), how the bytes of a capture
+-- settle samples (`Captures` and `Listings` of capture_any), what a search gives (`Searching` of
+-- search_job), parts and their checkpoints (`Parting` of run_asks, `Parts`), made captures (`Making`
+-- of make_job), the lines that tell of a run (`Notices` of run_status), and what viewers see
+-- (`Watching`).
+use Rattle.std.specs.Prelude.{ℕ, ◌≡◌, ◌⊎◌, true, List, [], Option, Some, None, Ok, Err}
 use Rattle.std.specs.Prelude.{length}
 use Rattle.std.specs.Io.KnownBytes.{Appends, Consumes}
 use Rattle.la_io.specs.Capture.{Told, AtEnd, Cut, Bad, Unread, Clean}
 use Rattle.la_io.specs.Causes.{AppendsFront, Rose}
 use Rattle.la_io.specs.declared.fault.CaptureFault.{CaptureFault}
-use Rattle.capture_any.specs.Captures.{IsForm, TakesNoMemory, ToldAt}
+use Rattle.capture_any.specs.Captures.{IsForm, ToldAt}
 use Rattle.capture_any.specs.Listings.{Says}
 use Rattle.capture_any.specs.declared.end.ListingEnd.{ListingEnd}
 use Rattle.capture_any.specs.declared.end.ListingEnd.TheVariants as end
-use Rattle.capture_any.specs.declared.end.ListingEnd.TheVariants.{NoMemory as Short}
-use Rattle.find_job.specs.Finding.{WholeListing, ListingFront}
-use Rattle.wait_cond.specs.declared.alt.Alt.{Alt}
 use Rattle.words.specs.Lexer.{Text}
 use Rattle.words.specs.Settings.{Values, settings_of}
 use Rattle.words.specs.declared.kinds.Job.TheVariants.{Decode, Make, Part}
@@ -35,11 +34,12 @@ use Rattle.run_status.specs.declared.status.Status.TheVariants.{Done, Words, Sta
 use Rattle.run_status.specs.declared.status.Status.TheVariants.{Check, Capture, WriteFault, NoMemory}
 use Rattle.make_job.specs.Making.{MadeBy}
 use Rattle.run_status.specs.Causes.{SinkCause, SourceCause, WhereUnread}
-use Rattle.ldecode.specs.Asking.{AsksFor, AsksStack, CannotBind, CheckRefused, EndsAs, HasFault}
-use Rattle.ldecode.specs.Asking.{HasStackFault, HeadIs, NamesNoHead, ReadHead, setups_in}
-use Rattle.ldecode.specs.Asking.{lists_notes}
+use Rattle.search_job.specs.Searching.{Searched}
+use Rattle.run_asks.specs.Asking.{AsksStack, CannotBind, CheckRefused, EndsAs, HasFault}
+use Rattle.run_asks.specs.Asking.{HasStackFault, HeadIs, NamesNoHead, ReadHead, setups_in}
+use Rattle.run_asks.specs.Asking.{lists_notes}
+use Rattle.run_asks.specs.Parting.{CanBegin, Saves}
 use Rattle.ldecode.specs.Decoding.{decode_listing, decode_notes}
-use Rattle.ldecode.specs.Parting.{CanBegin, Saves}
 use Rattle.ldecode.specs.Parts.{CameBefore, IsCheckAt, PartEnds, PartWrites, part_listing}
 
 -- a stream before and after a run: its bytes, where it tells them (those that a source has left,
@@ -58,18 +58,6 @@ stream bytes faults old new =
 -- it failed: its count rose, or stands at the last value of its type
 abbrev pub DidFail : Stream → Type 0
 DidFail s = Rose s.failed_old s.failed_new
-
--- the search that the values ask for came to this end; for want of memory only over a form whose
--- samples take some
-pub record Searched (values : Values) (bytes : List ℕ) (told : Told) (old new : Option (List ℕ))
-    (end : ListingEnd) : Type 0 where
-  pub head : ReadHead values bytes told
-  pub pins : List ℕ
-  pub alts : List Alt
-  pub asks : AsksFor values head.names pins alts
-  pub says : Says head.form pins (λ samples. WholeListing samples alts old new)
-      (λ samples. ListingFront samples alts old new) bytes told end
-  pub memory : TakesNoMemory head.form → end ≢ Short
 
 -- the decoding of a whole capture that the values ask for came to this end, and this holds of its
 -- stack and of the samples: `Whole` of all of them, or `Front` of those that some bytes settle
@@ -164,28 +152,6 @@ pub record DecodesOn (values : Values) (Whole Front : Accepted → List (Node Se
   pub taken : Consumes left_old left_new bytes
   pub at_end : ToldAt told left_new
   pub decoded : DecodedAs values Whole Front bytes told end
-
--- why nothing could be decoded or searched, by the status: of good words, and of the bytes that were
--- taken for the head
-abbrev pub Refuses : Values → List ℕ → Told → Status → Type 0
-Refuses values bytes told Done = ⊥
-Refuses values bytes told (Words fault) = ⊥
-Refuses values bytes told (Stack fault) = HasStackFault values fault × (bytes ≡ [])
-Refuses values bytes told (Bind fault) = CannotBind values bytes told fault
-Refuses values bytes told (Check fault) = ⊥
-Refuses values bytes told ReadFault = (told ≡ Cut) × HeadIs values bytes told Unread
-Refuses values bytes told (Capture fault) = HeadIs values bytes told (Bad fault)
-Refuses values bytes told WriteFault = ⊥
-Refuses values bytes told NoMemory = Unit {0}
-
--- the same of what took these bytes of its source
-pub record RefusesOn (values : Values) (left_old left_new : Option (List ℕ)) (status : Status)
-    : Type 0 where
-  pub bytes : List ℕ
-  pub told : Told
-  pub taken : Consumes left_old left_new bytes
-  pub at_end : ToldAt told left_new
-  pub refuses : Refuses values bytes told status
 
 -- the words are good, and this holds of their values
 abbrev pub Good : List Text → (Values → Type 0) → Type 0

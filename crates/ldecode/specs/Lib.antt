@@ -1,8 +1,5 @@
 pub mod Decoding
-pub mod Parting
 pub mod Parts
-pub mod Asking
-pub mod Chosen
 pub mod PartStatus
 pub mod Headline
 pub mod Opening

@@ -16,9 +16,9 @@ use Rattle.words.specs.Settings.{Values}
 use Rattle.words.specs.declared.kinds.Job.TheVariants.{Part}
 use Rattle.run_status.specs.Notices.{status_of}
 use Rattle.run_status.specs.declared.status.Status.TheVariants.{Check}
-use Rattle.ldecode.specs.Asking.{AsksStack, HasHead, IsFormOf}
+use Rattle.run_asks.specs.Asking.{AsksStack, HasHead, IsFormOf}
+use Rattle.run_asks.specs.Parting.{CanBegin, CantBegin, Saves}
 use Rattle.ldecode.specs.Headline.{WorksOn}
-use Rattle.ldecode.specs.Parting.{CanBegin, CantBegin, Saves}
 use Rattle.ldecode.specs.Parts.{PartLists}
 use Rattle.ldecode.specs.declared.open_stack.Opened.{Opened}
 

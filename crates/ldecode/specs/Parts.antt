@@ -19,7 +19,7 @@ use Rattle.decoder_set.specs.Opening.{HasConsumed, setup_of}
 use Rattle.decoder_set.specs.Setups.{outs_of}
 use Rattle.decoder_set.specs.declared.setup.Setup.{Setup}
 use Rattle.stack_words.specs.Accepting.{Accepted}
-use Rattle.ldecode.specs.Parting.{Saves, most_samples, places_of}
+use Rattle.run_asks.specs.Parting.{Saves, most_samples, places_of}
 
 -- what a stack is to write of what samples add to earlier ones
 abbrev pub part_listing : Accepted → List (Node Setup) → List ℕ → List ℕ → List ℕ

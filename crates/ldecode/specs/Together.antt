@@ -9,8 +9,8 @@ use Rattle.note_lister.specs.Lines.{note_lines}
 use Rattle.note_order.specs.Order.{in_order}
 use Rattle.note_order.specs.declared.entry.Entry.{Entry}
 use Rattle.stack_words.specs.Accepting.{Accepted}
+use Rattle.run_asks.specs.Parting.{Saves}
 use Rattle.ldecode.specs.Decoding.{decode_notes}
-use Rattle.ldecode.specs.Parting.{Saves}
 use Rattle.ldecode.specs.Parts.{CameBefore, IsCheckAt, WritesAll, part_listing}
 
 -- a run over a part: its samples, the lines that it wrote of them, and the word behind these

@@ -21,11 +21,12 @@ use Rattle.run_status.specs.declared.outcome.Outcome.{Outcome}
 use Rattle.run_status.specs.declared.status.Status.{Status}
 use Rattle.run_status.specs.declared.status.Status.TheVariants.{Done, Words, Stack, Bind, ReadFault}
 use Rattle.run_status.specs.declared.status.Status.TheVariants.{Check, Capture, WriteFault, NoMemory}
-use Rattle.ldecode.specs.Asking.{lists_notes}
+use Rattle.run_asks.specs.Asking.{lists_notes}
+use Rattle.run_asks.specs.Refusing.{Refuses}
+use Rattle.run_asks.specs.Parting.{Saves}
 use Rattle.ldecode.specs.Decoding.{decode_listing, decode_notes}
-use Rattle.ldecode.specs.Headline.{DecodedAs, DoesOn, HasNotes, IsWatched, Promises, Refuses}
+use Rattle.ldecode.specs.Headline.{DecodedAs, DoesOn, HasNotes, IsWatched, Promises}
 use Rattle.ldecode.specs.Headline.{RunTells, Saw, Stream}
-use Rattle.ldecode.specs.Parting.{Saves}
 
 -- the listing of a stack was written, and its notes were seen; or a front of it, and the first of
 -- them

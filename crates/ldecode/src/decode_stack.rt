@@ -4,7 +4,7 @@ ghost use Rattle.words.specs.Settings.{meaning_of};
 ghost use Rattle.words.specs.declared.kinds.Job.TheVariants.{Decode};
 ghost use Rattle.run_status.specs.Causes.{HasCauses};
 ghost use Rattle.run_status.specs.Notices.{status_by};
-ghost use Rattle.ldecode.specs.Asking.{NamesNoHead};
+ghost use Rattle.run_asks.specs.Asking.{NamesNoHead};
 ghost use Rattle.ldecode.specs.Calls.{AreRead, DecodesAs};
 
 use crate::open_stack::{Opened, open_stack};

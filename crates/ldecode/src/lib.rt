@@ -1,15 +1,12 @@
 //! `ldecode`: decodes recorded logic captures.
 #![tactic(auto)]
 
-mod alternatives;
 mod decode_stack;
-mod form;
 mod laws;
 mod note_count;
 mod open_stack;
 mod part;
 mod part_status;
-mod search;
 mod shelve_stack;
 mod view_stack;
 mod whole;

@@ -8,10 +8,10 @@ ghost use Rattle.stack_words.specs.Stacks.{instances_in};
 ghost use Rattle.words.specs.Settings.{meaning_of};
 ghost use Rattle.words.specs.declared.kinds.Job.TheVariants.{Part};
 ghost use Rattle.run_status.specs.Causes.{HasCauses};
-ghost use Rattle.ldecode.specs.Asking.{NamesNoHead};
+ghost use Rattle.run_asks.specs.Asking.{NamesNoHead};
+ghost use Rattle.run_asks.specs.Parting.{Begun, CanBegin, CantBegin};
 ghost use Rattle.ldecode.specs.Calls.{AreRead};
 ghost use Rattle.ldecode.specs.Headline.{WorksOn};
-ghost use Rattle.ldecode.specs.Parting.{Begun, CanBegin, CantBegin};
 
 use crate::open_stack::{Opened, open_stack};
 use crate::part_status::status_of_part;

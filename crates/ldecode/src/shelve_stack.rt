@@ -5,9 +5,9 @@ ghost use Rattle.view_store.specs.Views.{pending, published, shelf_of};
 ghost use Rattle.words.specs.Settings.{meaning_of};
 ghost use Rattle.words.specs.declared.kinds.Job.TheVariants.{Decode};
 ghost use Rattle.shelf_watch.specs.Watches.{shelf_ref};
-ghost use Rattle.ldecode.specs.Asking.{NamesNoHead, lists_notes};
-ghost use Rattle.ldecode.specs.Calls.{AreRead};
 ghost use Rattle.run_status.specs.Causes.{HasCauses};
+ghost use Rattle.run_asks.specs.Asking.{NamesNoHead, lists_notes};
+ghost use Rattle.ldecode.specs.Calls.{AreRead};
 ghost use Rattle.ldecode.specs.Watching.{EndsShelf, ShelvesOn};
 
 use crate::decode_stack::{decode_stack, decode_stack_in_threads, in_threads};

@@ -5,9 +5,9 @@ ghost use Rattle.view_store.specs.Listings.{nothing};
 ghost use Rattle.view_store.specs.Views.{pending, published, reader_shelf, shelf_of};
 ghost use Rattle.words.specs.Settings.{meaning_of};
 ghost use Rattle.words.specs.declared.kinds.Job.TheVariants.{Decode};
-ghost use Rattle.ldecode.specs.Asking.{NamesNoHead};
-ghost use Rattle.ldecode.specs.Calls.{AreRead};
 ghost use Rattle.run_status.specs.Causes.{HasCauses};
+ghost use Rattle.run_asks.specs.Asking.{NamesNoHead};
+ghost use Rattle.ldecode.specs.Calls.{AreRead};
 ghost use Rattle.ldecode.specs.Headline.{IsWatched};
 ghost use Rattle.ldecode.specs.Watching.{ShelvesOn, ViewsOn};
 

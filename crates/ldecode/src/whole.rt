@@ -5,7 +5,7 @@ ghost use Rattle.view_store.specs.Listings.{nothing};
 ghost use Rattle.view_store.specs.Views.{pending, published, shelf_of};
 ghost use Rattle.run_status.specs.Causes.{HasCauses};
 ghost use Rattle.run_status.specs.Notices.{line_of, status_at_words};
-ghost use Rattle.ldecode.specs.Asking.{ListsNotes, NamesNoHead};
+ghost use Rattle.run_asks.specs.Asking.{ListsNotes, NamesNoHead};
 ghost use Rattle.ldecode.specs.Headline.{Good, Headline, IsMade, Notified, stream};
 ghost use Rattle.ldecode.specs.Watching.{RunsShelved, RunsViewed, WatchedHeadline};
 

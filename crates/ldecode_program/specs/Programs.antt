@@ -5,8 +5,8 @@ use Rattle.la_io.specs.Causes.{AppendsFront}
 use Rattle.run_status.specs.Notices.{code_of}
 use Rattle.run_status.specs.declared.status.Status.{Status}
 use Rattle.run_status.specs.declared.status.Status.TheVariants as status
+use Rattle.run_asks.specs.Parting.{Saves}
 use Rattle.ldecode.specs.Headline.{DidFail, Headline, Stream}
-use Rattle.ldecode.specs.Parting.{Saves}
 use Rattle.ldecode_program.specs.declared.request.Request.{Request}
 use Rattle.ldecode_program.specs.declared.request.Request.TheVariants.{Help, Version, Run}
 

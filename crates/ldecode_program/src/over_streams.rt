@@ -3,12 +3,12 @@ ghost use Rattle.std.specs.Prelude.{◌≡◌, map};
 ghost use Rattle.std.specs.String.{string_bytes};
 ghost use Rattle.kind_table.specs.declared.table.TheConstants.{KINDS};
 ghost use Rattle.words.specs.declared.options.TheConstants.{OPTIONS};
-ghost use Rattle.ldecode.specs.Headline.{stream};
 ghost use Rattle.help_text.specs.Help.{IsHelp};
-ghost use Rattle.ldecode_program.specs.Programs.{ProgramDoes, MadeWritten, TextWritten};
-ghost use Rattle.ldecode_program.specs.Requests.{requested};
 ghost use Rattle.help_text.specs.declared.help.TheConstants.{CLOSING, DECODERS, USAGE};
 ghost use Rattle.help_text.specs.declared.help.TheConstants.{VERSION};
+ghost use Rattle.ldecode.specs.Headline.{stream};
+ghost use Rattle.ldecode_program.specs.Programs.{ProgramDoes, MadeWritten, TextWritten};
+ghost use Rattle.ldecode_program.specs.Requests.{requested};
 
 use crate::request::{Request, request_of};
 use decoder_core::Keep;

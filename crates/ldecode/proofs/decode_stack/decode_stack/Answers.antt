@@ -1,6 +1,6 @@
 use Rattle.std.proofs.Common.{◌≡◌}
 use Rattle.words.specs.Settings.{meaning_of}
-use Rattle.ldecode.specs.Asking.{NamesNoHead}
+use Rattle.run_asks.specs.Asking.{NamesNoHead}
 use Rattle.ldecode.specs.Watching.{IsSeen, IsSeenFront}
 use Rattle.ldecode.proofs.Decoding.{decoded_of}
 use Rattle.ldecode.proofs.Working.{sink_cause, source_cause, unread_at_end}

@@ -9,14 +9,15 @@ use Rattle.cond_words.specs.declared.faults.BindError.{BindError}
 use Rattle.cond_words.specs.declared.faults.BindError.TheVariants.{Fault}
 use Rattle.words.specs.Settings.{meaning_of}
 use Rattle.capture_any.specs.declared.form.Form.{Form}
-use Rattle.run_status.specs.declared.status.Status.TheVariants.{Bind}
-use Rattle.ldecode.specs.Asking.{AsksStack, HasHead, IsFormOf, nodes_of, setups_in}
 use Rattle.decoder_set.specs.Opening.{setup_of}
 use Rattle.tree_runs.specs.Runs.{nodes_of as tree_nodes}
-use Rattle.ldecode.specs.Headline.{RefusesOn}
+use Rattle.run_status.specs.declared.status.Status.TheVariants.{Bind}
+use Rattle.run_asks.specs.Asking.{AsksStack, HasHead, IsFormOf, nodes_of, setups_in}
+use Rattle.run_asks.specs.Refusing.{RefusesOn}
+use Rattle.run_asks.proofs.Opening.{binding_fails, no_room, no_room_to_bind, opening_fails}
+use Rattle.run_asks.proofs.Forms.{no_head_here}
 use Rattle.ldecode.proofs.Stacked.{as_many_machines, as_many_parents, asked_setups, bound_nodes, stack_asks, stack_forest, stack_refused, the_stack}
 use Rattle.ldecode.proofs.Opened.{parts_on, refuses_on}
-use Rattle.ldecode.proofs.Working.{binding_fails, no_head_here, no_room, no_room_to_bind, opening_fails}
 use Rattle.ldecode.proofs.open_stack.open_stack.Goals as goal
 
 pub returns-in-Err-NoMemory-clause-refuses : goal.returns-in-Err-NoMemory-clause-refuses

@@ -2,7 +2,7 @@ use Rattle.std.proofs.Common.{◌≡◌, ◌≤◌, ◌∙◌, Some, length, map
 use Rattle.std.specs.String.{string_bytes}
 use Rattle.decoder_set.specs.Opening.{setup_of}
 use Rattle.stack_words.specs.Stacks.{instances_in}
-use Rattle.ldecode.specs.Parting.{places_of}
+use Rattle.run_asks.specs.Parting.{places_of}
 use Rattle.ldecode.proofs.Begun.{as_many_setups, asked_begins, asked_begun, asked_refuses, places_same}
 use Rattle.ldecode.proofs.part.begin.Goals as goal
 

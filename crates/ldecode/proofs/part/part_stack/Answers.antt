@@ -3,8 +3,8 @@ use Rattle.decoder_set.specs.Opening.{setup_of}
 use Rattle.decoder_set.specs.declared.any.AnyDecoder.{AnyDecoder}
 use Rattle.stack_words.specs.Stacks.{instances_in}
 use Rattle.words.specs.Settings.{meaning_of}
+use Rattle.run_asks.specs.Parting.{places_of}
 use Rattle.ldecode.specs.Headline.{WorksOn}
-use Rattle.ldecode.specs.Parting.{places_of}
 use Rattle.ldecode.proofs.Begun.{places_same}
 use Rattle.ldecode.proofs.Opened.{part_comes_by, seen_text}
 use Rattle.ldecode.proofs.Working.{works_refused}

@@ -5,7 +5,7 @@ use Rattle.view_store.specs.Views.{pending, published, shelf_of}
 use Rattle.view_store.specs.declared.views.ViewWriter.{ViewWriter}
 use Rattle.run_status.specs.Causes.{HasCauses}
 use Rattle.run_status.specs.declared.status.Status.{Status}
-use Rattle.ldecode.specs.Asking.{NamesNoHead}
+use Rattle.run_asks.specs.Asking.{NamesNoHead}
 use Rattle.ldecode.specs.Watching.{EndsShelf, ShelvesOn}
 use Rattle.ldecode.proofs.Shelving.{none_seen, shelf_sink, shelf_source, shelf_unread, shelved, some_seen}
 use Rattle.ldecode.proofs.shelve_stack.shelve_here.Goals as goal

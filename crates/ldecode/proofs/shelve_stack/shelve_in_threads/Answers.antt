@@ -3,7 +3,7 @@ use Rattle.words.specs.Settings.{meaning_of}
 use Rattle.shelf_watch.specs.Watches.{Saw, lent_ref, shelf_ref}
 use Rattle.view_store.specs.Views.{pending, published, shelf_of}
 use Rattle.view_store.specs.declared.views.ViewWriter.{ViewWriter}
-use Rattle.ldecode.specs.Asking.{NamesNoHead}
+use Rattle.run_asks.specs.Asking.{NamesNoHead}
 use Rattle.run_status.specs.Causes.{HasCauses}
 use Rattle.ldecode.specs.Watching.{EndsShelf, ShelvesOn}
 use Rattle.run_status.specs.declared.status.Status.{Status}

@@ -1,7 +1,8 @@
 use Rattle.std.proofs.Common.{ap}
 use Rattle.words.specs.Settings.{meaning_of}
-use Rattle.ldecode.specs.Asking.{is_decode}
+use Rattle.run_asks.specs.Asking.{is_decode}
 use Rattle.ldecode.proofs.Running.{does_make, does_work, not_watched, unseen_is}
+use Rattle.ldecode.proofs.Working.{works_searched}
 use Rattle.ldecode.proofs.work.work_as_asked.Goals as goal
 
 pub returns-in-Find-clause-views : goal.returns-in-Find-clause-views
@@ -11,7 +12,7 @@ returns-in-Find-clause-views g c =
     let left_new = g.S.Source.left c.search.new.source in
     let old = g.K.Sink.written c.args.sink.now in
     let new = g.K.Sink.written c.search.new.sink in
-    unseen_is _ values (not_watched values (ap is_decode c.in-Find.is)) left_old left_new old new c.search.result (does_work _ values left_old left_new old new c.search.result c.search.ensures.works) c.unseen.result c.unseen.ensures
+    unseen_is _ values (not_watched values (ap is_decode c.in-Find.is)) left_old left_new old new c.search.result (does_work _ values left_old left_new old new c.search.result (works_searched _ values left_old left_new old new c.search.result c.search.ensures.searches)) c.unseen.result c.unseen.ensures
 
 pub returns-in-Part-clause-views : goal.returns-in-Part-clause-views
 returns-in-Part-clause-views g c =

@@ -17,12 +17,12 @@ use Rattle.check_point.specs.declared.faults.CheckFault.{CheckFault}
 use Rattle.stack_spec.specs.Binding as binding
 use Rattle.stack_spec.specs.Binding.{BoundInstance}
 use Rattle.decoder_set.specs.declared.setup.Setup.{Setup}
-use Rattle.ldecode.specs.Asking.{CanBind, CannotBind, CheckRefused, EndsAs, GoesPast, HasHead, HasStack, HasStackFault, HeadIs, AllBound, IsFormOf, IsJudged, SearchBound, SearchRefused, StackBound, StackRefused, StaysWithin, bind_all, part_samples}
-use Rattle.ldecode.specs.Parting.{CanBegin, CantBegin, Saves}
-use Rattle.ldecode.proofs.Begun.{can_or_cant, one_beginning, one_cant}
-use Rattle.ldecode.proofs.Asked.{one_search}
-use Rattle.ldecode.proofs.Stacked.{one_stack}
-use Rattle.ldecode.proofs.Working.{one_form, one_head, one_rate}
+use Rattle.run_asks.specs.Asking.{CanBind, CannotBind, CheckRefused, EndsAs, GoesPast, HasHead, HasStack, HasStackFault, HeadIs, AllBound, IsFormOf, IsJudged, SearchBound, SearchRefused, StackBound, StackRefused, StaysWithin, bind_all, part_samples}
+use Rattle.run_asks.specs.Parting.{CanBegin, CantBegin, Saves}
+use Rattle.run_asks.proofs.OneBeginning.{can_or_cant, one_beginning, one_cant}
+use Rattle.run_asks.proofs.OneAsked.{one_search}
+use Rattle.run_asks.proofs.OneAsked.{one_stack}
+use Rattle.run_asks.proofs.Forms.{one_form, one_head, one_rate}
 
 module _ (saves : Saves) (values : Values) where
   one_job : values.job ≡ Find → HasStack values.job → ⊥

@@ -2,7 +2,7 @@
 ghost use Rattle.std.specs.Prelude.{◌≡◌};
 ghost use Rattle.capture_any.specs.Captures.{IsForm};
 ghost use Rattle.words.specs.Settings.{meaning_of};
-ghost use Rattle.ldecode.specs.Asking.{IsFormOf};
+ghost use Rattle.run_asks.specs.Asking.{IsFormOf};
 
 use capture_any::Form;
 use words::{Format, Settings};

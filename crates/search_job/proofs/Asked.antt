@@ -1,5 +1,5 @@
 -- What the settings of a search ask for.
-use Rattle.std.proofs.Common.{◌≡◌, ℕ, ◌⊎◌, inl, List, [], ◌∷◌, map, All, Result, Ok, Err, refl, sym, ◌∙◌, ap, arith, suc}
+use Rattle.std.proofs.Common.{◌≡◌, ℕ, ◌⊎◌, inl, List, [], ◌∷◌, map, All, Result, Ok, Err, refl, ◌∙◌, ap, arith, suc}
 use Rattle.std.specs.Prelude.{IsOk}
 use Rattle.std.specs.String.{string_bytes}
 use Rattle.la_base.specs.declared.samples.Rate.{Rate}
@@ -13,8 +13,8 @@ use Rattle.words.specs.Settings.{Values, meaning_of}
 use Rattle.words.specs.declared.kinds.Job.TheVariants.{Find}
 use Rattle.words.specs.declared.settings.Settings.{Settings}
 use Rattle.cond_words.specs.declared.faults.BindFault.{BindFault}
-use Rattle.ldecode.specs.Asking.{AsksFor, SearchRefused, Searches, StackRefused, bind_all}
-use Rattle.ldecode.specs.Chosen.{AreTerms, Chosen}
+use Rattle.run_asks.specs.Asking.{AsksFor, SearchRefused, Searches, StackRefused, bind_all}
+use Rattle.search_job.specs.Chosen.{AreTerms, Chosen}
 
 -- alternatives that can be read have terms
 terms_exist : (chains : List ChainWord) → All (λ chain. IsOk (terms_of (string_bytes chain.text))) chains → (alternatives : List (List Meaning)) × AreTerms chains alternatives
@@ -28,21 +28,6 @@ terms_exist (c ∷ chains) good = by (terms_of (string_bytes c.text)) refl (good
 terms_same : (chains : List ChainWord) → map (λ (chain : WordText). terms_of chain.text) (map chain_of chains) ≡ map (λ (chain : ChainWord). terms_of (string_bytes chain.text)) chains
 terms_same [] = refl
 terms_same (c ∷ chains) = ap (λ rest. terms_of (string_bytes c.text) ∷ rest) (terms_same chains)
-
-abbrev goods : List (List Meaning) → List (Result (List Meaning) CondFault)
-goods alternatives = map (λ terms. Ok terms) alternatives
-
-oks_same : (xs ys : List (List Meaning)) → goods xs ≡ goods ys → xs ≡ ys
-oks_same [] [] e = refl
-oks_same [] (y ∷ ys) e = cc
-oks_same (x ∷ xs) [] e = cc
-oks_same (x ∷ xs) (y ∷ ys) e =
-    let heads : x ≡ y = cc in
-    let tails : goods xs ≡ goods ys = cc in
-    λ i. heads i ∷ oks_same xs ys tails i
-
-pub one_search : (values : Values) (some others : List (List Meaning)) → Searches values some → Searches values others → some ≡ others
-one_search values some others a b = oks_same some others (sym a.terms ∙ b.terms)
 
 -- a search has terms
 pub the_search : (settings : Settings) → settings.job ≡ Find → All (λ chain. IsOk (terms_of (string_bytes chain.text))) settings.chains.items

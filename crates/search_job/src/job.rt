@@ -4,17 +4,15 @@ ghost use Rattle.words.specs.Readable.{IsReadable};
 ghost use Rattle.words.specs.Settings.{meaning_of};
 ghost use Rattle.words.specs.declared.kinds.Job.TheVariants.{Find};
 ghost use Rattle.run_status.specs.Causes.{HasCauses};
-ghost use Rattle.ldecode.specs.Asking.{NamesNoHead};
-ghost use Rattle.ldecode.specs.Headline.{WorksOn};
+ghost use Rattle.run_asks.specs.Asking.{NamesNoHead};
+ghost use Rattle.search_job.specs.Searching.{SearchesOn};
 
 use crate::alternatives::bind_words;
-use crate::form::form_of;
 use capture_any::Capture;
 use cond_words::BindError;
-use decoder_core::Keep;
-use decoder_set::AnyDecoder;
 use find_job::find_buffered;
 use la_io::{Sink, Source};
+use run_asks::form_of;
 use run_status::{Status, status_at_head};
 use std::alloc::Global;
 use words::Settings;
@@ -28,8 +26,8 @@ pub fn search<S: Source, K: Sink>(
 ) -> Status
     requires job { settings.now.job ≡ Find }
     requires readable { IsReadable Find settings.now.chains.items }
-    ensures works { WorksOn ⟦<AnyDecoder as Keep>⟧.saves (meaning_of settings.now)
-        (S.left source.old) (S.left source.new) (K.written sink.old) (K.written sink.new) result }
+    ensures searches { SearchesOn (meaning_of settings.now) (S.left source.old) (S.left source.new)
+        (K.written sink.old) (K.written sink.new) result }
     ensures causes { HasCauses (NamesNoHead (meaning_of settings.now)) (source.new ≡ source.old)
         (S.faults source.old) (S.faults source.new) (K.faults sink.old) (K.faults sink.new)
         result }

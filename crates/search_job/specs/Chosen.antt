@@ -10,8 +10,8 @@ use Rattle.cond_words.specs.Words.{Meaning}
 use Rattle.wait_cond.specs.declared.alt.Alt.{Alt}
 use Rattle.cond_words.specs.declared.faults.BindError.{BindError}
 use Rattle.cond_words.specs.declared.faults.BindError.TheVariants.{Fault, NoMemory}
-use Rattle.ldecode.specs.Asking.{EachAsks, bind_all, in_entry, search_pins}
-use Rattle.ldecode.specs.declared.alternatives.Wanted.{Wanted}
+use Rattle.run_asks.specs.Asking.{EachAsks, bind_all, in_entry, search_pins}
+use Rattle.search_job.specs.declared.alternatives.Wanted.{Wanted}
 
 -- these are the terms of the alternatives
 abbrev pub AreTerms : List ChainWord → List (List Meaning) → Type 0

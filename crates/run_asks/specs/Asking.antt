@@ -30,7 +30,7 @@ use Rattle.cond_words.specs.declared.faults.BindFault.{BindFault}
 use Rattle.stack_words.specs.declared.faults.StackFault.{StackFault}
 use Rattle.decoder_core.specs.Trees.{Node}
 use Rattle.decoder_set.specs.declared.setup.Setup.{Setup}
-use Rattle.ldecode.specs.Parting.{CanBegin, CantBegin, Saves, most_samples}
+use Rattle.run_asks.specs.Parting.{CanBegin, CantBegin, Saves, most_samples}
 
 -- the values name this form of capture
 abbrev pub IsFormOf : Values → Form → Type 0

@@ -13,8 +13,8 @@ use Rattle.cond_words.specs.declared.faults.ItemFault.{ItemFault}
 use Rattle.cond_words.specs.declared.faults.BindError.{BindError}
 use Rattle.cond_words.specs.declared.faults.BindError.TheVariants.{Fault, NoMemory}
 use Rattle.cond_words.specs.declared.faults.BindFault.{BindFault}
-use Rattle.ldecode.specs.Asking.{EachAsks, bind_all, in_entry, search_pins}
-use Rattle.ldecode.specs.Chosen.{AreTerms, Chooses, ChoosesOne, Chosen}
+use Rattle.run_asks.specs.Asking.{EachAsks, bind_all, in_entry, search_pins}
+use Rattle.search_job.specs.Chosen.{AreTerms, Chooses, ChoosesOne, Chosen}
 
 -- what was bound before what is read
 abbrev behind : List (List Bound) → Result (List (List Bound)) BindFault → Result (List (List Bound)) BindFault

@@ -2,9 +2,9 @@ use Rattle.std.proofs.Common.{◌≡◌, List, length}
 use Rattle.cond_words.specs.Binding.{AllBelow, Distinct}
 use Rattle.wait_cond.specs.Conds.{cond_alts}
 use Rattle.cond_words.specs.Words.{Meaning}
-use Rattle.ldecode.specs.Chosen.{AreTerms}
-use Rattle.ldecode.proofs.Choosing.{ChosenSoFar}
-use Rattle.ldecode.proofs.alternatives.bind_words.Given as goal
+use Rattle.search_job.specs.Chosen.{AreTerms}
+use Rattle.search_job.proofs.Choosing.{ChosenSoFar}
+use Rattle.search_job.proofs.alternatives.bind_words.Given as goal
 
 abbrev pub invariant-loop-entry : goal.invariant-loop-entry
 invariant-loop-entry l = record {

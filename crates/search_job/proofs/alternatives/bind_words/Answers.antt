@@ -2,8 +2,8 @@ use Rattle.std.proofs.Common.{◌+◌, ◌<◌, ◌≤◌, ℕ, List, [], ◌∷
 use Rattle.std.proofs.lemmas.List.{length-append}
 use Rattle.wait_cond.specs.Conds.{cond_alts}
 use Rattle.wait_cond.specs.declared.alt.Alt.{Alt}
-use Rattle.ldecode.proofs.Choosing.{ChosenSoFar, choosing_stops, chosen_ends, chosen_more, chosen_nothing, no_more_terms, terms_at}
-use Rattle.ldecode.proofs.alternatives.bind_words.Goals as goal
+use Rattle.search_job.proofs.Choosing.{ChosenSoFar, choosing_stops, chosen_ends, chosen_more, chosen_nothing, no_more_terms, terms_at}
+use Rattle.search_job.proofs.alternatives.bind_words.Goals as goal
 
 pub returns-in-Err-clause-chooses : goal.returns-in-Err-clause-chooses
 returns-in-Err-clause-chooses c = λ alternatives are.

@@ -1,12 +1,12 @@
 // Binding the alternatives of a condition to channels.
-ghost use Rattle.std.specs.Prelude.{◌≡◌, ◌<◌, ◌≤◌, List, ℕ, [], length, All, IfOk, IsOk, Ok};
+ghost use Rattle.std.specs.Prelude.{◌≡◌, ◌<◌, ◌≤◌, List, ℕ, [], length, IfOk, IsOk, Ok};
 ghost use Rattle.std.specs.String.{string_bytes};
 ghost use Rattle.cond_words.specs.Binding.{AllBelow, Distinct};
 ghost use Rattle.cond_words.specs.Grammar.{terms_of};
 ghost use Rattle.cond_words.specs.Words.{Meaning};
 ghost use Rattle.words.specs.Readable.{IsReadable};
 ghost use Rattle.words.specs.declared.kinds.Job.TheVariants.{Find};
-ghost use Rattle.ldecode.specs.Chosen.{AreTerms, Chooses, ChoosesOne};
+ghost use Rattle.search_job.specs.Chosen.{AreTerms, Chooses, ChoosesOne};
 
 use cond_words::{BindError, BindFault, CondError, bind_alt, read_alt};
 use la_base::{Names, Pins};

@@ -1,0 +1,3 @@
+pub mod Parting
+pub mod Asking
+pub mod Refusing
