@@ -22,14 +22,14 @@ use Rattle.run_asks.specs.Refusing.{RefusesOn}
 use Rattle.run_asks.specs.Parting.{Saves}
 use Rattle.run_asks.proofs.Forms.{head_later}
 use Rattle.run_asks.proofs.Opening.{read_is_cut}
+use Rattle.stack_open.specs.Opening.{IsOpened}
+use Rattle.stack_open.specs.declared.opening.Opened.{Opened}
 use Rattle.ldecode.specs.Headline.{DecodesOn, IsBegun, IsListed, WorksOn}
-use Rattle.ldecode.specs.Opening.{IsOpened}
 use Rattle.ldecode.specs.Watching.{IsSeen, IsSeenFront, is_whole}
-use Rattle.ldecode.specs.declared.open_stack.Opened.{Opened}
 use Rattle.ldecode.proofs.Working.{worked, works_refused}
 
 -- a decoding of what was opened, told of a copy of its parents
-module _ (saves : Saves) (values : Values) (job : values.job ≡ Decode) (left_old left_now left_new : Option (List ℕ)) (opened : Opened) (is : IsOpened saves values left_old left_now opened) (Whole Front : Accepted → List (Node Setup) → List ℕ → Type 0) where
+module _ (values : Values) (job : values.job ≡ Decode) (left_old left_now left_new : Option (List ℕ)) (opened : Opened) (is : IsOpened values left_old left_now opened) (Whole Front : Accepted → List (Node Setup) → List ℕ → Type 0) where
   abbrev nodes_on : List (Option ℕ) → List (Node Setup)
   nodes_on parents = nodes_of (map setup_of opened.machines.items) parents
 

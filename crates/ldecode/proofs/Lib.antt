@@ -1,5 +1,4 @@
 pub mod Working
-pub mod Stacked
 pub mod Running
 pub mod Begun
 pub mod Headlines

@@ -1,14 +1,11 @@
 -- What comes of the decoding of a part.
-use Rattle.std.proofs.Common.{◌≡◌, ◌<◌, ◌++◌, ℕ, List, [], map, length, arith, Option, Some, None, Ok, sym, ap, subst, ◌∙◌, Bor, String, Global}
+use Rattle.std.proofs.Common.{◌≡◌, ◌<◌, ◌++◌, ℕ, List, [], map, length, arith, Option, Some, None, sym, ap, subst, ◌∙◌, Bor, String, Global}
 use Rattle.std.specs.Prelude.{option_map}
 use Rattle.std.specs.Option.{option_copied}
 use Rattle.std.specs.String.{string_bytes}
 use Rattle.std.proofs.Math.Path.{transport}
-use Rattle.capture_any.specs.Captures.{IsForm}
-use Rattle.capture_any.specs.Reading.{Opens, form_of, names_of, pins_of, rate_of}
-use Rattle.capture_any.specs.declared.capture.Capture.{Capture}
+use Rattle.capture_any.specs.Reading.{form_of, pins_of}
 use Rattle.capture_any.specs.declared.end.ListingEnd.{ListingEnd}
-use Rattle.capture_any.specs.declared.form.Form.{Form}
 use Rattle.check_laws.specs.Resuming.{IsCheckOn}
 use Rattle.check_point.specs.declared.faults.CheckFault.{CheckFault}
 use Rattle.decoder_core.specs.Trees.{Node}
@@ -19,7 +16,6 @@ use Rattle.decoder_set.specs.declared.any.AnyDecoder.{AnyDecoder}
 use Rattle.decoder_set.specs.declared.setup.Setup.{Setup}
 use Rattle.tree_runs.specs.Machines.{Stand}
 use Rattle.tree_runs.specs.Runs.{StandOn, nodes_of}
-use Rattle.stack_words.specs.Accepting.{Accepted}
 use Rattle.stack_words.specs.Stacks.{stack_meaning}
 use Rattle.decode_job.specs.Listing.{tree_output_behind}
 use Rattle.decode_job.specs.Parting.{Behind, CutsCheck, PartLists as JobLists, WritesAll as JobAll, WritesCheck, WritesFront as JobFront, WritesUpTo, output_behind}
@@ -28,32 +24,32 @@ use Rattle.words.specs.Settings.{Values}
 use Rattle.words.specs.declared.kinds.Job.TheVariants.{Part}
 use Rattle.run_status.specs.Notices.{status_of}
 use Rattle.run_status.specs.declared.status.Status.TheVariants.{Check}
-use Rattle.run_asks.specs.Asking.{AsksStack, IsFormOf, IsJudged, StackBound, setups_in}
 use Rattle.run_asks.specs.Parting.{Begun, CanBegin, CantBegin, Saves, places_of}
+use Rattle.stack_open.specs.Opening.{IsOpened}
+use Rattle.stack_open.specs.declared.opening.Opened.{Opened}
 use Rattle.ldecode.specs.Headline.{WorksOn}
 use Rattle.ldecode.specs.PartStatus.{end_of_part}
-use Rattle.ldecode.specs.Opening.{IsOpened}
 use Rattle.ldecode.specs.Parts.{CameBefore, IsCheckAt, PartLists, parents_on, part_listing, setups_on}
-use Rattle.ldecode.specs.declared.open_stack.Opened.{Opened}
 use Rattle.ldecode.proofs.Begun.{begun_behind, begun_few, begun_setups, parents_of_nodes, setups_of_nodes}
 use Rattle.ldecode.proofs.PartTold.{part_ended, part_wrote}
 use Rattle.ldecode.proofs.Working.{checking_fails, part_ends}
 use Rattle.std.proofs.lemmas.List.{length-map}
 
--- a part at a capture behind its head, whose decoders have these setups
-module _ (saves : Saves) (values : Values) (form : Form) (named : IsFormOf values form) (judged : IsJudged values) (left_old left_mid old : Option (List ℕ)) (capture : Capture) (opens : Opens form left_old left_mid (Ok capture)) (setups : List Setup) where
+-- a part of what was opened
+module _ (saves : Saves) (values : Values) (left_old left_now : Option (List ℕ)) (opened : Opened) (is : IsOpened values left_old left_now opened) (job : values.job ≡ Part) where
   -- its checkpoint is refused
-  pub refuses_on : (stack : StackBound values (names_of capture) (rate_of capture)) → setups ≡ setups_in stack → values.job ≡ Part → (fault : CheckFault) → CantBegin saves setups values.from fault → WorksOn saves values left_old left_mid old old (Check fault)
-  refuses_on stack same job fault cant =
-      checking_fails saves values form named judged left_old left_mid old capture opens fault (record { job = job; stack = stack; refused = subst (λ (l : List Setup). CantBegin saves l values.from fault) same cant })
+  pub refuses_on : (written : Option (List ℕ)) (fault : CheckFault) → CantBegin saves (map setup_of opened.machines.items) values.from fault → WorksOn saves values left_old left_now written written (Check fault)
+  refuses_on written fault cant =
+      checking_fails saves values (form_of opened.capture) is.form_is left_old left_now written is.bytes is.told is.taken is.at is.names is.rate is.head fault
+      (record { job = job; stack = is.asks.stack; refused = subst (λ (l : List Setup). CantBegin saves l values.from fault) is.setups cant })
 
   -- it came to its end
-  pub parts_on : (now : Capture) (pins : List ℕ) → form_of now ≡ form → pins_of now ≡ pins → (left_new new : Option (List ℕ)) → IsForm form → values.job ≡ Part → (accepted : Accepted) (nodes tree : List (Node Setup)) → tree ≡ nodes
-      → (asks : AsksStack values (names_of capture) (rate_of capture) pins accepted nodes) → setups ≡ setups_in asks.stack → (count : ℕ) → CanBegin saves setups values.from count → (end : ListingEnd)
-      → PartLists saves accepted tree values.from count (form_of now) (pins_of now) opens.bytes opens.opened.0 left_mid left_new old new end → WorksOn saves values left_old left_new old new (status_of end)
-  parts_on now pins form_stays pins_are left_new new fits job accepted nodes tree same_tree asks same count can end lists =
-      part_ends saves values form named judged left_old left_mid old capture opens now pins form_stays pins_are left_new new fits job accepted nodes asks count (subst (λ (l : List Setup). CanBegin saves l values.from count) same can) end
-      (subst (λ (t : List (Node Setup)). PartLists saves accepted t values.from count (form_of now) (pins_of now) opens.bytes opens.opened.0 left_mid left_new old new end) same_tree lists)
+  parts_on : (count : ℕ) → CanBegin saves (map setup_of opened.machines.items) values.from count → (left_new old new : Option (List ℕ)) (end : ListingEnd)
+      → PartLists saves (stack_meaning opened.stack) (nodes_of (map setup_of opened.machines.items) opened.parents.items) values.from count (form_of opened.capture) (pins_of opened.capture) is.bytes is.told left_now left_new old new end
+      → WorksOn saves values left_old left_new old new (status_of end)
+  parts_on count can left_new old new end lists =
+      part_ends saves values (form_of opened.capture) is.form_is left_old left_now old is.bytes is.told is.taken is.at is.names is.rate is.head (pins_of opened.capture) left_new new is.fits job (stack_meaning opened.stack)
+      (nodes_of (map setup_of opened.machines.items) opened.parents.items) is.asks count (subst (λ (l : List Setup). CanBegin saves l values.from count) is.setups can) end lists
 
 -- a checkpoint's text, as the code hands it on
 pub seen_text : (seen : Option (Bor (String Global))) (kept : Option (String Global)) → option_copied seen ≡ kept → option_map (λ (text : Bor (String Global)). string_bytes text.now) seen ≡ option_map string_bytes kept
@@ -61,7 +57,7 @@ seen_text None kept is = ap (option_map string_bytes) is
 seen_text (Some text) kept is = ap (option_map string_bytes) is
 
 -- a part of decoders that went on from those that were opened came to its end
-module _ (saves : Saves) (values : Values) (job : values.job ≡ Part) (left_old left_now left_new old new : Option (List ℕ)) (opened : Opened) (is : IsOpened saves values left_old left_now opened)
+module _ (saves : Saves) (values : Values) (job : values.job ≡ Part) (left_old left_now left_new old new : Option (List ℕ)) (opened : Opened) (is : IsOpened values left_old left_now opened)
     (m : MachineGhosts AnyDecoder Setup) (outs : m.outputs ≡ outs_of) (setup : m.setup ≡ setup_of) (consumed : m.consumed ≡ HasConsumed) (asked : Option (List ℕ)) (same_text : asked ≡ values.from) (now : List AnyDecoder) (count : ℕ)
     (kinds : List ℕ) (kinds_are : kinds ≡ places_of (map setup_of opened.machines.items)) (begun : Begun saves opened.machines.items now asked count) (can : CanBegin saves (map setup_of opened.machines.items) asked count) where
   abbrev parents : List (Option ℕ)
@@ -107,7 +103,7 @@ module _ (saves : Saves) (values : Values) (job : values.job ≡ Part) (left_old
       (form_of opened.capture) (pins_of opened.capture) is.bytes is.told left_now left_new end → WorksOn saves values left_old left_new old new (status_of (end_of_part end))
   part_comes fresh end lists =
       let few = begun_few saves opened.machines.items now parents is.each values.from count begun_here in
-      is.parts job count (subst (λ (from : Option (List ℕ)). CanBegin saves was from count) same_text can) left_new old new (end_of_part end)
+      parts_on saves values left_old left_now opened is job count (subst (λ (from : Option (List ℕ)). CanBegin saves was from count) same_text can) left_new old new (end_of_part end)
       (record {
         bytes = lists.bytes;
         told = lists.told;
@@ -120,7 +116,7 @@ module _ (saves : Saves) (values : Values) (job : values.job ≡ Part) (left_old
       })
 
 -- the same by other names of the decoders and their parents, with the law of decoders that are new
-pub part_comes_by : (saves : Saves) (values : Values) (job : values.job ≡ Part) (left_old left_now left_new old new : Option (List ℕ)) (opened : Opened) (is : IsOpened saves values left_old left_now opened)
+pub part_comes_by : (saves : Saves) (values : Values) (job : values.job ≡ Part) (left_old left_now left_new old new : Option (List ℕ)) (opened : Opened) (is : IsOpened values left_old left_now opened)
     (m : MachineGhosts AnyDecoder Setup) (outs : m.outputs ≡ outs_of) (setup : m.setup ≡ setup_of) (consumed : m.consumed ≡ HasConsumed) (asked : Option (List ℕ)) (same_text : asked ≡ values.from) (now : List AnyDecoder) (count : ℕ) (kinds : List ℕ)
     (decoders : List AnyDecoder) (decoders_are : decoders ≡ opened.machines.items) (parents : List (Option ℕ)) (parents_are : parents ≡ opened.parents.items) (kinds_are : kinds ≡ places_of (map setup_of decoders))
     (begun : Begun saves decoders now asked count) (can : CanBegin saves (map setup_of decoders) asked count)

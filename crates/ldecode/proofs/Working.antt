@@ -1,15 +1,14 @@
 -- What a run's status says, from what its parts say.
-use Rattle.std.proofs.Common.{◌≡◌, ℕ, inl, inr, List, [], ◌++◌, Option, Ok, Err, refl, sym, subst, arith}
+use Rattle.std.proofs.Common.{◌≡◌, ℕ, inl, inr, List, [], ◌++◌, Option, Err, refl, sym, subst, arith}
 use Rattle.std.proofs.KnownBytes.{Consumes-trans}
+use Rattle.la_base.specs.declared.samples.Rate.{Rate}
 use Rattle.la_io.specs.Capture.{Told, Cut}
 use Rattle.la_io.specs.Grown.{appends_nothing}
 use Rattle.la_io.specs.declared.fault.CaptureError.{CaptureError}
 use Rattle.la_io.specs.declared.fault.CaptureError.TheVariants as error
-use Rattle.capture_any.specs.Captures.{IsForm, Later}
+use Rattle.capture_any.specs.Captures.{IsForm, ToldAt}
 use Rattle.capture_any.specs.Listings.{ReadCause, WriteCause}
-use Rattle.capture_any.specs.Reading.{Opens, form_of as capture_form, names_of, pins_of, rate_of}
 use Rattle.la_io.specs.Reading.{CaptureCause}
-use Rattle.capture_any.specs.declared.capture.Capture.{Capture}
 use Rattle.capture_any.specs.declared.end.ListingEnd.{ListingEnd}
 use Rattle.capture_any.specs.declared.end.ListingEnd.TheVariants as ends
 use Rattle.capture_any.specs.declared.form.Form.{Form}
@@ -18,8 +17,7 @@ use Rattle.words.specs.Settings.{Values}
 use Rattle.stack_words.specs.Accepting.{Accepted}
 use Rattle.check_point.specs.declared.faults.CheckFault.{CheckFault}
 use Rattle.words.specs.declared.kinds.Job.TheVariants.{Part}
-use Rattle.std.specs.Io.KnownBytes.{Appends}
-use Rattle.std.proofs.Math.Path.{transport}
+use Rattle.std.specs.Io.KnownBytes.{Appends, Consumes}
 use Rattle.decoder_core.specs.Trees.{Node}
 use Rattle.decoder_set.specs.declared.setup.Setup.{Setup}
 use Rattle.run_status.specs.Causes.{SinkCause, SourceCause, WhereUnread}
@@ -29,7 +27,7 @@ use Rattle.run_status.specs.declared.status.Status.TheVariants.{Bind, Capture as
 use Rattle.search_job.specs.Searching.{SearchTells, SearchesOn}
 use Rattle.run_asks.proofs.Opening.{read_is_cut}
 use Rattle.run_asks.proofs.Forms.{head_later}
-use Rattle.run_asks.specs.Asking.{AsksStack, HasHead, IsFormOf, IsJudged, PartRefused, setups_in}
+use Rattle.run_asks.specs.Asking.{AsksStack, HasHead, IsFormOf, PartRefused, setups_in}
 use Rattle.run_asks.specs.Refusing.{Refuses, RefusesOn}
 use Rattle.run_asks.specs.Parting.{CanBegin, Saves}
 use Rattle.ldecode.specs.Headline.{Worked, Works, WorksOn}
@@ -87,38 +85,29 @@ works_searched saves values left_old left_new old new status s = record {
         (λ read. read_is_cut d.head.form d.pins (λ samples. WholeListing samples d.alts old new) (λ samples. ListingFront samples d.alts old new) s.bytes s.told end read d.says) (inl d))
     by (inr (refuses, none)) = refused_works saves values s.bytes s.told old new none status refuses
 
-module _ (saves : Saves) (values : Values) (form : Form) (named : IsFormOf values form) (judged : IsJudged values) (left_old left_mid old : Option (List ℕ)) where
-  module _ (capture : Capture) (opens : Opens form left_old left_mid (Ok capture)) where
-    head_of : HasHead form opens.bytes opens.opened.0 (names_of capture) (rate_of capture)
-    head_of = opens.opened.3
+module _ (saves : Saves) (values : Values) (form : Form) (named : IsFormOf values form) (left_old left_mid old : Option (List ℕ)) (before : List ℕ) (then : Told) (taken : Consumes left_old left_mid before) (at : ToldAt then left_mid)
+    (names : List (List ℕ)) (rate : Rate) (head : HasHead form before then names rate) where
+  -- the checkpoint of a part is refused
+  pub checking_fails : (fault : CheckFault) → PartRefused saves values names rate fault → WorksOn saves values left_old left_mid old old (Check fault)
+  checking_fails fault refused = record {
+    bytes = before;
+    told = then;
+    taken = taken;
+    at_end = at;
+    works = (record { head = record { form = form; names = names; rate = rate; form_is = named; is = head }; refused = refused }, appends_nothing old);
+  }
 
-    -- the checkpoint of a part is refused
-    pub checking_fails : (fault : CheckFault) → PartRefused saves values (names_of capture) (rate_of capture) fault → WorksOn saves values left_old left_mid old old (Check fault)
-    checking_fails fault refused = record {
-      bytes = opens.bytes;
-      told = opens.opened.0;
-      taken = opens.consumed;
-      at_end = opens.opened.1;
-      works = (record { head = record { form = form; names = names_of capture; rate = rate_of capture; form_is = named; is = head_of }; refused = refused }, appends_nothing old);
-    }
-
-    module _ (now : Capture) (pins : List ℕ) (form_stays : capture_form now ≡ form) (pins_are : pins_of now ≡ pins) (left_new new : Option (List ℕ)) where
-      head_on : (bytes : List ℕ) (told : Told) → Later opens.opened.0 bytes told → HasHead form (opens.bytes ++ bytes) told (names_of capture) (rate_of capture)
-      head_on bytes told later = head_later form opens.bytes bytes opens.opened.0 told (names_of capture) (rate_of capture) later head_of
-
-      -- the decoding of a part came to its end
-      pub part_ends : IsForm form → values.job ≡ Part → (accepted : Accepted) (nodes : List (Node Setup)) (asks : AsksStack values (names_of capture) (rate_of capture) pins accepted nodes) (count : ℕ) → CanBegin saves (setups_in asks.stack) values.from count → (end : ListingEnd)
-          → PartLists saves accepted nodes values.from count (capture_form now) (pins_of now) opens.bytes opens.opened.0 left_mid left_new old new end → WorksOn saves values left_old left_new old new (status_of end)
-      part_ends fits job accepted nodes asks count begins end lists =
-          let l = transport (λ i. PartLists saves accepted nodes values.from count (form_stays i) (pins_are i) opens.bytes opens.opened.0 left_mid left_new old new end) lists in
-          record {
-            bytes = opens.bytes ++ l.bytes;
-            told = l.told;
-            taken = Consumes-trans left_old left_mid left_new opens.bytes l.bytes opens.consumed l.taken;
-            at_end = l.at_end;
-            works = worked saves values (opens.bytes ++ l.bytes) l.told old new end (part_is_cut form pins count (opens.bytes ++ l.bytes) l.told end l.ends)
-                (inr (inr (record { head = record { form = form; names = names_of capture; rate = rate_of capture; form_is = named; is = head_on l.bytes l.told l.later }; opens = fits; pins = pins; accepted = accepted; nodes = nodes; job = job; asks = asks; count = count; begins = begins; ends = l.ends; says = l.says })));
-          }
+  -- the decoding of a part came to its end
+  pub part_ends : (pins : List ℕ) (left_new new : Option (List ℕ)) → IsForm form → values.job ≡ Part → (accepted : Accepted) (nodes : List (Node Setup)) (asks : AsksStack values names rate pins accepted nodes) (count : ℕ) → CanBegin saves (setups_in asks.stack) values.from count → (end : ListingEnd)
+      → PartLists saves accepted nodes values.from count form pins before then left_mid left_new old new end → WorksOn saves values left_old left_new old new (status_of end)
+  part_ends pins left_new new fits job accepted nodes asks count begins end l = record {
+    bytes = before ++ l.bytes;
+    told = l.told;
+    taken = Consumes-trans left_old left_mid left_new before l.bytes taken l.taken;
+    at_end = l.at_end;
+    works = worked saves values (before ++ l.bytes) l.told old new end (part_is_cut form pins count (before ++ l.bytes) l.told end l.ends)
+        (inr (inr (record { head = record { form = form; names = names; rate = rate; form_is = named; is = head_later form before l.bytes then l.told names rate l.later head }; opens = fits; pins = pins; accepted = accepted; nodes = nodes; job = job; asks = asks; count = count; begins = begins; ends = l.ends; says = l.says })));
+  }
 
 -- what holds behind each end, at a head that is no good one, and where binding failed
 pub unread_at_end : (N P : Type 0) (end : ListingEnd) → WhereUnread N (status_of end) P

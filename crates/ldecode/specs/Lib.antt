@@ -2,7 +2,6 @@ pub mod Decoding
 pub mod Parts
 pub mod PartStatus
 pub mod Headline
-pub mod Opening
 pub mod Watching
 pub mod Calls
 pub mod Together

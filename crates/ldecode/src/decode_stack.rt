@@ -7,11 +7,11 @@ ghost use Rattle.run_status.specs.Notices.{status_by};
 ghost use Rattle.run_asks.specs.Asking.{NamesNoHead};
 ghost use Rattle.ldecode.specs.Calls.{AreRead, DecodesAs};
 
-use crate::open_stack::{Opened, open_stack};
 use decode_job::{DecodeEnd, InThreads, Tree, decode, decode_in_threads};
 use la_io::{Sink, Source};
 use note_lister::Watch;
 use run_status::Status;
+use stack_open::{Opened, open_stack};
 use stage_crew::Pacer;
 use std::alloc::Global;
 use std::sync::Wait;

@@ -4,7 +4,6 @@
 mod decode_stack;
 mod laws;
 mod note_count;
-mod open_stack;
 mod part;
 mod part_status;
 mod shelve_stack;

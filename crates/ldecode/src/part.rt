@@ -13,7 +13,6 @@ ghost use Rattle.run_asks.specs.Parting.{Begun, CanBegin, CantBegin};
 ghost use Rattle.ldecode.specs.Calls.{AreRead};
 ghost use Rattle.ldecode.specs.Headline.{WorksOn};
 
-use crate::open_stack::{Opened, open_stack};
 use crate::part_status::status_of_part;
 use arrayvec::ArrayVec;
 use check_point::{CheckFault, CheckWhy, read_check};
@@ -23,6 +22,7 @@ use decoder_set::AnyDecoder;
 use kind_table::place_of;
 use la_io::{Sink, Source};
 use run_status::Status;
+use stack_open::{Opened, open_stack};
 use stack_words::Stack;
 use std::alloc::Global;
 use tree_runs::new_machines_stand;

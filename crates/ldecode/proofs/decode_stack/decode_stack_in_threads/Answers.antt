@@ -24,7 +24,7 @@ returns-clause-decodes g c =
     let old = k.written c.args.sink.now in
     let new = k.written ran.new.sink in
     record {
-      decodes = decoded_of _ (meaning_of c.args.settings.now) c.requires.job (left c.args.source.now) (left c.open_stack.new.source) (left ran.new.source) c.in-Ok.opened opened (IsSeen saw old new) (IsSeenFront saw old new) c.deref.result.now c.deref.ensures.value ran.result.0
+      decodes = decoded_of (meaning_of c.args.settings.now) c.requires.job (left c.args.source.now) (left c.open_stack.new.source) (left ran.new.source) c.in-Ok.opened opened (IsSeen saw old new) (IsSeenFront saw old new) c.deref.result.now c.deref.ensures.value ran.result.0
           (ran.ensures.decodes.lists opened.bytes opened.told opened.at opened.stands opened.consumed);
       refuses = tt;
       untouched = tt;

@@ -1,8 +1,10 @@
 use Rattle.std.proofs.Common.{rules, ◌≡◌, ℕ, List, map, inr, sym, ◌∙◌, subst, Ok, Err}
 use Rattle.la_base.specs.declared.samples.TheConstants.{MOST_PINS}
 use Rattle.la_base.specs.declared.samples.Rate.{Rate}
-use Rattle.capture_any.specs.Reading.{form_of, names_of, rate_of}
+use Rattle.capture_any.specs.Captures.{IsForm}
+use Rattle.capture_any.specs.Reading.{form_of, names_of, pins_of, rate_of}
 use Rattle.stack_spec.specs.BindSteps.{Binds}
+use Rattle.stack_spec.specs.Binding.{stack_pins}
 use Rattle.stack_words.specs.Stacks.{stack_meaning}
 use Rattle.cond_words.specs.declared.faults.BindFault.{BindFault}
 use Rattle.cond_words.specs.declared.faults.BindError.{BindError}
@@ -12,13 +14,12 @@ use Rattle.capture_any.specs.declared.form.Form.{Form}
 use Rattle.decoder_set.specs.Opening.{setup_of}
 use Rattle.tree_runs.specs.Runs.{nodes_of as tree_nodes}
 use Rattle.run_status.specs.declared.status.Status.TheVariants.{Bind}
-use Rattle.run_asks.specs.Asking.{AsksStack, HasHead, IsFormOf, nodes_of, setups_in}
+use Rattle.run_asks.specs.Asking.{HasHead, IsFormOf, nodes_of}
 use Rattle.run_asks.specs.Refusing.{RefusesOn}
 use Rattle.run_asks.proofs.Opening.{binding_fails, no_room, no_room_to_bind, opening_fails}
 use Rattle.run_asks.proofs.Forms.{no_head_here}
-use Rattle.ldecode.proofs.Stacked.{as_many_machines, as_many_parents, asked_setups, bound_nodes, stack_asks, stack_forest, stack_refused, the_stack}
-use Rattle.ldecode.proofs.Opened.{parts_on, refuses_on}
-use Rattle.ldecode.proofs.open_stack.open_stack.Goals as goal
+use Rattle.stack_open.proofs.Stacked.{as_many_machines, as_many_parents, asked_setups, bound_nodes, stack_asks, stack_forest, stack_refused, the_stack}
+use Rattle.stack_open.proofs.opening.open_stack.Goals as goal
 
 pub returns-in-Err-NoMemory-clause-refuses : goal.returns-in-Err-NoMemory-clause-refuses
 returns-in-Err-NoMemory-clause-refuses g c = no_room (meaning_of c.args.settings.now) (g.S.Source.left c.args.source.now)
@@ -60,11 +61,11 @@ returns-clause-opened g c =
     let is_bound = subst (λ (n : List (List ℕ)). Binds MOST_PINS n (rate_of capture) accepted.instances (Ok bound)) c.names.ensures
     (subst (λ (r : Rate). Binds MOST_PINS c.names.result.now r accepted.instances (Ok bound)) c.rate.ensures here.binds) in
     let nodes = nodes_of accepted.instances is_bound.read in
-    let left = g.S.Source.left in
     let form_stays : form_of now ≡ c.form_of.result = c.select.ensures.form ∙ c.in-Ok-open.ensures.form in
-    let asks = stack_asks values (names_of capture) (rate_of capture) accepted stacks bound.pins.items is_bound.read is_bound.reads is_bound.pins in
+    let tree = tree_nodes (map setup_of bound.machines.items) bound.parents.items in
+    let pins_are : pins_of now ≡ stack_pins is_bound.read = c.select.ensures.pins ∙ is_bound.pins in
+    let nodes_are : tree ≡ nodes = bound_nodes (names_of capture) (rate_of capture) accepted.instances bound is_bound in
     let parents = as_many_parents (names_of capture) (rate_of capture) accepted.instances bound is_bound in
-    let setups : map setup_of bound.machines.items ≡ setups_in asks.stack = is_bound.setups ∙ sym (asked_setups values (names_of capture) (rate_of capture) accepted stacks bound.pins.items is_bound.read is_bound.reads is_bound.pins) in
     record {
       is_open = c.select.ensures.is_open ∙ c.in-Ok-open.ensures.is_open;
       forest = stack_forest accepted.instances bound.parents.items here.forest is_bound.parents;
@@ -82,14 +83,10 @@ returns-clause-opened g c =
       names = names_of capture;
       rate = rate_of capture;
       form_is = subst (IsFormOf values) (sym form_stays) c.form_of.ensures.named;
+      fits = subst IsForm (sym form_stays) c.form_of.ensures.fits;
       head = subst (λ (f : Form). HasHead f opens.bytes opens.opened.0 (names_of capture) (rate_of capture)) (sym form_stays) opens.opened.3;
-      asks = subst (λ (p : List ℕ). AsksStack values (names_of capture) (rate_of capture) p accepted (tree_nodes (map setup_of bound.machines.items) bound.parents.items)) (sym c.select.ensures.pins)
-          (subst (AsksStack values (names_of capture) (rate_of capture) bound.pins.items accepted) (sym (bound_nodes (names_of capture) (rate_of capture) accepted.instances bound is_bound)) asks);
-      refuses = λ job written fault cant. refuses_on _ values c.form_of.result c.form_of.ensures.named (inr (accepted, stacks)) (left c.args.source.now) (left c.open.new.source) written capture opens (map setup_of bound.machines.items) asks.stack setups job fault cant;
-      parts = λ job count can left_new old new end lists.
-          parts_on _ values c.form_of.result c.form_of.ensures.named (inr (accepted, stacks)) (left c.args.source.now) (left c.open.new.source) old capture opens (map setup_of bound.machines.items) now bound.pins.items
-          (c.select.ensures.form ∙ c.in-Ok-open.ensures.form) c.select.ensures.pins left_new new c.form_of.ensures.fits job accepted nodes (tree_nodes (map setup_of bound.machines.items) bound.parents.items)
-          (bound_nodes (names_of capture) (rate_of capture) accepted.instances bound is_bound) asks setups count can end lists;
+      asks = stack_asks values (names_of capture) (rate_of capture) accepted stacks (pins_of now) is_bound.read is_bound.reads pins_are tree nodes_are;
+      setups = is_bound.setups ∙ sym (asked_setups values (names_of capture) (rate_of capture) accepted stacks (pins_of now) is_bound.read is_bound.reads pins_are tree nodes_are);
     }
 
 pub returns-clause-headless : goal.returns-clause-headless

@@ -1,5 +1,5 @@
 -- What the settings of a decoding ask for, and the listing of decoders that are bound.
-use Rattle.std.proofs.Common.{◌≡◌, ℕ, ◌⊎◌, inr, zero, suc, List, [], ◌∷◌, length, map, Option, Some, None, Ok, Err, refl, sym, ◌∙◌, ap, subst, Bor}
+use Rattle.std.proofs.Common.{◌≡◌, ℕ, ◌⊎◌, inr, zero, suc, List, [], ◌∷◌, length, map, Option, Some, None, Ok, Err, refl, sym, ◌∙◌, ap, ap₂, subst, Bor}
 use Rattle.std.specs.Prelude.{option_map, slice_get}
 use Rattle.std.specs.Option.{option_copied}
 use Rattle.std.proofs.lemmas.List.{length-map}
@@ -42,19 +42,20 @@ the_stack settings chains seen wanted stack job chains_are show_is binary_is giv
 }
 
 module _ (values : Values) (names : List (List ℕ)) (rate : Rate) (accepted : Accepted) (stacks : Stacks values accepted) where
-  pub stack_asks : (pins : List ℕ) (bounds : List BoundInstance) → bound_of MOST_PINS names rate accepted.instances ≡ Ok bounds → pins ≡ Rattle.stack_spec.specs.Binding.stack_pins bounds
-      → AsksStack values names rate pins accepted (nodes_of accepted.instances bounds)
-  stack_asks pins bounds bound pins_are = record {
-    stack = record { accepted = accepted; stacks = stacks; bounds = bounds; bound = bound };
-    accepted_is = refl;
-    pins_are = pins_are;
-    nodes_are = refl;
-  }
+  module _ (pins : List ℕ) (bounds : List BoundInstance) (bound : bound_of MOST_PINS names rate accepted.instances ≡ Ok bounds) (pins_are : pins ≡ Rattle.stack_spec.specs.Binding.stack_pins bounds)
+      (nodes : List (Node Setup)) (nodes_are : nodes ≡ nodes_of accepted.instances bounds) where
+    pub stack_asks : AsksStack values names rate pins accepted nodes
+    stack_asks = record {
+      stack = record { accepted = accepted; stacks = stacks; bounds = bounds; bound = bound };
+      accepted_is = refl;
+      pins_are = pins_are;
+      nodes_are = nodes_are;
+    }
 
-  -- with these setups
-  pub asked_setups : (pins : List ℕ) (bounds : List BoundInstance) (bound : bound_of MOST_PINS names rate accepted.instances ≡ Ok bounds) (pins_are : pins ≡ Rattle.stack_spec.specs.Binding.stack_pins bounds) → setups_in (stack_asks pins bounds bound pins_are).stack ≡ map (λ (b : BoundInstance). b.setup) bounds
-  unfolding stack_asks
-  asked_setups pins bounds bound pins_are = refl
+    -- with these setups
+    pub asked_setups : setups_in stack_asks.stack ≡ map (λ (b : BoundInstance). b.setup) bounds
+    unfolding stack_asks
+    asked_setups = refl
 
   pub stack_refused : (fault : BindFault) → bound_of MOST_PINS names rate accepted.instances ≡ Err fault → SearchRefused values names fault ⊎ StackRefused values names rate fault
   stack_refused fault refused = inr (record { accepted = accepted; stacks = stacks; refused = refused })

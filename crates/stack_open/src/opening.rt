@@ -5,11 +5,10 @@ ghost use Rattle.words.specs.Settings.{meaning_of};
 ghost use Rattle.run_status.specs.Causes.{SinkCause, SourceCause, WhereUnread};
 ghost use Rattle.run_asks.specs.Asking.{HasStack, NamesNoHead};
 ghost use Rattle.run_asks.specs.Refusing.{RefusesOn};
-ghost use Rattle.ldecode.specs.Opening.{IsOpened};
+ghost use Rattle.stack_open.specs.Opening.{IsOpened};
 
 use capture_any::Capture;
 use cond_words::BindError;
-use decoder_core::Keep;
 use decoder_set::AnyDecoder;
 use la_io::Source;
 use run_asks::form_of;
@@ -20,15 +19,15 @@ use std::alloc::Global;
 use words::Settings;
 
 /// A stack, its decoders and the places on which they stand, and the capture behind its head.
-pub(crate) struct Opened {
-    pub(crate) stack: Stack,
-    pub(crate) capture: Capture,
-    pub(crate) machines: Vec<AnyDecoder>,
-    pub(crate) parents: Vec<Option<u32>>,
+pub struct Opened {
+    pub stack: Stack,
+    pub capture: Capture,
+    pub machines: Vec<AnyDecoder>,
+    pub parents: Vec<Option<u32>>,
 }
 
 /// Opens the capture under the stack that the settings ask for. A status says why it can't.
-pub(crate) fn open_stack<S: Source>(
+pub fn open_stack<S: Source>(
     alloc: Global,
     settings: &Settings,
     source: &mut S,
@@ -38,8 +37,7 @@ pub(crate) fn open_stack<S: Source>(
     requires shown { IfSome settings.now.show IsShort }
     requires binary { IfSome settings.now.binary IsShort }
     ensures opened { IfOk result
-        (IsOpened ⟦<AnyDecoder as Keep>⟧.saves (meaning_of settings.now) (S.left source.old)
-        (S.left source.new)) }
+        (IsOpened (meaning_of settings.now) (S.left source.old) (S.left source.new)) }
     ensures kept { IfOk result (λ _. S.faults source.new ≡ S.faults source.old) }
     ensures headless { IfOk result (λ _. NamesNoHead (meaning_of settings.now)
         → source.new ≡ source.old) }
