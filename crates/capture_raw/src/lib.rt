@@ -6,10 +6,10 @@ mod alike;
 mod fill;
 mod filled;
 mod laws;
+mod neighbours;
 mod pairs;
 mod reader;
 mod step;
-mod neighbours;
 mod units;
 mod wide;
 

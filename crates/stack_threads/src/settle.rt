@@ -16,7 +16,7 @@ ghost use Rattle.stack_threads.specs.Trees.{Reads, Wired, place_of};
 
 use la_base::{Feed, Mark};
 use stage_ring::{Rx, Tx, settle};
-use stage_run::{Input, Parts, HalfRun};
+use stage_run::{HalfRun, Input, Parts};
 
 // Ties the marks of one instance.
 fn settle_marks<M>(parts: &mut [Parts<M>], marks: &mut [Rx<Mark>], instance: usize)

@@ -6,7 +6,7 @@ ghost use Rattle.stack_threads.specs.Wires.{AreWired, Grows, Joins};
 use crate::rooms::Rooms;
 use la_base::{Feed, Mark, NoMemory};
 use stage_ring::{Rx, Tx, link};
-use stage_run::{Input, HalfRun};
+use stage_run::{HalfRun, Input};
 use std::alloc::Global;
 
 /// The ends of links that the stage of an instance gets.

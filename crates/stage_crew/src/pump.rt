@@ -8,7 +8,7 @@ use crate::row::SendRow;
 use crate::status::{CrewStatus, READER};
 use la_base::high_half;
 use stage_ring::Tx;
-use stage_run::{Peer, Peers, HalfRun};
+use stage_run::{HalfRun, Peer, Peers};
 use std::cell::Cell;
 use tree_io::RunFeed;
 

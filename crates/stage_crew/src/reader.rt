@@ -7,7 +7,7 @@ use crate::Turns;
 use crate::pump::Pump;
 use crate::status::CrewStatus;
 use stage_ring::{Rx, Tx};
-use stage_run::{Peer, Peers, HalfRun, Turn};
+use stage_run::{HalfRun, Peer, Peers, Turn};
 use tree_io::RunFeed;
 
 /// Reads a feed, and sends its runs and then the end to each root, turn by turn: in a thread of its

@@ -12,7 +12,7 @@ ghost use Rattle.stage_run.specs.Inputs.{came, feeds_in, input_link, input_misse
 ghost use Rattle.stage_run.specs.Inputs.{taken, told_behind, told_on};
 ghost use Rattle.stage_run.specs.Rows.{none_kept, waiting};
 
-use crate::input::{Input, HalfRun};
+use crate::input::{HalfRun, Input};
 use crate::row::Row;
 use la_base::{Feed, Run};
 

@@ -10,6 +10,6 @@ mod row;
 mod stage;
 mod turn;
 
-pub use input::{Input, HalfRun};
+pub use input::{HalfRun, Input};
 pub use stage::{Parts, Stage};
 pub use turn::{Peer, Peers, Turn};

@@ -4,11 +4,11 @@ ghost use Rattle.std.specs.Prelude.{◌≡◌, [], IfOk};
 ghost use Rattle.stage_ring.specs.Link.{received, sent};
 
 use super::alone::{given_alone, shown};
-use super::line::{BYTES, opened_line, opened_midi, opened_modbus, runs_of, half_runs_of};
+use super::line::{BYTES, half_runs_of, opened_line, opened_midi, opened_modbus, runs_of};
 use decoder_core::Machine;
 use la_base::{Feed, Mark, Run};
 use stage_ring::{Rx, Tx, link};
-use stage_run::{Input, Stage, HalfRun};
+use stage_run::{HalfRun, Input, Stage};
 use std::alloc::{AllocError, Global};
 use std::test::Fail;
 

@@ -2,7 +2,7 @@
 use super::line::{opened_line, opened_midi};
 use la_base::{Feed, Mark, Packet, PacketKind};
 use stage_ring::link;
-use stage_run::{Input, Stage, HalfRun, Turn};
+use stage_run::{HalfRun, Input, Stage, Turn};
 use std::test::Fail;
 
 // Nothing to take: idle, with a miss. A half run: it moves. The end: it ends, after a floor and the
