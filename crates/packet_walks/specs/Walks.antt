@@ -38,3 +38,8 @@ pub record PushedPackets {H : Type 0} (w : PacketWalk H) (outs : List Packet →
   pub outs_push : (ps : List Packet) (p : Packet)
       → outs (ps ++ p ∷ []) ≡ outs ps ++ w.gives (kept ps) p
   pub kept_push : (ps : List Packet) (p : Packet) → kept (ps ++ p ∷ []) ≡ w.next (kept ps) p
+
+-- where what is open starts, by the definition, is where the walk says that it does
+abbrev pub IsNear : {H : Type 0} → PacketWalk H → (List Packet → ℕ → ℕ) → (List Packet → H) → Type 0
+IsNear w near kept =
+    (packets : List Packet) (from : ℕ) → near packets from ≡ w.near (kept packets) from

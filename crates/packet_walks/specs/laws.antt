@@ -5,3 +5,4 @@ pub mod Steps
 pub mod TransactionPromises
 pub mod TransactionLaws
 pub mod Transacting
+pub mod Walking
