@@ -2,14 +2,19 @@
 use Rattle.std.specs.Prelude.{◌≡◌, List, [], Result, Ok, Err}
 use Rattle.la_base.specs.declared.wires.Packet.{Packet}
 use Rattle.decoder_core.specs.declared.faults.OptFault.{OptFault}
-use Rattle.dec_midi.specs.declared.held.Midi.{Midi}
+use Rattle.packet_walks.specs.declared.walking.Walking.{Walking}
+use Rattle.dec_midi.specs.declared.held.Held.{Held}
+use Rattle.dec_midi.specs.declared.held.MidiOpts.{MidiOpts}
 use Rattle.dec_midi.specs.laws.Steps.{held_of}
 
+abbrev pub MidiDecoder : Type 0
+MidiDecoder = Walking Held MidiOpts
+
 -- a decoder stands for packets: it keeps what they leave to keep
-abbrev pub StandsFor : Midi → List Packet → Type 0
+abbrev pub StandsFor : MidiDecoder → List Packet → Type 0
 StandsFor machine packets = machine.held ≡ held_of packets
 
 -- a decoder that stands for no packets; nothing is refused
-abbrev pub Opens : Result Midi OptFault → Type 0
+abbrev pub Opens : Result MidiDecoder OptFault → Type 0
 Opens (Ok machine) = StandsFor machine []
 Opens (Err fault) = ⊥

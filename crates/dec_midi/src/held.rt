@@ -1,4 +1,5 @@
 // What a decoder of MIDI is made of.
+use packet_walks::Walking;
 
 /// MIDI has no options.
 #[derive(Clone, Copy, PartialEq, Eq)]
@@ -58,7 +59,4 @@ pub enum Held {
 }
 
 /// A decoder of MIDI between two packets.
-#[derive(Drop)]
-pub struct Midi {
-    pub(crate) held: Held,
-}
+pub type Midi = Walking<Held>;

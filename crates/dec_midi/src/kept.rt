@@ -1,11 +1,10 @@
 // A decoder between two packets as bytes.
-ghost use Rattle.std.proofs.Common.{sym, ◌∙◌};
-ghost use Rattle.plain_bytes.specs.Forms.{IsPutAs};
+ghost use Rattle.std.proofs.Common.{lit≤};
 ghost use Rattle.dec_midi.specs.Kept.{held_back, held_of, held_parts};
 
-use crate::{Held, Midi};
-use decoder_core::{Hold, Saved};
-use plain_bytes::{Parted, Plain, get_parts, put_parts};
+use crate::Held;
+use packet_walks::HeldWalk;
+use plain_bytes::Parted;
 
 // The place of a variant; a status and the first data byte behind it; and of what is open its
 // start, its end and the number of its data bytes.
@@ -48,23 +47,6 @@ impl Parted for Held {
     ghost comes_back = { λ held fits. held_back held };
 }
 
-impl Hold for Midi {
-    ghost puts = { λ machine bytes. IsPutAs ⟦<Parts as Plain>⟧.fits ⟦<Parts as Plain>⟧.bytes_of
-        (held_parts machine.held) bytes };
-
-    fn put(&self, into: &mut Saved) {
-        put_parts(&self.held, into);
-    }
-
-    fn get(&mut self, bytes: &[u8]) -> bool {
-        match get_parts(bytes) {
-            Some(held) => {
-                self.held = held;
-                true
-            }
-            None => false,
-        }
-    }
-
-    ghost one_form = { λ machine one other mine theirs. mine.1 ∙ sym theirs.1 };
+impl HeldWalk for Held {
+    ghost small = { lit≤ tt };
 }

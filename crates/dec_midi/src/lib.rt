@@ -17,8 +17,8 @@ mod rows;
 mod status;
 mod texts;
 
-use held::Held;
-pub use held::{Midi, MidiOpts, Sort, Takes};
+pub use held::{Held, Midi, MidiOpts, Sort, Takes};
 pub use laws::real_time_changes_no_other_note;
+pub use machine::open;
 pub use rows::rows_hold;
 pub use texts::text;

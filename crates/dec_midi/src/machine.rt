@@ -3,17 +3,19 @@ ghost use Rattle.std.specs.Prelude.{◌≡◌, ◌<◌, ◌≤◌, [], ◌++◌,
 ghost use Rattle.la_base.specs.declared.wires.Wire.TheVariants.{Nothing as NoWire};
 ghost use Rattle.la_base.specs.declared.wires.Wire.TheVariants.{Uart as UartWire};
 ghost use Rattle.dec_midi.specs.Midi.{byte_note, midi_near, midi_outs, own_outs, sort_of, takes};
-ghost use Rattle.dec_midi.specs.Opening.{Opens, StandsFor};
+ghost use Rattle.dec_midi.specs.Opening.{Opens};
 ghost use Rattle.dec_midi.specs.laws.Steps.{by_two, data_gives, data_next, first_gives};
-ghost use Rattle.dec_midi.specs.laws.Steps.{first_next, gives, near_by, next, opened};
-ghost use Rattle.dec_midi.specs.laws.Steps.{sort_gives, sort_next, status_gives};
-ghost use Rattle.dec_midi.specs.laws.MidiLaws.{midi_promises, one_midi};
+ghost use Rattle.dec_midi.specs.laws.Steps.{first_next, gives, held_of, midi_walk, near_by, next};
+ghost use Rattle.dec_midi.specs.laws.Steps.{opened, sort_gives, sort_next, status_gives};
+ghost use Rattle.dec_midi.specs.laws.Pushed.{midi_pushed, near_is};
+ghost use Rattle.dec_midi.specs.laws.Sound.{midi_fits, midi_sound};
 
 use crate::bytes::{as_byte, is_byte, sort_of};
 use crate::status::{behind, by_two, give_message, takes};
 use crate::{Held, Midi, MidiOpts, Sort, Takes};
-use decoder_core::{Configured, Follower, OptFault, Outs, PacketMachine, is_send, span_note};
+use decoder_core::{Follower, OptFault, Outs, is_send, span_note};
 use la_base::{Packet, Rate, Wire};
+use packet_walks::{WalkState, Walking};
 
 // The most data bytes that are counted.
 const MOST: u64 = 1 << 60;
@@ -182,56 +184,51 @@ fn near(held: Held, from: u64) -> u64
     }
 }
 
-impl Midi {
-    /// Opens a decoder at any rate; it stands for no packets. There is nothing to refuse.
-    pub fn open(_opts: MidiOpts, _rate: Rate) -> Result<Midi, OptFault>
-        ensures { Opens result }
-    {
-        Ok(Midi { held: Held::Stray })
-    }
-}
-
-impl Configured for Midi {
+impl WalkState for Held {
     type Setup = MidiOpts;
 
-    ghost setup = { λ _. record {} };
-}
+    ghost wire = { UartWire };
 
-impl PacketMachine for Midi {
-    ghost wire = { λ _. UartWire };
-
-    ghost gives = { λ _. NoWire };
+    ghost gives = { NoWire };
 
     ghost outs = { λ _ packets. midi_outs packets };
 
     ghost near = { λ _ packets from. midi_near packets from };
 
-    ghost stands = { λ machine packets. StandsFor machine packets };
+    ghost walk = { λ _. midi_walk };
 
-    fn wants(&self) -> Wire {
+    ghost kept = { λ _ packets. held_of packets };
+
+    ghost fits = { midi_fits };
+
+    fn wants() -> Wire {
         Wire::Uart
     }
 
-    fn accept(&mut self, packet: Packet, into: &mut Outs) {
-        self.held = take(self.held, packet, into);
+    fn begin(_setup: &MidiOpts) -> Held {
+        Held::Stray
     }
 
-    fn floor(&self, from: u64) -> u64 {
-        near(self.held, from)
+    fn take(&mut self, _setup: &MidiOpts, packet: Packet, into: &mut Outs) {
+        *self = take(*self, packet, into);
     }
 
-    ghost nothing = { λ _. midi_promises.nothing };
+    fn near(&self, _setup: &MidiOpts, from: u64) -> u64 {
+        near(*self, from)
+    }
 
-    ghost prefix = { λ _. midi_promises.prefix };
+    ghost pushed = { λ _. midi_pushed };
 
-    ghost order = { λ _. midi_promises.order };
+    ghost sound = { λ _. midi_sound };
 
-    ghost few = { λ _. midi_promises.few };
+    ghost near_is = { λ _. near_is };
+}
 
-    ghost on_wire = { λ _. midi_promises.on_wire };
-
-    ghost one_machine = { λ one other packets same stands also.
-        one_midi one other packets stands also };
+/// Opens a decoder at any rate; it stands for no packets. There is nothing to refuse.
+pub fn open(opts: MidiOpts, _rate: Rate) -> Result<Midi, OptFault>
+    ensures { Opens result }
+{
+    Ok(Walking::new(opts))
 }
 
 // It may move to another thread, and so may what feeds it.

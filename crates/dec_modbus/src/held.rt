@@ -1,20 +1,10 @@
 // What a decoder of messages is made of.
-ghost use Rattle.std.specs.Prelude.{◌≡◌};
-ghost use Rattle.dec_modbus.specs.Modbus.{gap_of};
-
-use la_base::Rate;
+use packet_walks::Walking;
 
 /// Options: how many nanoseconds of silence part two messages, 1 to 10^9.
 #[derive(Clone, Copy, PartialEq, Eq)]
 pub struct ModbusOpts {
     pub gap: u64,
-}
-
-/// The options, and the rate of the samples.
-#[derive(Clone, Copy, PartialEq, Eq)]
-pub struct Line {
-    pub opts: ModbusOpts,
-    pub rate: Rate,
 }
 
 /// A message that nothing has ended yet. Its last two bytes may be its CRC, so they aren't in the
@@ -46,12 +36,5 @@ pub enum Held {
     Inside { message: Message },
 }
 
-/// A decoder of messages between two packets. The gap in samples is that of its options at its
-/// rate; it holds it, so that it isn't worked out at each packet.
-#[derive(Drop)]
-pub struct Modbus {
-    pub(crate) line: Line,
-    pub(crate) gap: u64,
-    pub(crate) held: Held,
-    ghost gap_is: { gap ≡ gap_of line.opts line.rate },
-}
+/// A decoder of messages between two packets.
+pub type Modbus = Walking<Held>;

@@ -1,13 +1,12 @@
 // A decoder between two packets as bytes: those of the message that nothing has ended yet.
 ghost use Rattle.std.specs.Prelude.{◌≡◌};
-ghost use Rattle.std.proofs.Common.{sym, ◌∙◌};
-ghost use Rattle.plain_bytes.specs.Forms.{IsPutAs};
+ghost use Rattle.std.proofs.Common.{lit≤};
 ghost use Rattle.dec_modbus.specs.Kept.{held_back, held_of, held_parts};
 ghost use Rattle.dec_modbus.specs.Kept.{message_of, message_parts};
 
-use crate::{Held, Message, Modbus};
-use decoder_core::{Hold, Saved};
-use plain_bytes::{Parted, Plain, get_parts, put_parts};
+use crate::{Held, Message};
+use packet_walks::HeldWalk;
+use plain_bytes::Parted;
 
 // Where a message starts and ends; how many bytes it has; the CRC of all but the last two, and
 // these; whether one of its frames has an error.
@@ -68,23 +67,6 @@ impl Parted for Held {
     ghost comes_back = { λ held fits. held_back held };
 }
 
-impl Hold for Modbus {
-    ghost puts = { λ machine bytes. IsPutAs ⟦<Parts as Plain>⟧.fits ⟦<Parts as Plain>⟧.bytes_of
-        (held_parts machine.held) bytes };
-
-    fn put(&self, into: &mut Saved) {
-        put_parts(&self.held, into);
-    }
-
-    fn get(&mut self, bytes: &[u8]) -> bool {
-        match get_parts(bytes) {
-            Some(held) => {
-                self.held = held;
-                true
-            }
-            None => false,
-        }
-    }
-
-    ghost one_form = { λ machine one other mine theirs. mine.1 ∙ sym theirs.1 };
+impl HeldWalk for Held {
+    ghost small = { lit≤ tt };
 }

@@ -3,14 +3,16 @@ ghost use Rattle.std.specs.Prelude.{◌≡◌, []};
 ghost use Rattle.la_base.specs.declared.wires.Wire.TheVariants.{Nothing as NoWire};
 ghost use Rattle.la_base.specs.declared.wires.Wire.TheVariants.{Uart as UartWire};
 ghost use Rattle.dec_modbus.specs.Modbus.{gap_of, modbus_near, modbus_outs};
-ghost use Rattle.dec_modbus.specs.Opening.{StandsFor};
-ghost use Rattle.dec_modbus.specs.laws.Machine.{begin_next, gives, next, near_by};
-ghost use Rattle.dec_modbus.specs.laws.ModbusLaws.{modbus_promises, one_modbus};
+ghost use Rattle.dec_modbus.specs.laws.Machine.{begin_next, gives, held_of, modbus_walk, near_by};
+ghost use Rattle.dec_modbus.specs.laws.Machine.{next};
+ghost use Rattle.dec_modbus.specs.laws.Pushed.{modbus_pushed, near_is};
+ghost use Rattle.dec_modbus.specs.laws.Sound.{modbus_fits, modbus_sound};
 
 use crate::message::{begun, follows, give_byte, is_frame, longer, note_of};
 use crate::{Held, Line, Modbus};
-use decoder_core::{Configured, Follower, Outs, PacketMachine, is_send};
+use decoder_core::{Follower, Outs, is_send};
 use la_base::{Packet, Wire};
+use packet_walks::WalkState;
 
 // What is kept behind a packet that goes on with no message.
 fn begin_next(packet: Packet) -> Held
@@ -62,51 +64,44 @@ fn near(held: Held, from: u64) -> u64
     }
 }
 
-impl Configured for Modbus {
+impl WalkState for Held {
     type Setup = Line;
 
-    ghost setup = { λ machine. machine.line };
-}
+    ghost wire = { UartWire };
 
-impl PacketMachine for Modbus {
-    ghost wire = { λ _. UartWire };
-
-    ghost gives = { λ _. NoWire };
+    ghost gives = { NoWire };
 
     ghost outs = { λ line packets. modbus_outs (gap_of line.opts line.rate) packets };
 
     ghost near = { λ line packets from. modbus_near (gap_of line.opts line.rate) packets from };
 
-    ghost stands = { λ machine packets. StandsFor machine packets };
+    ghost walk = { λ line. modbus_walk (gap_of line.opts line.rate) };
 
-    fn wants(&self) -> Wire {
+    ghost kept = { λ line packets. held_of (gap_of line.opts line.rate) packets };
+
+    ghost fits = { modbus_fits };
+
+    fn wants() -> Wire {
         Wire::Uart
     }
 
-    fn accept(&mut self, packet: Packet, into: &mut Outs) {
-        self.held = take(self.gap, self.held, packet, into);
+    fn begin(_line: &Line) -> Held {
+        Held::Outside
     }
 
-    fn floor(&self, from: u64) -> u64 {
-        near(self.held, from)
+    fn take(&mut self, line: &Line, packet: Packet, into: &mut Outs) {
+        *self = take(line.gap, *self, packet, into);
     }
 
-    ghost nothing = { λ machine.
-        (modbus_promises (gap_of machine.line.opts machine.line.rate)).nothing };
+    fn near(&self, _line: &Line, from: u64) -> u64 {
+        near(*self, from)
+    }
 
-    ghost prefix = { λ machine.
-        (modbus_promises (gap_of machine.line.opts machine.line.rate)).prefix };
+    ghost pushed = { λ line. modbus_pushed (gap_of line.opts line.rate) };
 
-    ghost order = { λ machine.
-        (modbus_promises (gap_of machine.line.opts machine.line.rate)).order };
+    ghost sound = { λ line. modbus_sound (gap_of line.opts line.rate) };
 
-    ghost few = { λ machine. (modbus_promises (gap_of machine.line.opts machine.line.rate)).few };
-
-    ghost on_wire = { λ machine.
-        (modbus_promises (gap_of machine.line.opts machine.line.rate)).on_wire };
-
-    ghost one_machine = { λ one other packets same stands also.
-        one_modbus one other packets same stands also };
+    ghost near_is = { λ line. near_is (gap_of line.opts line.rate) };
 }
 
 // It may move to another thread, and so may what feeds it.

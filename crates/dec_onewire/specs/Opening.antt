@@ -4,12 +4,14 @@ use Rattle.la_base.specs.declared.samples.Rate.{Rate}
 use Rattle.la_base.specs.declared.wires.Packet.{Packet}
 use Rattle.decoder_core.specs.declared.faults.OptFault.{OptFault}
 use Rattle.decoder_core.specs.declared.faults.OptFault.TheVariants.{Range, Rate as TooSlow}
+use Rattle.packet_walks.specs.declared.walking.Walking.{Walking}
 use Rattle.wait_cond.specs.declared.alt.Alt.{Alt}
 use Rattle.dec_onewire.specs.declared.link.held.Line.{Line}
 use Rattle.dec_onewire.specs.declared.link.held.OwLink.{OwLink}
 use Rattle.dec_onewire.specs.declared.link.options.Lengths.{Lengths}
 use Rattle.dec_onewire.specs.declared.link.options.OwLinkOpts.{OwLinkOpts}
-use Rattle.dec_onewire.specs.declared.net.held.OwNet.{OwNet}
+use Rattle.dec_onewire.specs.declared.net.held.Held.{Held as NetHeld}
+use Rattle.dec_onewire.specs.declared.net.held.OwNetOpts.{OwNetOpts}
 use Rattle.dec_onewire.specs.Link.{lengths_of}
 use Rattle.dec_onewire.specs.laws.LinkMachine.{edge_alt, EndsAtEdge, held_at}
 use Rattle.dec_onewire.specs.laws.NetMachine.{held_of}
@@ -51,11 +53,14 @@ LinkOpens most opts rate (Err Range) = ¬ LinkInRange most opts
 LinkOpens most opts rate (Err TooSlow) =
     LinkInRange most opts × (¬ FastEnough (lengths_of opts rate))
 
+abbrev pub NetDecoder : Type 0
+NetDecoder = Walking NetHeld OwNetOpts
+
 -- a decoder of the network stands for packets: it keeps what they leave to keep
-abbrev pub NetStandsFor : OwNet → List Packet → Type 0
+abbrev pub NetStandsFor : NetDecoder → List Packet → Type 0
 NetStandsFor machine packets = machine.held ≡ held_of packets
 
 -- a decoder of the network that stands for no packets; nothing is refused
-abbrev pub NetOpens : Result OwNet OptFault → Type 0
+abbrev pub NetOpens : Result NetDecoder OptFault → Type 0
 NetOpens (Ok machine) = NetStandsFor machine []
 NetOpens (Err fault) = ⊥

@@ -18,6 +18,7 @@ mod texts;
 mod units;
 
 pub use crc::crc8;
-use held::{Begun, Held, Role};
-pub use held::{OwNet, OwNetOpts};
+use held::{Begun, Role};
+pub use held::{Held, OwNet, OwNetOpts};
+pub use opening::open;
 pub use texts::text;

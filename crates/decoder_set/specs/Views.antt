@@ -4,7 +4,7 @@ use Rattle.dec_i2c.specs.Opening as i2c
 use Rattle.dec_i2c.specs.declared.held.I2c.{I2c}
 use Rattle.dec_i2c.specs.declared.held.I2cOpts.{I2cOpts}
 use Rattle.dec_modbus.specs.Opening as modbus
-use Rattle.dec_modbus.specs.declared.held.Modbus.{Modbus}
+use Rattle.dec_modbus.specs.Opening.{ModbusDecoder}
 use Rattle.dec_modbus.specs.declared.held.ModbusOpts.{ModbusOpts}
 use Rattle.dec_spi.specs.Opening as spi
 use Rattle.dec_spi.specs.declared.held.Spi.{Spi}
@@ -41,12 +41,12 @@ use Rattle.decoder_core.specs.declared.driver.Driver.{Driver}
 use Rattle.dec_i2c.specs.laws.Machine.{i2c_alts}
 use Rattle.dec_i2c.specs.declared.held.Bus.{Bus}
 use Rattle.dec_midi.specs.Opening as midi
-use Rattle.dec_midi.specs.declared.held.Midi.{Midi}
+use Rattle.dec_midi.specs.Opening.{MidiDecoder}
 use Rattle.dec_midi.specs.declared.held.MidiOpts.{MidiOpts}
-use Rattle.dec_modbus.specs.declared.held.Line.{Line as ModbusLine}
+use Rattle.dec_modbus.specs.declared.line.Line.{Line as ModbusLine}
 use Rattle.dec_uart.specs.declared.held.Line.{Line}
 use Rattle.dec_onewire.specs.declared.link.held.Line.{Line as DqLine}
-use Rattle.dec_onewire.specs.declared.net.held.OwNet.{OwNet}
+use Rattle.dec_onewire.specs.Opening.{NetDecoder}
 use Rattle.dec_onewire.specs.declared.net.held.OwNetOpts.{OwNetOpts}
 use Rattle.decoder_core.specs.Packets.{Follows, NoneCount}
 use Rattle.dev_ds18b20.specs.Opening as probe
@@ -127,14 +127,14 @@ Inner kind.I2c = Driver I2c Bus
 Inner kind.Spi = Driver Spi SpiOpts
 Inner kind.Uart = Driver Uart Line
 Inner kind.OwLink = Driver OwLink DqLine
-Inner kind.OwNet = Follower OwNet OwNetOpts
+Inner kind.OwNet = Follower NetDecoder OwNetOpts
 Inner kind.Eeprom24 = Follower (Phased Eeprom Chip) Chip
 Inner kind.Ds1307 = Follower (Phased Clock ClockChip) ClockChip
 Inner kind.Lm75 = Follower (Phased Lm75 Lm75Chip) Lm75Chip
 Inner kind.Ds18b20 = Follower ProbeDecoder ProbeOpts
 Inner kind.Flash25 = Follower FlashDecoder FlashOpts
-Inner kind.Modbus = Follower Modbus ModbusLine
-Inner kind.Midi = Follower Midi MidiOpts
+Inner kind.Modbus = Follower ModbusDecoder ModbusLine
+Inner kind.Midi = Follower MidiDecoder MidiOpts
 
 -- a kind, and what a machine of it holds
 abbrev pub Parts : Type 0
@@ -165,7 +165,7 @@ view_in kind.Uart driver = driven uart.StandsFor uart.alts_of uart.line_of
 view_in kind.OwLink driver = driven onewire.StandsFor onewire.alts_of
     onewire.line_of (λ values rate. IsLink (link_options values) rate) driver
 view_in kind.OwNet follower = followed onewire.NetStandsFor wire.OwLink
-    (λ machine. record {}) (λ values rate. IsAny) follower
+    (λ machine. machine.setup) (λ values rate. IsAny) follower
 view_in kind.Eeprom24 follower = followed eeprom.StandsFor wire.I2c
     eeprom.chip_in (λ values rate. IsEeprom (eeprom_options values)) follower
 view_in kind.Ds1307 follower = followed clock.StandsFor wire.I2c clock.chip_in
@@ -179,7 +179,7 @@ view_in kind.Flash25 follower = followed flash.StandsFor wire.Spi
 view_in kind.Modbus follower = followed modbus.StandsFor wire.Uart
     modbus.line_of (λ values rate. IsModbus (modbus_options values) rate) follower
 view_in kind.Midi follower = followed midi.StandsFor wire.Uart
-    (λ machine. record {}) (λ values rate. IsAny) follower
+    (λ machine. machine.setup) (λ values rate. IsAny) follower
 
 -- the kind of a machine, what it holds, and what is seen of it
 abbrev pub kind_in : AnyMachine → Kind

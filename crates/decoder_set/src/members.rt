@@ -5,6 +5,7 @@ ghost use Rattle.decoder_core.specs.Inputs.{counted_samples};
 ghost use Rattle.decoder_core.specs.Packets.{counted_packets};
 ghost use Rattle.dec_i2c.specs.Bus.{i2c_near, i2c_outs};
 ghost use Rattle.dec_modbus.specs.Modbus.{gap_of, modbus_near, modbus_outs};
+ghost use Rattle.dec_modbus.specs.laws.ModbusLaws.{same_line as same_modbus};
 ghost use Rattle.dec_onewire.specs.Link.{link_near, link_outs};
 ghost use Rattle.dec_spi.specs.Bus.{spi_near, spi_outs};
 ghost use Rattle.dec_uart.specs.Frames.{uart_near, uart_outs};
@@ -22,8 +23,7 @@ ghost use Rattle.decoder_set.specs.Options.{spi_options, uart_options};
 ghost use Rattle.decoder_set.specs.Setups.{near_behind};
 ghost use Rattle.decoder_set.specs.Views.{IsAny, IsClock, IsEeprom, IsI2c, IsLink, IsLm75};
 ghost use Rattle.decoder_set.specs.Views.{IsModbus, IsSpi, IsUart};
-ghost use Rattle.decoder_set.specs.laws.MemberLaws.{same_bus, same_dq, same_line, same_modbus};
-ghost use Rattle.decoder_set.specs.laws.MemberLaws.{shown};
+ghost use Rattle.decoder_set.specs.laws.MemberLaws.{same_bus, same_dq, same_line, shown};
 ghost use Rattle.decoder_set.specs.laws.OneDecoder.{of_kind};
 ghost use Rattle.decoder_set.specs.laws.SavedLaws.{saved_as};
 

@@ -14,9 +14,8 @@ use crate::options::{
 };
 use crate::{AnyDecoder, Setup};
 use dec_i2c::I2c;
-use dec_midi::{Midi, MidiOpts};
-use dec_modbus::Modbus;
-use dec_onewire::{OwLink, OwNet, OwNetOpts};
+use dec_midi::MidiOpts;
+use dec_onewire::{OwLink, OwNetOpts, net};
 use dec_spi::Spi;
 use dec_uart::Uart;
 use decoder_core::{Driver, Follower, OptFault};
@@ -62,7 +61,7 @@ fn open_machine(kind: Kind, values: &OptValues, rate: Rate) -> Result<AnyMachine
             link_options(values),
             rate,
         )?))),
-        Kind::OwNet => Ok(AnyMachine::OwNet(Follower::new(OwNet::open(OwNetOpts {}, rate)?))),
+        Kind::OwNet => Ok(AnyMachine::OwNet(Follower::new(net::open(OwNetOpts {}, rate)?))),
         Kind::Eeprom24 => Ok(AnyMachine::Eeprom24(Follower::new(Eeprom::open(
             eeprom_options(values),
             rate,
@@ -74,11 +73,11 @@ fn open_machine(kind: Kind, values: &OptValues, rate: Rate) -> Result<AnyMachine
         Kind::Lm75 => Ok(AnyMachine::Lm75(Follower::new(Lm75::open(lm75_options(values), rate)?))),
         Kind::Ds18b20 => Ok(AnyMachine::Ds18b20(Follower::new(Probe::open(ProbeOpts {}, rate)?))),
         Kind::Flash25 => Ok(AnyMachine::Flash25(Follower::new(Flash::open(FlashOpts {}, rate)?))),
-        Kind::Modbus => Ok(AnyMachine::Modbus(Follower::new(Modbus::open(
+        Kind::Modbus => Ok(AnyMachine::Modbus(Follower::new(dec_modbus::open(
             modbus_options(values),
             rate,
         )?))),
-        Kind::Midi => Ok(AnyMachine::Midi(Follower::new(Midi::open(MidiOpts {}, rate)?))),
+        Kind::Midi => Ok(AnyMachine::Midi(Follower::new(dec_midi::open(MidiOpts {}, rate)?))),
     }
 }
 

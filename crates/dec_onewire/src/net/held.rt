@@ -1,4 +1,5 @@
 // What a decoder of the network is made of.
+use packet_walks::Walking;
 
 /// A network has no options.
 #[derive(Clone, Copy, PartialEq, Eq)]
@@ -39,7 +40,4 @@ pub enum Held {
 }
 
 /// A decoder of the network between two packets.
-#[derive(Drop)]
-pub struct OwNet {
-    pub(crate) held: Held,
-}
+pub type OwNet = Walking<Held>;

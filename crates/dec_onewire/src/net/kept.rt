@@ -1,12 +1,11 @@
 // A decoder of the network between two packets as bytes.
 ghost use Rattle.std.specs.Prelude.{◌≡◌};
-ghost use Rattle.std.proofs.Common.{sym, ◌∙◌};
-ghost use Rattle.plain_bytes.specs.Forms.{IsPutAs};
+ghost use Rattle.std.proofs.Common.{lit≤};
 ghost use Rattle.dec_onewire.specs.Kept.{net_back, net_of, net_parts, role_at, role_place};
 
-use super::{Begun, Held, OwNet, Role};
-use decoder_core::{Hold, Saved};
-use plain_bytes::{Parted, Plain, get_parts, put_parts};
+use super::{Begun, Held, Role};
+use packet_walks::HeldWalk;
+use plain_bytes::Parted;
 
 // The place of a variant, a start, the place of a role, and of the bits that have begun their count
 // and their number.
@@ -71,23 +70,6 @@ impl Parted for Held {
     ghost comes_back = { λ held fits. net_back held };
 }
 
-impl Hold for OwNet {
-    ghost puts = { λ machine bytes. IsPutAs ⟦<Parts as Plain>⟧.fits ⟦<Parts as Plain>⟧.bytes_of
-        (net_parts machine.held) bytes };
-
-    fn put(&self, into: &mut Saved) {
-        put_parts(&self.held, into);
-    }
-
-    fn get(&mut self, bytes: &[u8]) -> bool {
-        match get_parts(bytes) {
-            Some(held) => {
-                self.held = held;
-                true
-            }
-            None => false,
-        }
-    }
-
-    ghost one_form = { λ machine one other mine theirs. mine.1 ∙ sym theirs.1 };
+impl HeldWalk for Held {
+    ghost small = { lit≤ tt };
 }

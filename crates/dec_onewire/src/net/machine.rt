@@ -3,16 +3,18 @@ ghost use Rattle.std.specs.Prelude.{◌≡◌, []};
 ghost use Rattle.la_base.specs.declared.wires.Wire.TheVariants.{OwLink as LinkWire};
 ghost use Rattle.la_base.specs.declared.wires.Wire.TheVariants.{OwNet as NetWire};
 ghost use Rattle.dec_onewire.specs.Net.{net_outs, net_near};
-ghost use Rattle.dec_onewire.specs.Opening.{NetStandsFor};
 ghost use Rattle.dec_onewire.specs.laws.NetMachine.{gives, next, near_by, answered_gives};
-ghost use Rattle.dec_onewire.specs.laws.NetMachine.{answered_next, inside_gives, inside_next};
-ghost use Rattle.dec_onewire.specs.laws.NetLaws.{net_promises, one_net};
+ghost use Rattle.dec_onewire.specs.laws.NetMachine.{answered_next, held_of, inside_gives};
+ghost use Rattle.dec_onewire.specs.laws.NetMachine.{inside_next, net_walk};
+ghost use Rattle.dec_onewire.specs.laws.NetPushed.{near_is, net_pushed};
+ghost use Rattle.dec_onewire.specs.laws.NetSound.{net_fits, net_sound};
 
 use super::packets::{is_bit, is_presence, is_reset};
 use super::units::{bit, none_begun};
 use super::{Held, OwNet, OwNetOpts, Role};
-use decoder_core::{Configured, Follower, Outs, PacketMachine, is_send, span_note, span_packet};
+use decoder_core::{Follower, Outs, is_send, span_note, span_packet};
 use la_base::{Packet, PacketKind, Wire};
+use packet_walks::WalkState;
 
 // The packet right behind a reset, which starts at `start`: it opens a segment if it is a presence.
 fn answered(start: u64, packet: Packet, into: &mut Outs) -> Held
@@ -77,47 +79,44 @@ fn near(held: Held, from: u64) -> u64
     }
 }
 
-impl Configured for OwNet {
+impl WalkState for Held {
     type Setup = OwNetOpts;
 
-    ghost setup = { λ _. record {} };
-}
+    ghost wire = { LinkWire };
 
-impl PacketMachine for OwNet {
-    ghost wire = { λ _. LinkWire };
-
-    ghost gives = { λ _. NetWire };
+    ghost gives = { NetWire };
 
     ghost outs = { λ _ packets. net_outs packets };
 
     ghost near = { λ _ packets from. net_near packets from };
 
-    ghost stands = { λ machine packets. NetStandsFor machine packets };
+    ghost walk = { λ _. net_walk };
 
-    fn wants(&self) -> Wire {
+    ghost kept = { λ _ packets. held_of packets };
+
+    ghost fits = { net_fits };
+
+    fn wants() -> Wire {
         Wire::OwLink
     }
 
-    fn accept(&mut self, packet: Packet, into: &mut Outs) {
-        self.held = take(self.held, packet, into);
+    fn begin(_setup: &OwNetOpts) -> Held {
+        Held::Outside
     }
 
-    fn floor(&self, from: u64) -> u64 {
-        near(self.held, from)
+    fn take(&mut self, _setup: &OwNetOpts, packet: Packet, into: &mut Outs) {
+        *self = take(*self, packet, into);
     }
 
-    ghost nothing = { λ _. net_promises.nothing };
+    fn near(&self, _setup: &OwNetOpts, from: u64) -> u64 {
+        near(*self, from)
+    }
 
-    ghost prefix = { λ _. net_promises.prefix };
+    ghost pushed = { λ _. net_pushed };
 
-    ghost order = { λ _. net_promises.order };
+    ghost sound = { λ _. net_sound };
 
-    ghost few = { λ _. net_promises.few };
-
-    ghost on_wire = { λ _. net_promises.on_wire };
-
-    ghost one_machine = { λ one other packets same stands also.
-        one_net one other packets stands also };
+    ghost near_is = { λ _. near_is };
 }
 
 // It may move to another thread, and so may what feeds it.

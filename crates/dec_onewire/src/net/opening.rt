@@ -2,17 +2,14 @@
 ghost use Rattle.std.specs.Prelude.{[]};
 ghost use Rattle.dec_onewire.specs.Opening.{NetOpens};
 
-use super::{Held, OwNet, OwNetOpts};
+use super::{OwNet, OwNetOpts};
 use decoder_core::OptFault;
 use la_base::Rate;
+use packet_walks::Walking;
 
-impl OwNet {
-    /// Opens a decoder at any rate; it stands for no packets. There is nothing to refuse.
-    pub fn open(_opts: OwNetOpts, _rate: Rate) -> Result<OwNet, OptFault>
-        ensures { NetOpens result }
-    {
-        Ok(OwNet {
-            held: Held::Outside,
-        })
-    }
+/// Opens a decoder at any rate; it stands for no packets. There is nothing to refuse.
+pub fn open(opts: OwNetOpts, _rate: Rate) -> Result<OwNet, OptFault>
+    ensures { NetOpens result }
+{
+    Ok(Walking::new(opts))
 }

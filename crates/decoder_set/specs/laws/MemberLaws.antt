@@ -4,7 +4,6 @@ use Rattle.std.proofs.Math.Bridge.{le_prop}
 use Rattle.std.proofs.Math.Path.{to_path_p}
 use Rattle.la_base.specs.declared.samples.TheConstants.{MOST_PINS}
 use Rattle.dec_i2c.specs.declared.held.Bus.{Bus}
-use Rattle.dec_modbus.specs.declared.held.Line.{Line as ModbusLine}
 use Rattle.dec_onewire.specs.declared.link.held.Line.{Line as DqLine}
 use Rattle.dec_uart.specs.Ranges.{InRange, FastEnough}
 use Rattle.dec_uart.specs.declared.held.Line.{Line}
@@ -66,8 +65,3 @@ same_dq one other opts rate = λ i. record {
   dq_below = to_path_p (λ j. (opts j).dq < MOST_PINS) {a = one.dq_below}
       (le_prop _ other.dq_below) i;
 }
-
--- and two lines of messages
-pub same_modbus : (one other : ModbusLine) → one.opts ≡ other.opts → one.rate ≡ other.rate
-    → one ≡ other
-same_modbus one other opts rate = λ i. record { opts = opts i; rate = rate i }

@@ -6,7 +6,7 @@ use Rattle.decoder_core.specs.laws.OneDriver.{one_state}
 use Rattle.dec_i2c.specs.laws.MachineLaws.{one_i2c, i2c_one_stop}
 use Rattle.dec_i2c.specs.Opening as i2c
 use Rattle.dec_midi.specs.laws.MidiLaws.{one_midi}
-use Rattle.dec_modbus.specs.laws.ModbusLaws.{one_modbus}
+use Rattle.dec_modbus.specs.laws.ModbusLaws.{one_modbus, same_line as same_modbus}
 use Rattle.dec_onewire.specs.Opening as onewire
 use Rattle.dec_onewire.specs.laws.LinkMachineLaws.{one_link, link_one_stop}
 use Rattle.dec_onewire.specs.laws.NetLaws.{one_net}
@@ -35,7 +35,7 @@ use Rattle.decoder_set.specs.declared.any_machine.AnyMachine.{AnyMachine}
 use Rattle.decoder_set.specs.declared.setup.Setup.{Setup}
 use Rattle.decoder_set.specs.Opening.{Consumed, ConsumedIn, HasConsumed, setup_of}
 use Rattle.decoder_set.specs.Views.{Inner, Parts, i2c_alts_of, inner, kind_in, parts_of}
-use Rattle.decoder_set.specs.laws.MemberLaws.{same_bus, same_dq, same_line, same_modbus}
+use Rattle.decoder_set.specs.laws.MemberLaws.{same_bus, same_dq, same_line}
 use Rattle.decoder_set.specs.Whole.{SameDecoder, SameInner, SameMachine}
 
 -- a machine of this kind holds something of it

@@ -3,7 +3,7 @@ ghost use Rattle.std.specs.Prelude.{◌≤◌, ◌^◌};
 
 use super::feeds::setup_of;
 use dec_i2c::{I2c, I2cOpts};
-use dec_modbus::{Modbus, ModbusOpts};
+use dec_modbus::ModbusOpts;
 use dec_onewire::{OwLink, OwLinkOpts};
 use dec_spi::{Spi, SpiOpts};
 use dec_uart::{Uart, UartOpts};
@@ -143,7 +143,7 @@ fn becomes(kind: Kind, v: &OptValues, rate: Rate) -> &'static str
             };
             told(OwLink::open(opts, rate))
         }
-        _ => told(Modbus::open(ModbusOpts { gap: value(v, 0) }, rate)),
+        _ => told(dec_modbus::open(ModbusOpts { gap: value(v, 0) }, rate)),
     }
 }
 

@@ -38,14 +38,14 @@ pub fn opened_line_on(rx: u32) -> Result<Driver<Uart>, Fail> {
 }
 
 pub fn opened_midi() -> Result<Follower<Midi>, Fail> {
-    match Midi::open(MidiOpts {}, RATE) {
+    match dec_midi::open(MidiOpts {}, RATE) {
         Ok(midi) => Ok(Follower::new(midi)),
         Err(_) => Err("not opened".into()),
     }
 }
 
 pub fn opened_modbus() -> Result<Follower<Modbus>, Fail> {
-    match Modbus::open(ModbusOpts { gap: 1_750_000 }, RATE) {
+    match dec_modbus::open(ModbusOpts { gap: 1_750_000 }, RATE) {
         Ok(modbus) => Ok(Follower::new(modbus)),
         Err(_) => Err("not opened".into()),
     }
