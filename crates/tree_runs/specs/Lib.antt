@@ -6,3 +6,4 @@ pub mod Taking
 pub mod Runs
 pub mod Lows
 pub mod Listings
+pub mod Trees
