@@ -1,14 +1,12 @@
 // The run of a tree.
 ghost use Rattle.std.specs.Prelude.{◌≡◌, ◌≤◌, ◌<◌, ◌^◌, [], ℕ, List, Err, IfOk, OnErr, OnOk, not};
 ghost use Rattle.std.specs.Prelude.{true, false, length, map};
-ghost use Rattle.decoder_core.specs.declared.end.RunEnd.TheVariants.{Ended, Stopped as RunStopped};
 ghost use Rattle.la_base.specs.declared.samples.Run.{Run};
 ghost use Rattle.la_base.specs.declared.wires.Mark.{Mark};
-ghost use Rattle.la_io.specs.Causes.{Rose};
 ghost use Rattle.tree_io.specs.Feeds.{GivesRuns};
-ghost use Rattle.tree_runs.specs.Machines.{Stand, defined};
-ghost use Rattle.tree_runs.specs.Runs.{FedRuns, RunsOn, TookEnds, is_ended};
+ghost use Rattle.tree_runs.specs.Runs.{TookEnds};
 ghost use Rattle.tree_runs.specs.Taking.{IsTree};
+ghost use Rattle.tree_runs.specs.Trees.{RunsExactly};
 ghost use Rattle.stack_direct.specs.Trees.{SameTree, TakesAll, TakesOn, TreeFed};
 
 use crate::parts::mark;
@@ -132,17 +130,8 @@ pub fn run_direct<M: Machine, F: RunFeed, G: MarkTake>(
 ) -> RunEnd
     requires tree { IsTree parents.now (length machines.old) (G.instances take.old) }
     ensures setups { map M.setup machines.new ≡ map M.setup machines.old }
-    ensures runs { RunsOn M.outputs M.near (map M.setup machines.old) parents.now
-        (Stand M.consumed machines.old) (Stand M.consumed machines.new)
-        (F.gave feed.old) (F.gave feed.new) (G.took take.old) (G.took take.new)
-        (F.at_end feed.new) result }
-    ensures at_end { result ≡ Ended → F.at_end feed.new ≡ true }
-    ensures feed_origin { F.origin feed.new ≡ F.origin feed.old }
-    ensures take_origin { G.origin take.new ≡ G.origin take.old }
-    ensures instances { G.instances take.new ≡ G.instances take.old }
-    ensures ended { result ≡ Ended → G.stops take.new ≡ G.stops take.old }
-    ensures going { G.going take.old true → G.going take.new (is_ended result) }
-    ensures stopped { result ≡ RunStopped → Rose (G.stops take.old) (G.stops take.new) }
+    ensures runs { RunsExactly M.Machine F.RunFeed G.MarkTake parents.now machines.old
+        machines.new feed.old feed.new take.old take.new result }
 {
     let mut tree = Tree { machines, parents };
     match feed_all(&mut tree, feed, take) {

@@ -6,11 +6,12 @@ use Rattle.la_base.specs.declared.samples.Run.{Run}
 use Rattle.la_base.specs.declared.wires.Mark.{Mark}
 use Rattle.la_base.specs.declared.wires.Out.{Out}
 use Rattle.decoder_core.specs.Inputs.{Item}
-use Rattle.tree_runs.specs.Machines.{Stand}
-use Rattle.tree_runs.specs.Runs.{FedRuns, RunsOn}
+use Rattle.tree_runs.specs.Runs.{FedRuns}
+use Rattle.tree_runs.specs.Trees.{TreeRunsOn}
 use Rattle.stack_direct.specs.Trees.{handed_whole}
 use Rattle.tree_runs.proofs.Closing.{runs_on}
 use Rattle.tree_runs.proofs.Running.{ends_none}
+use Rattle.stack_direct.proofs.Going.{goes_then, runs_out, runs_until}
 use Rattle.stack_direct.proofs.run.run_direct.Goals as goal
 
 -- the feed's end, or none, and no pause
@@ -34,54 +35,78 @@ fed_done {outputs = outputs} {near = near} {setups = setups} {parents = parents}
 pub returns-in-Ok-end_all-clause-runs : goal.returns-in-Ok-end_all-clause-runs
 returns-in-Ok-end_all-clause-runs g c =
     let m = g.M.Machine in
+    let f = g.F.RunFeed in
+    let k = g.G.MarkTake in
     let ms = c.args.machines.now in
     let ends = c.in-Ok-end_all.ensures.took in
     let all : ends.0 ≡ length c.args.parents.now = ends.2 in
-    subst (λ (l : List g.row.M.Denot). RunsOn m.outputs m.near (map m.setup ms) c.args.parents.now (Stand m.consumed ms) (Stand m.consumed l) (g.F.RunFeed.gave c.args.feed.now) (g.F.RunFeed.gave c.feed_all.new.feed) (g.G.MarkTake.took c.args.take.now) (g.G.MarkTake.took c.end_all.new.take) (g.F.RunFeed.at_end c.feed_all.new.feed) Ended) (search (rules, c.in-Ok.ensures.same.machines))
-    (runs_on m.outputs m.near (map m.setup ms) c.args.parents.now
-    (g.G.MarkTake.took c.end_all.new.take) c.in-Ok.ensures.feeds (g.F.RunFeed.at_end c.feed_all.new.feed) false Ended ends.0 (whole_end _ c.in-Ok.ensures.at_end) ends.4
-    (λ j e. (refl, c.in-Ok.ensures.at_end))
-    (λ e. (refl, λ j within. let test : nat_lt j ends.0 ≡ true = grind (arith, nat_tests, all, within) in test))
-    (λ e. absurd cc)
-    (λ d. absurd cc)
-    (λ paused. absurd cc))
+    record {
+      tree = subst (λ (l : List g.row.M.Denot). TreeRunsOn m f k c.args.parents.now ms l c.args.feed.now c.feed_all.new.feed c.args.take.now c.end_all.new.take Ended) (search (rules, c.in-Ok.ensures.same.machines))
+          (runs_on m.outputs m.near (map m.setup ms) c.args.parents.now
+          (k.took c.end_all.new.take) c.in-Ok.ensures.feeds (f.at_end c.feed_all.new.feed) false Ended ends.0 (whole_end _ c.in-Ok.ensures.at_end) ends.4
+          (λ j e. (refl, c.in-Ok.ensures.at_end))
+          (λ e. (refl, λ j within. let test : nat_lt j ends.0 ≡ true = grind (arith, nat_tests, all, within) in test))
+          (λ e. absurd cc)
+          (λ d. absurd cc)
+          (λ paused. absurd cc));
+      reads = record { at_end = λ _. c.in-Ok.ensures.at_end; origin = c.in-Ok.ensures.feed_origin };
+      takes = runs_out k (goes_then k.instances k.origin k.stops k.going c.in-Ok.ensures.takes c.in-Ok-end_all.ensures.takes);
+    }
 
 pub returns-in-Err-clause-runs : goal.returns-in-Err-clause-runs
 returns-in-Err-clause-runs g c =
     let m = g.M.Machine in
+    let f = g.F.RunFeed in
+    let k = g.G.MarkTake in
     let ms = c.args.machines.now in
     let ends = c.in-Err.ensures.took in
-    subst (λ (l : List g.row.M.Denot). RunsOn m.outputs m.near (map m.setup ms) c.args.parents.now (Stand m.consumed ms) (Stand m.consumed l) (g.F.RunFeed.gave c.args.feed.now) (g.F.RunFeed.gave c.feed_all.new.feed) (g.G.MarkTake.took c.args.take.now) (g.G.MarkTake.took c.end_all.new.take) (g.F.RunFeed.at_end c.feed_all.new.feed) Stopped) (search (rules, c.in-Ok.ensures.same.machines))
-    (runs_on m.outputs m.near (map m.setup ms) c.args.parents.now
-    (g.G.MarkTake.took c.end_all.new.take) c.in-Ok.ensures.feeds (g.F.RunFeed.at_end c.feed_all.new.feed) false Stopped ends.0 (whole_end _ c.in-Ok.ensures.at_end) ends.4
-    (λ j e. (refl, c.in-Ok.ensures.at_end))
-    (λ e. absurd cc)
-    (λ e d still. ends.3)
-    (λ d. absurd cc)
-    (λ paused. absurd cc))
+    record {
+      tree = subst (λ (l : List g.row.M.Denot). TreeRunsOn m f k c.args.parents.now ms l c.args.feed.now c.feed_all.new.feed c.args.take.now c.end_all.new.take Stopped) (search (rules, c.in-Ok.ensures.same.machines))
+          (runs_on m.outputs m.near (map m.setup ms) c.args.parents.now
+          (k.took c.end_all.new.take) c.in-Ok.ensures.feeds (f.at_end c.feed_all.new.feed) false Stopped ends.0 (whole_end _ c.in-Ok.ensures.at_end) ends.4
+          (λ j e. (refl, c.in-Ok.ensures.at_end))
+          (λ e. absurd cc)
+          (λ e d still. ends.3)
+          (λ d. absurd cc)
+          (λ paused. absurd cc));
+      reads = record { at_end = λ is. absurd cc; origin = c.in-Ok.ensures.feed_origin };
+      takes = runs_until k (goes_then k.instances k.origin k.stops k.going c.in-Ok.ensures.takes c.in-Err.ensures.takes);
+    }
 
 pub returns-in-Err-AtMark-clause-runs : goal.returns-in-Err-AtMark-clause-runs
 returns-in-Err-AtMark-clause-runs g c =
     let m = g.M.Machine in
+    let f = g.F.RunFeed in
+    let k = g.G.MarkTake in
     let ms = c.args.machines.now in
-    subst (λ (l : List g.row.M.Denot). RunsOn m.outputs m.near (map m.setup ms) c.args.parents.now (Stand m.consumed ms) (Stand m.consumed l) (g.F.RunFeed.gave c.args.feed.now) (g.F.RunFeed.gave c.feed_all.new.feed) (g.G.MarkTake.took c.args.take.now) (g.G.MarkTake.took c.feed_all.new.take) (g.F.RunFeed.at_end c.feed_all.new.feed) Stopped) (search (rules, c.in-Err-AtMark.ensures.same.machines))
-    (runs_on m.outputs m.near (map m.setup ms) c.args.parents.now
-    (g.G.MarkTake.took c.feed_all.new.take) (fed_done (ap (λ h. handed_whole (Err h)) c.in-Err-AtMark.field-0-is) c.in-Err-AtMark.ensures.feeds) (g.F.RunFeed.at_end c.feed_all.new.feed) false Stopped 0 (broken_end _ (c.in-Err-AtMark.ensures.not_at_end (ap (λ h. Err h) c.in-Err-AtMark.field-0-is))) (ends_none (g.G.MarkTake.took c.feed_all.new.take))
-    (λ j e. let no : nat_lt j 0 ≡ false = grind (arith, nat_tests) in absurd cc)
-    (λ e. absurd cc)
-    (λ e d. absurd cc)
-    (λ d. refl)
-    (λ paused. absurd cc))
+    record {
+      tree = subst (λ (l : List g.row.M.Denot). TreeRunsOn m f k c.args.parents.now ms l c.args.feed.now c.feed_all.new.feed c.args.take.now c.feed_all.new.take Stopped) (search (rules, c.in-Err-AtMark.ensures.same.machines))
+          (runs_on m.outputs m.near (map m.setup ms) c.args.parents.now
+          (k.took c.feed_all.new.take) (fed_done (ap (λ h. handed_whole (Err h)) c.in-Err-AtMark.field-0-is) c.in-Err-AtMark.ensures.feeds) (f.at_end c.feed_all.new.feed) false Stopped 0 (broken_end _ (c.in-Err-AtMark.ensures.not_at_end (ap (λ h. Err h) c.in-Err-AtMark.field-0-is))) (ends_none (k.took c.feed_all.new.take))
+          (λ j e. let no : nat_lt j 0 ≡ false = grind (arith, nat_tests) in absurd cc)
+          (λ e. absurd cc)
+          (λ e d. absurd cc)
+          (λ d. refl)
+          (λ paused. absurd cc));
+      reads = record { at_end = λ is. absurd cc; origin = c.in-Err-AtMark.ensures.feed_origin };
+      takes = runs_until k c.in-Err-AtMark.ensures.takes;
+    }
 
 pub returns-in-Err-InPause-clause-runs : goal.returns-in-Err-InPause-clause-runs
 returns-in-Err-InPause-clause-runs g c =
     let m = g.M.Machine in
+    let f = g.F.RunFeed in
+    let k = g.G.MarkTake in
     let ms = c.args.machines.now in
-    subst (λ (l : List g.row.M.Denot). RunsOn m.outputs m.near (map m.setup ms) c.args.parents.now (Stand m.consumed ms) (Stand m.consumed l) (g.F.RunFeed.gave c.args.feed.now) (g.F.RunFeed.gave c.feed_all.new.feed) (g.G.MarkTake.took c.args.take.now) (g.G.MarkTake.took c.feed_all.new.take) (g.F.RunFeed.at_end c.feed_all.new.feed) Stopped) (search (rules, c.in-Err-InPause.ensures.same.machines))
-    (runs_on m.outputs m.near (map m.setup ms) c.args.parents.now
-    (g.G.MarkTake.took c.feed_all.new.take) (fed_done (ap (λ h. handed_whole (Err h)) c.in-Err-InPause.field-0-is) c.in-Err-InPause.ensures.feeds) (g.F.RunFeed.at_end c.feed_all.new.feed) true Stopped 0 (or_paused (g.F.RunFeed.at_end c.feed_all.new.feed)) (ends_none (g.G.MarkTake.took c.feed_all.new.take))
-    (λ j e. let no : nat_lt j 0 ≡ false = grind (arith, nat_tests) in absurd cc)
-    (λ e. absurd cc)
-    (λ e d still. absurd cc)
-    (λ d. absurd cc)
-    (λ paused. refl))
+    record {
+      tree = subst (λ (l : List g.row.M.Denot). TreeRunsOn m f k c.args.parents.now ms l c.args.feed.now c.feed_all.new.feed c.args.take.now c.feed_all.new.take Stopped) (search (rules, c.in-Err-InPause.ensures.same.machines))
+          (runs_on m.outputs m.near (map m.setup ms) c.args.parents.now
+          (k.took c.feed_all.new.take) (fed_done (ap (λ h. handed_whole (Err h)) c.in-Err-InPause.field-0-is) c.in-Err-InPause.ensures.feeds) (f.at_end c.feed_all.new.feed) true Stopped 0 (or_paused (f.at_end c.feed_all.new.feed)) (ends_none (k.took c.feed_all.new.take))
+          (λ j e. let no : nat_lt j 0 ≡ false = grind (arith, nat_tests) in absurd cc)
+          (λ e. absurd cc)
+          (λ e d still. absurd cc)
+          (λ d. absurd cc)
+          (λ paused. refl));
+      reads = record { at_end = λ is. absurd cc; origin = c.in-Err-InPause.ensures.feed_origin };
+      takes = runs_until k c.in-Err-InPause.ensures.takes;
+    }
