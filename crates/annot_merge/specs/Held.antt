@@ -6,10 +6,11 @@ use Rattle.la_base.specs.declared.wires.Mark.{Mark}
 use Rattle.la_base.specs.declared.wires.Note.{Note}
 use Rattle.note_order.specs.Order.{entry_of}
 use Rattle.note_order.specs.declared.entry.Entry.{Entry}
-use Rattle.annot_merge.specs.Bounds.{Allows, HaveEnded, IsAllowed, bound_of}
+use Rattle.annot_merge.specs.Bounds.{HaveEnded, IsAllowed, bound_of}
 use Rattle.annot_merge.specs.Marks.{Continues, Pushes, sorted_notes}
 use Rattle.annot_merge.specs.Merging.{Merges}
 use Rattle.annot_merge.specs.Limits.{IsLimit}
+use Rattle.annot_merge.specs.Places.{IsWithin}
 use Rattle.annot_merge.specs.Queues.{RunAt, listing_of}
 use Rattle.annot_merge.specs.declared.limit.Limit.{Limit}
 use Rattle.annot_merge.specs.declared.merge.Merge.{Merge}
@@ -62,7 +63,7 @@ pub record Gives (old new : Merge) (found : ℕ × Note) : Type 0 where
 -- these notes are the first that are held, of one instance, and are allowed
 pub record AreReady (merge : Merge) (notes : List Entry) : Type 0 where
   pub run : RunAt merge.held.queues.items merge.held.lead.least.instance notes
-  pub within : All (λ entry. Allows (Some merge.limit.start) merge.limit.instance entry) notes
+  pub within : All (IsWithin merge.limit) notes
 
 -- they are given
 pub record GivesAll (old new : Merge) (notes : List Entry) : Type 0 where

@@ -3,9 +3,8 @@ ghost use Rattle.std.specs.Prelude.{◌≡◌, ◌+◌, ◌≤◌, ◌<◌, ◌^
 ghost use Rattle.std.specs.Prelude.{OnOk, Some, List, vec_len, drop, length, true};
 ghost use Rattle.std.specs.List.{All, HoldsAt};
 ghost use Rattle.note_order.specs.declared.entry.Entry.{Entry};
-ghost use Rattle.annot_merge.specs.Bounds.{Allows};
 ghost use Rattle.annot_merge.specs.Merging.{InOrder, PutsIn};
-ghost use Rattle.annot_merge.specs.Places.{GoesOn, StopsAt};
+ghost use Rattle.annot_merge.specs.Places.{GoesOn, IsWithin, StopsAt, StopsFirst};
 
 use crate::limit::Limit;
 use crate::limits::{allows, is_lower};
@@ -124,12 +123,9 @@ impl Queue {
     #[inline(always)]
     pub fn front(&self, limit: &Limit, others: &Limit) -> &[Entry]
         ensures parts { (rest : List Entry) × (live self.now ≡ result.now ++ rest) }
-        ensures within { All (λ entry. Allows (Some limit.now.start) limit.now.instance entry)
-            result.now }
+        ensures within { All (IsWithin limit.now) result.now }
         ensures before { All (λ entry. GoesOn others.now entry) (drop 1 result.now) }
-        ensures none { result.now ≡ [] → (entry : Entry) (rest : List Entry)
-            → live self.now ≡ entry ∷ rest
-            → StopsAt limit.now entry }
+        ensures none { result.now ≡ [] → StopsFirst limit.now (live self.now) }
     {
         let held = self.held();
         let count = front_of(held, limit, others);
@@ -152,11 +148,11 @@ impl Queue {
 fn front_of(held: &[Entry], limit: &Limit, others: &Limit) -> usize
     ensures most { result ≤ length held.now }
     ensures within { (k : ℕ) → k < result
-        → HoldsAt (λ entry. Allows (Some limit.now.start) limit.now.instance entry) held.now k }
+        → HoldsAt (IsWithin limit.now) held.now k }
     ensures before { (k : ℕ) → 0 < k → k < result
         → HoldsAt (λ entry. GoesOn others.now entry) held.now k }
     ensures none { result ≡ 0 → 0 < length held.now
-        → HoldsAt (λ entry. StopsAt limit.now entry) held.now 0 }
+        → HoldsAt (StopsAt limit.now) held.now 0 }
 {
     let mut count = 0;
     while count < held.len() {

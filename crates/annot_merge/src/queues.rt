@@ -3,9 +3,8 @@ ghost use Rattle.std.specs.Prelude.{All, ◌≡◌, ◌≤◌, ◌<◌, ◌^◌,
 ghost use Rattle.std.specs.Prelude.{OnOk, Some, List, length, slice_get, vec_len, ◌∷◌, ◌++◌, []};
 ghost use Rattle.note_order.specs.Order.{entry_of};
 ghost use Rattle.note_order.specs.declared.entry.Entry.{Entry};
-ghost use Rattle.annot_merge.specs.Bounds.{Allows};
 ghost use Rattle.annot_merge.specs.Merging.{PutsIn};
-ghost use Rattle.annot_merge.specs.Places.{StopsAt};
+ghost use Rattle.annot_merge.specs.Places.{IsWithin, StopsFirst};
 ghost use Rattle.annot_merge.specs.Queues.{Arranged, FirstAt, RunAt, Settles, lists_of};
 ghost use Rattle.annot_merge.specs.Queues.{listing_of, live};
 
@@ -119,11 +118,8 @@ impl Queues {
     pub fn front(&self, limit: &Limit) -> &[Entry]
         ensures run { 0 < length result.now
             → RunAt self.now.queues.items self.now.lead.least.instance result.now }
-        ensures within { All (λ entry. Allows (Some limit.now.start) limit.now.instance entry)
-            result.now }
-        ensures none { result.now ≡ [] → (entry : Entry) (rest : List Entry)
-            → listing_of self.now.queues.items ≡ entry ∷ rest
-            → StopsAt limit.now entry }
+        ensures within { All (IsWithin limit.now) result.now }
+        ensures none { result.now ≡ [] → StopsFirst limit.now (listing_of self.now.queues.items) }
     {
         let place = self.lead.least.instance as usize;
         if place >= self.queues.len() {
