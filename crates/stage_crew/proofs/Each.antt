@@ -1,6 +1,6 @@
 -- Those that take turns, each at its place.
-use Rattle.std.proofs.Common.{◌≡◌, ℕ, zero, suc, List, [], ◌∷◌, ◌++◌, set, get_or, ap, subst, sym, ◌∙◌, append_assoc}
-use Rattle.stage_crew.specs.Crew.{Each}
+use Rattle.std.proofs.Common.{◌≡◌, ℕ, zero, suc, List, [], ◌∷◌, ◌++◌, Vec, Global, set, get_or, ap, subst, refl, sym, ◌∙◌, append_assoc}
+use Rattle.stage_crew.specs.Crew.{AllGoOn, Each}
 
 module _ {A : Type 0} (R : A → A → Type 0) where
   module _ (same : (x : A) → R x x) where
@@ -20,6 +20,14 @@ module _ {A : Type 0} (R : A → A → Type 0) where
   each_then on (x ∷ xs) [] zs a b = absurd a
   each_then on (x ∷ xs) (y ∷ ys) [] a b = absurd b
   each_then on (x ∷ xs) (y ∷ ys) (z ∷ zs) a b = (on x y z a.0 b.0, each_then on xs ys zs a.1 b.1)
+
+  -- all stand still
+  pub all_still : ((x : A) → R x x) → (xs : Vec A Global) → AllGoOn R xs xs
+  all_still same xs = record { each = each_same same xs.items; count = refl }
+
+  -- all go on twice
+  pub all_further : ((x y z : A) → R x y → R y z → R x z) → {xs ys zs : Vec A Global} → AllGoOn R xs ys → AllGoOn R ys zs → AllGoOn R xs zs
+  all_further on {xs} {ys} {zs} a b = record { each = each_then on xs.items ys.items zs.items a.each b.each; count = b.count ∙ a.count }
 
   pub each_append : (xs ys : List A) (x y : A) → Each R xs ys → R x y → Each R (xs ++ x ∷ []) (ys ++ y ∷ [])
   each_append [] [] x y e r = (r, tt)

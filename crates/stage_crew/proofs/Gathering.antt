@@ -1,5 +1,5 @@
 -- Marks that were gathered and taken.
-use Rattle.std.proofs.Common.{◌≡◌, ◌≢◌, ◌<◌, ◌+◌, ℕ, Bool, true, false, not, List, [], ◌∷◌, ◌++◌, set, length, take, drop, take-append-drop, get_or, slice_get, Some, Result, inl, inr, refl, sym, ◌∙◌, ap, subst, arith, append_assoc, if◌then◌else◌}
+use Rattle.std.proofs.Common.{◌≡◌, ◌≢◌, ◌<◌, ◌+◌, ℕ, Bool, true, false, not, Vec, Global, map, List, [], ◌∷◌, ◌++◌, set, length, take, drop, take-append-drop, get_or, slice_get, Some, Result, inl, inr, refl, sym, ◌∙◌, ap, subst, arith, append_assoc, if◌then◌else◌}
 use Rattle.std.specs.Prelude.{nat_eq}
 use Rattle.std.specs.Result.{is_ok}
 use Rattle.std.proofs.lemmas.Bool.Decides.{nat_tests}
@@ -14,10 +14,12 @@ use Rattle.tree_runs.specs.Reaching.{Reaches}
 use Rattle.tree_runs.proofs.Lists.{reaches-append, reaches_weaker}
 use Rattle.tree_runs.proofs.Joining.{took_then, took_nothing}
 use Rattle.tree_runs.proofs.Running.{took_same}
+use Rattle.stage_ring.specs.Link.{received}
+use Rattle.stage_ring.specs.declared.ends.Rx.{Rx}
 use Rattle.stage_crew.specs.Driving.{EndsWith}
 use Rattle.tree_io.specs.Feeds.{real}
 use Rattle.tree_io.proofs.Taking.{real-append}
-use Rattle.stage_crew.specs.Gathering.{Fronts, Gathers, Overs, TakesOne, TakesUntil}
+use Rattle.stage_crew.specs.Gathering.{Fronts, Gathers, GathersFrom, Overs, TakesOne, TakesUntil}
 use Rattle.stage_crew.specs.declared.gatherer.Gatherer.{Gatherer}
 use Rattle.stage_crew.proofs.Handing.{get_set}
 use Rattle.stage_crew.proofs.Taking.{takes_none, takes_one, takes_then}
@@ -164,3 +166,10 @@ module _ {A O : Type 0} (g : TakeGhosts A O) where
     others = λ j more. let within = slice_get_within olds i old at in only_elsewhere i some j (λ same. absurd (omega (arith, same, within, more)));
     takes = subst (λ (b : Bool). TakesUntil g s.stopped b old_take new_take) (sym stopped_is) takes;
   }
+
+  -- from links
+  pub from_none : (now : A) (state : Gatherer) (marks : Vec (Rx Mark) Global) → GathersFrom g now now state state marks marks
+  from_none now state marks = record { gathers = gathers_none now state (map received marks.items); links = refl; count = refl }
+
+  pub from_then : {a b c : A} {s0 s1 s2 : Gatherer} {m0 m1 m2 : Vec (Rx Mark) Global} → GathersFrom g a b s0 s1 m0 m1 → GathersFrom g b c s1 s2 m1 m2 → GathersFrom g a c s0 s2 m0 m2
+  from_then p q = record { gathers = gathers_then p.gathers q.gathers; links = q.links ∙ p.links; count = q.count ∙ p.count }

@@ -6,7 +6,8 @@ use Rattle.tree_io.specs.declared.feeds.MarkTake.{Ghosts as TakeGhosts}
 use Rattle.decoder_core.specs.declared.end.RunEnd.{RunEnd}
 use Rattle.decoder_core.specs.declared.end.RunEnd.TheVariants.{Ended, Stopped}
 use Rattle.tree_runs.specs.Runs.{is_ended}
-use Rattle.stage_crew.specs.Gathering.{TakesOn, TakesOne, TakesUntil}
+use Rattle.tree_runs.specs.Trees.{TakesRun}
+use Rattle.stage_crew.specs.Gathering.{TakesOne, TakesUntil}
 use Rattle.stage_crew.proofs.Common.{not_before, not_true}
 
 -- a count rose where it was stopped, now or before
@@ -61,6 +62,6 @@ module _ {A O : Type 0} (g : TakeGhosts A O) where
   }
 
   -- a whole run
-  pub takes_on : {a b : A} (result : RunEnd) → TakesUntil g false (not (is_ended result)) a b → TakesOn g result a b
+  pub takes_on : {a b : A} (result : RunEnd) → TakesUntil g false (not (is_ended result)) a b → TakesRun g result a b
   takes_on Ended p = record { instances = p.instances; origin = p.origin; ended = λ is. p.quiet refl; stopped = λ is. absurd cc; going = p.going }
   takes_on Stopped p = record { instances = p.instances; origin = p.origin; ended = λ is. absurd cc; stopped = λ is. p.rose refl refl; going = p.going }

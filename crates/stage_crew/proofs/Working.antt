@@ -30,9 +30,7 @@ module _ {D S : Type 0} {reads_on : D → D → Type 0} {goes_on : S → S → T
       → WorksOff reads_on goes_on over old (record within { done = pushed })
   works_beside within pushed back comes one_more room ends w = record {
     readers = w.readers;
-    readers_len = w.readers_len;
     own = w.own;
-    own_len = w.own_len;
     done = put_back (Ends goes_on over) old.todo.items left.items old.done.items within.done.items pushed.items stage back popped w.done.0 w.done.1 w.done.2 comes ends;
     done_len = omega (arith, one_more, w.done_len, one_less);
     room = room ∙ w.room;
@@ -44,15 +42,13 @@ module _ {D S : Type 0} {reads_on : D → D → Type 0} {goes_on : S → S → T
     (kept : Vec S Global) (keeps : within.own.items ≡ kept.items ++ came ∷ []) (one_less : vec_len kept + 1 ≡ vec_len within.own) where
   -- one that the driver was given goes on
   pub came_on : Each goes_on old.own.items kept.items × goes_on given came
-  came_on = handed goes_on lent.items within.own.items old.own.items kept.items given came w.own lends keeps
+  came_on = handed goes_on lent.items within.own.items old.own.items kept.items given came w.own.each lends keeps
 
   -- and is taken out again
   pub works_around : WorksOff reads_on goes_on over old (record within { own = kept })
   works_around = record {
     readers = w.readers;
-    readers_len = w.readers_len;
-    own = came_on.0;
-    own_len = omega (arith, one_less, w.own_len, one_more);
+    own = record { each = came_on.0; count = omega (arith, one_less, w.own.count, one_more) };
     done = w.done;
     done_len = w.done_len;
     room = w.room;

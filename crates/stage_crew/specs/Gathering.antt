@@ -1,16 +1,17 @@
 -- How far the marks were gathered and taken.
 use Rattle.std.specs.Prelude.{ℕ, ◌≡◌, ◌≤◌, not, Bool, true, false, List, [], ◌++◌, length, Some}
-use Rattle.std.specs.Prelude.{slice_get, Result}
+use Rattle.std.specs.Prelude.{slice_get, Result, map, vec_len}
+use Rattle.std.specs.declared.vec.Vec.{Vec}
+use Rattle.std.specs.declared.alloc.Global.{Global}
 use Rattle.la_base.specs.declared.wires.Mark.{Mark}
 use Rattle.la_base.specs.declared.wires.Mark.TheVariants.{End as EndMark}
 use Rattle.la_io.specs.Causes.{Rose}
 use Rattle.tree_io.specs.declared.feeds.MarkTake.{Ghosts as TakeGhosts}
-use Rattle.decoder_core.specs.declared.end.RunEnd.{RunEnd}
-use Rattle.decoder_core.specs.declared.end.RunEnd.TheVariants.{Ended, Stopped}
 use Rattle.tree_runs.specs.Passing.{Took}
 use Rattle.tree_runs.specs.Reaching.{Reaches}
-use Rattle.tree_runs.specs.Runs.{is_ended}
 use Rattle.tree_runs.specs.Taking.{GoesOn}
+use Rattle.stage_ring.specs.Link.{received, rx_link}
+use Rattle.stage_ring.specs.declared.ends.Rx.{Rx}
 use Rattle.stage_crew.specs.Driving.{EndsWith}
 use Rattle.tree_io.specs.Feeds.{real}
 use Rattle.stage_crew.specs.declared.gatherer.Gatherer.{Gatherer}
@@ -28,6 +29,10 @@ Overs flags gathered =
     (i : ℕ) (marks : List Mark) → slice_get gathered i ≡ Some marks
     → slice_get flags i ≡ Some true → EndsWith EndMark marks
 
+-- these are the marks of so many instances, of 24 at the most
+abbrev pub AreMarksOf : ℕ → Vec (Rx Mark) Global → Type 0
+AreMarksOf instances marks = (vec_len marks ≡ instances) × (vec_len marks ≤ 24)
+
 module _ {A O : Type 0} (g : TakeGhosts A O) where
   -- a mark was handed to what takes them
   abbrev pub TakesOne : {R E : Type 0} → A → A → Result R E → Type 0
@@ -44,14 +49,6 @@ module _ {A O : Type 0} (g : TakeGhosts A O) where
     pub rose : stopped_old ≡ false → stopped_new ≡ true → Rose (g.stops old) (g.stops new)
     pub going : g.going old (not stopped_old) → g.going new (not stopped_new)
 
-  -- the same of a whole run
-  pub record TakesOn (result : RunEnd) (old new : A) : Type 0 where
-    pub instances : g.instances new ≡ g.instances old
-    pub origin : g.origin new ≡ g.origin old
-    pub ended : result ≡ Ended → g.stops new ≡ g.stops old
-    pub stopped : result ≡ Stopped → Rose (g.stops old) (g.stops new)
-    pub going : g.going old true → g.going new (is_ended result)
-
   -- more marks were gathered and taken
   pub record Gathers (old new : A) (state_old state_new : Gatherer)
       (gathered_old gathered_new : List (List Mark)) : Type 0 where
@@ -63,3 +60,11 @@ module _ {A O : Type 0} (g : TakeGhosts A O) where
     pub count : length gathered_new ≡ length gathered_old
     pub others : (i : ℕ) → length gathered_old ≤ i → change i ≡ []
     pub takes : TakesUntil state_old.stopped state_new.stopped old new
+
+  -- they were gathered from these links
+  pub record GathersFrom (old new : A) (state_old state_new : Gatherer)
+      (marks_old marks_new : Vec (Rx Mark) Global) : Type 0 where
+    pub gathers : Gathers old new state_old state_new (map received marks_old.items)
+        (map received marks_new.items)
+    pub links : map rx_link marks_new.items ≡ map rx_link marks_old.items
+    pub count : vec_len marks_new ≡ vec_len marks_old

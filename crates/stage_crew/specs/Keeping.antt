@@ -7,8 +7,9 @@ use Rattle.tree_io.specs.declared.feeds.MarkTake.{Ghosts as TakeGhosts}
 use Rattle.decoder_core.specs.declared.end.RunEnd.{RunEnd}
 use Rattle.decoder_core.specs.declared.end.RunEnd.TheVariants.{Ended}
 use Rattle.tree_runs.specs.Passing.{Took}
+use Rattle.tree_runs.specs.Trees.{TakesRun}
 use Rattle.stage_crew.specs.Driving.{EndsWith}
-use Rattle.stage_crew.specs.Gathering.{Fronts, Overs, TakesOn, TakesUntil}
+use Rattle.stage_crew.specs.Gathering.{Fronts, Overs, TakesUntil}
 use Rattle.stage_crew.specs.declared.gatherer.Gatherer.{Gatherer}
 
 module _ {B Q : Type 0} (g : TakeGhosts B Q) where
@@ -41,4 +42,4 @@ module _ {B Q : Type 0} (g : TakeGhosts B Q) where
     pub closes : result ≡ Ended → (done ≡ true)
         × ((i : ℕ) (marks : List Mark) → slice_get gathered i ≡ Some marks → nat_lt i ends ≡ true)
     pub untold : done ≡ true → told ≡ []
-    pub takes : TakesOn g result take_old take_new
+    pub takes : TakesRun g result take_old take_new

@@ -3,19 +3,25 @@ use Rattle.std.specs.Prelude.{ℕ, ◌≡◌, ◌≤◌, ◌<◌, ◌+◌, ◌++
 use Rattle.std.specs.Prelude.{vec_capacity, vec_len}
 use Rattle.la_base.specs.declared.wires.Mark.{Mark}
 use Rattle.tree_io.specs.declared.feeds.MarkTake.{Ghosts as TakeGhosts}
+use Rattle.tree_io.specs.declared.feeds.RunFeed.{Ghosts as FeedGhosts}
 use Rattle.decoder_core.specs.declared.end.RunEnd.{RunEnd}
+use Rattle.tree_runs.specs.Trees.{ReadsFeed, TakesRun}
 use Rattle.stage_ring.specs.Link.{received, rx_link, sent, tx_link}
-use Rattle.stage_crew.specs.Crew.{Each, Ends}
+use Rattle.stage_crew.specs.Crew.{AllGoOn, Each, Ends}
+use Rattle.stage_crew.specs.Driving.{Drove}
+use Rattle.stage_crew.specs.Gathering.{AreMarksOf}
 use Rattle.stage_crew.specs.Keeping.{Collects}
 use Rattle.stage_crew.specs.declared.crew.CrewEnds.{CrewEnds}
 use Rattle.stage_crew.specs.declared.crew.DriverEnds.{DriverEnds}
+use Rattle.stage_crew.specs.declared.crew.FrameResult.{FrameResult}
+use Rattle.stage_crew.specs.declared.crew.Ran.{Ran}
 use Rattle.stage_crew.specs.declared.crew.Work.{Work}
+use Rattle.stage_crew.specs.declared.turns.Turns.{Ghosts as TurnsGhosts}
 
 -- the driver has the marks of so many instances; nothing was received of them, and the reader wasn't
 -- told of a stop
 pub record AreUnused (instances : ℕ) (ends : DriverEnds) : Type 0 where
-  pub count : vec_len ends.marks ≡ instances
-  pub few : vec_len ends.marks ≤ 24
+  pub of : AreMarksOf instances ends.marks
   pub fresh : (k : ℕ) (marks : List Mark) → slice_get (map received ends.marks.items) k ≡ Some marks
       → marks ≡ []
   pub untold : sent ends.stop ≡ []
@@ -33,13 +39,18 @@ pub record IsReady {D S : Type 0} (work : Work D S) : Type 0 where
   pub reader : (vec_len work.readers < vec_capacity work.readers) × (vec_len work.readers ≡ 0)
   pub none : work.done.items ≡ []
 
+-- there are workers for the stages that are to be run, and a driver that has done nothing
+pub record CanRun {D S : Type 0} (workers instances : ℕ) (work : Work D S) (ends : DriverEnds)
+    : Type 0 where
+  pub ready : IsReady work
+  pub few : vec_len work.todo ≤ workers
+  pub unused : AreUnused instances ends
+
 -- the stages came back, each over, behind those that did before; those that the driver runs went on
 pub record WorksOff {D S : Type 0} (reads_on : D → D → Type 0) (goes_on : S → S → Type 0)
     (over : S → Bool) (old new : Work D S) : Type 0 where
-  pub readers : Each reads_on old.readers.items new.readers.items
-  pub readers_len : vec_len new.readers ≡ vec_len old.readers
-  pub own : Each goes_on old.own.items new.own.items
-  pub own_len : vec_len new.own ≡ vec_len old.own
+  pub readers : AllGoOn reads_on old.readers new.readers
+  pub own : AllGoOn goes_on old.own new.own
   pub done : (made : List S) × (new.done.items ≡ old.done.items ++ made)
       × Each (Ends goes_on over) old.todo.items made
   pub done_len : vec_len new.done ≡ vec_len old.done + vec_len old.todo
@@ -56,3 +67,24 @@ pub record Drives {A O : Type 0} (g : TakeGhosts A O) (take_old take_new : A) (r
 pub record SameLinks (old new : CrewEnds) : Type 0 where
   pub feeds : map tx_link new.feeds.items ≡ map tx_link old.feeds.items
   pub marks : map rx_link new.marks.items ≡ map rx_link old.marks.items
+
+-- a driver did its part; the reader and the stages came back, each over
+pub record FramesRan {A O D S : Type 0} (g : TakeGhosts A O) (d : TurnsGhosts D)
+    (s : TurnsGhosts S) (take_old : A) (reader : D) (work : Work D S) (ends : DriverEnds)
+    (result : FrameResult D S A) : Type 0 where
+  pub drives : Drives g take_old result.take.now result.end ends result.ends
+  pub reads : Ends d.goes_on d.over reader result.reader
+  pub stages : Each (Ends s.goes_on s.over) work.todo.items result.done.items
+
+-- a crew, which has the same links, sent all that its feed gave, and gathered all marks and had them
+-- taken; its stages came back, each over
+pub record CrewRuns {A O B Q S : Type 0} (f : FeedGhosts A O) (g : TakeGhosts B Q)
+    (s : TurnsGhosts S) (feed_old feed_new : A) (take_old take_new : B) (todo : List S)
+    (ends : CrewEnds) (ran : Ran S) : Type 0 where
+  pub drove : Drove (f.gave feed_old) (f.gave feed_new) (g.took take_old) (g.took take_new)
+      (f.at_end feed_new) ran.end (map sent ran.ends.feeds.items)
+      (map received ran.ends.marks.items)
+  pub reads : ReadsFeed f ran.end feed_old feed_new
+  pub takes : TakesRun g ran.end take_old take_new
+  pub links : SameLinks ends ran.ends
+  pub stages : Each (Ends s.goes_on s.over) todo ran.stages.items

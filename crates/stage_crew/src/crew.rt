@@ -2,6 +2,7 @@
 ghost use Rattle.std.specs.Prelude.{◌≡◌, ⊤};
 
 use crate::status::CrewStatus;
+use decoder_core::RunEnd;
 use la_base::Mark;
 use stage_ring::{Rx, Tx};
 use stage_run::HalfRun;
@@ -57,4 +58,21 @@ pub(crate) struct Work<D, S> {
     pub(crate) done: Vec<S>,
     pub(crate) own: Vec<S>,
     pub(crate) readers: Vec<D>,
+}
+
+/// What was lent to the frames, and what they give back.
+pub(crate) struct FrameResult<'a, D, S, G> {
+    pub(crate) take: &'a mut G,
+    pub(crate) reader: D,
+    pub(crate) done: Vec<S>,
+    pub(crate) ends: DriverEnds,
+    pub(crate) end: RunEnd,
+}
+
+/// The stages, each over, and the ends of the links that were handed in, in their order.
+#[derive(Drop)]
+pub struct Ran<S> {
+    pub stages: Vec<S>,
+    pub ends: CrewEnds,
+    pub end: RunEnd,
 }

@@ -1,8 +1,8 @@
 // The driver: it gathers the marks, and runs what no thread took.
-ghost use Rattle.std.specs.Prelude.{◌≡◌, ◌≤◌, [], List, ℕ, Some, false, map, slice_get, vec_len};
+ghost use Rattle.std.specs.Prelude.{◌≡◌, ◌≤◌, [], List, ℕ, Some, false};
 ghost use Rattle.la_base.specs.declared.wires.Mark.{Mark as MarkIs};
-ghost use Rattle.stage_ring.specs.Link.{received, rx_link, sent, tx_link};
-ghost use Rattle.stage_crew.specs.Crew.{Each};
+ghost use Rattle.stage_ring.specs.Link.{sent, tx_link};
+ghost use Rattle.stage_crew.specs.Crew.{AllGoOn};
 ghost use Rattle.stage_crew.specs.Gathering.{Gathers};
 ghost use Rattle.stage_crew.specs.Working.{AreUnused, Drives};
 
@@ -48,8 +48,7 @@ fn turn_own<S: Turns, P: Pacer>(
     crew: &CrewStatus,
     pacer: &P,
 ) -> bool
-    ensures own { Each S.goes_on own.old.items own.new.items }
-    ensures len { vec_len own.new ≡ vec_len own.old }
+    ensures { AllGoOn S.goes_on own.old own.new }
 {
     let mut moved = false;
     for place in 0..own.len() {
@@ -133,10 +132,8 @@ pub(crate) fn drive<R: Wait, D: Turns, S: Turns, P: Pacer, G: MarkTake>(
 ) -> RunEnd
     requires unused { AreUnused (G.instances take.old) ends.old }
     ensures drives { Drives G.MarkTake take.old take.new result ends.old ends.new }
-    ensures readers { Each D.goes_on readers.old.items readers.new.items }
-    ensures readers_len { vec_len readers.new ≡ vec_len readers.old }
-    ensures own { Each S.goes_on own.old.items own.new.items }
-    ensures own_len { vec_len own.new ≡ vec_len own.old }
+    ensures readers { AllGoOn D.goes_on readers.old readers.new }
+    ensures own { AllGoOn S.goes_on own.old own.new }
 {
     turns_go_on::<D>();
     turns_go_on::<S>();

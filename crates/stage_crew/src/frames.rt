@@ -1,7 +1,7 @@
 // One worker for the reader, and one for each stage.
 ghost use Rattle.std.specs.Prelude.{◌≡◌, ◌≤◌, vec_len, IfOk, IfErr};
 ghost use Rattle.stage_crew.specs.Crew.{Each, Ends};
-ghost use Rattle.stage_crew.specs.Working.{AreUnused, Drives, HasRoom, IsReady, WorksOff};
+ghost use Rattle.stage_crew.specs.Working.{AreUnused, CanRun, Drives, HasRoom, WorksOff};
 
 use crate::crew::{Crew, DriverEnds, Work};
 use crate::driver::drive;
@@ -103,9 +103,7 @@ pub(crate) fn lead<
     ends: &mut DriverEnds,
     take: &mut G,
 ) -> (D, RunEnd)
-    requires ready { IsReady work.old }
-    requires few { vec_len work.old.todo ≤ vec_len crew.status.now.workers }
-    requires unused { AreUnused (G.instances take.old) ends.old }
+    requires { CanRun (vec_len crew.status.now.workers) (G.instances take.old) work.old ends.old }
     ensures drives { Drives G.MarkTake take.old take.new result.1 ends.old ends.new }
     ensures reader { Ends D.goes_on D.over reader result.0 }
     ensures done { Each (Ends S.goes_on S.over) work.old.todo.items work.new.done.items }

@@ -1,6 +1,5 @@
 // How the marks of all instances are gathered.
-ghost use Rattle.std.specs.Prelude.{◌≡◌, ◌≤◌, ◌<◌, ℕ, Some, map, slice_get, true, vec_len};
-ghost use Rattle.stage_ring.specs.Link.{received, rx_link};
+ghost use Rattle.std.specs.Prelude.{◌≡◌, ◌≤◌, ◌<◌, ℕ, Some, slice_get, true, vec_len};
 
 use crate::MOST_STAGES;
 use crate::counts::GatheredCounts;
@@ -38,7 +37,7 @@ fn place_behind(marks: &[Mark], before: u64) -> u64 {
 
 impl Gatherer {
     ghost use Rattle.std.specs.Prelude.{false, replicate};
-    ghost use Rattle.stage_crew.specs.Gathering.{Gathers};
+    ghost use Rattle.stage_crew.specs.Gathering.{AreMarksOf, GathersFrom};
 
     pub(crate) fn new() -> Gatherer
         ensures over { result.over ≡ replicate 24 false }
@@ -61,11 +60,8 @@ impl Gatherer {
         number: usize,
     ) -> bool
         requires within { number < vec_len marks.old }
-        requires marks { (vec_len marks.old ≡ G.instances take.old) × (vec_len marks.old ≤ 24) }
-        ensures len { vec_len marks.new ≡ vec_len marks.old }
-        ensures links { map rx_link marks.new.items ≡ map rx_link marks.old.items }
-        ensures gathers { Gathers G.MarkTake take.old take.new self.old self.new
-            (map received marks.old.items) (map received marks.new.items) }
+        requires marks { AreMarksOf (G.instances take.old) marks.old }
+        ensures { GathersFrom G.MarkTake take.old take.new self.old self.new marks.old marks.new }
     {
         if self.over[number] {
             return false;
@@ -103,11 +99,8 @@ impl Gatherer {
         marks: &mut Vec<Rx<Mark>>,
         counts: &mut GatheredCounts,
     ) -> bool
-        requires marks { (vec_len marks.old ≡ G.instances take.old) × (vec_len marks.old ≤ 24) }
-        ensures len { vec_len marks.new ≡ vec_len marks.old }
-        ensures links { map rx_link marks.new.items ≡ map rx_link marks.old.items }
-        ensures gathers { Gathers G.MarkTake take.old take.new self.old self.new
-            (map received marks.old.items) (map received marks.new.items) }
+        requires marks { AreMarksOf (G.instances take.old) marks.old }
+        ensures { GathersFrom G.MarkTake take.old take.new self.old self.new marks.old marks.new }
     {
         let count = marks.len();
         if count == 0 {
@@ -131,11 +124,8 @@ impl Gatherer {
         marks: &mut Vec<Rx<Mark>>,
         counts: &mut GatheredCounts,
     ) -> bool
-        requires marks { (vec_len marks.old ≡ G.instances take.old) × (vec_len marks.old ≤ 24) }
-        ensures len { vec_len marks.new ≡ vec_len marks.old }
-        ensures links { map rx_link marks.new.items ≡ map rx_link marks.old.items }
-        ensures gathers { Gathers G.MarkTake take.old take.new self.old self.new
-            (map received marks.old.items) (map received marks.new.items) }
+        requires marks { AreMarksOf (G.instances take.old) marks.old }
+        ensures { GathersFrom G.MarkTake take.old take.new self.old self.new marks.old marks.new }
     {
         let mut moved = false;
         for number in 0..marks.len() {
@@ -155,11 +145,8 @@ impl Gatherer {
         marks: &mut Vec<Rx<Mark>>,
         counts: &mut GatheredCounts,
     ) -> bool
-        requires marks { (vec_len marks.old ≡ G.instances take.old) × (vec_len marks.old ≤ 24) }
-        ensures len { vec_len marks.new ≡ vec_len marks.old }
-        ensures links { map rx_link marks.new.items ≡ map rx_link marks.old.items }
-        ensures gathers { Gathers G.MarkTake take.old take.new self.old self.new
-            (map received marks.old.items) (map received marks.new.items) }
+        requires marks { AreMarksOf (G.instances take.old) marks.old }
+        ensures { GathersFrom G.MarkTake take.old take.new self.old self.new marks.old marks.new }
     {
         if self.gather_hindmost(take, marks, counts) {
             return true;

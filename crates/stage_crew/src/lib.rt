@@ -25,7 +25,7 @@ mod worker;
 /// The most stages of a run.
 pub const MOST_STAGES: usize = 24;
 
-pub use crew::{CrewEnds, Supplies};
+pub use crew::{CrewEnds, Ran, Supplies};
 pub use pacer::{Pacer, PlainPacer};
-pub use scope::{Ran, run_crew};
+pub use scope::run_crew;
 pub use turns::Turns;

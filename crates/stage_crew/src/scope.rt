@@ -1,22 +1,17 @@
 // The outermost frame: a scope for the workers.
-ghost use Rattle.std.specs.Prelude.{◌≡◌, ◌≤◌, [], map, true, vec_len, IfOk, OnErr};
-ghost use Rattle.decoder_core.specs.declared.end.RunEnd.TheVariants.{Ended, Stopped as RunStopped};
-ghost use Rattle.la_io.specs.Causes.{Rose};
-ghost use Rattle.tree_runs.specs.Runs.{is_ended};
-ghost use Rattle.stage_ring.specs.Link.{IsLink, sent, received};
-ghost use Rattle.stage_crew.specs.Crew.{Each, Ends};
-ghost use Rattle.stage_crew.specs.Driving.{Drove, Fresh};
-ghost use Rattle.stage_crew.specs.Gathering.{TakesOn};
-ghost use Rattle.stage_crew.specs.Working.{AreUnused, Drives, IsReady, SameLinks};
+ghost use Rattle.std.specs.Prelude.{◌≡◌, ◌≤◌, [], vec_len, IfOk, OnErr};
+ghost use Rattle.stage_ring.specs.Link.{IsLink, sent};
+ghost use Rattle.stage_crew.specs.Driving.{Fresh};
+ghost use Rattle.stage_crew.specs.Gathering.{AreMarksOf};
+ghost use Rattle.stage_crew.specs.Working.{CanRun, CrewRuns, FramesRan, IsReady};
 
-use crate::crew::{Crew, CrewEnds, DriverEnds, Supplies, Work};
+use crate::crew::{Crew, CrewEnds, DriverEnds, FrameResult, Ran, Supplies, Work};
 use crate::frames::lead;
 use crate::idle::spins_for;
 use crate::permit::ReadPermit;
 use crate::reader::Reader;
 use crate::status::{CrewStatus, DRIVER, READER, WorkerStatus};
 use crate::{MOST_STAGES, Pacer, PlainPacer, Turns};
-use decoder_core::RunEnd;
 use la_base::NoMemory;
 use stage_ring::{Rx, Tx, link, settle};
 use std::alloc::Global;
@@ -24,15 +19,6 @@ use std::sync::Wait;
 use std::thread;
 use std::thread::Threads;
 use tree_io::{MarkTake, RunFeed};
-
-// What was lent to the frames, and what they give back.
-struct FrameResult<'a, D, S, G> {
-    take: &'a mut G,
-    reader: D,
-    done: Vec<S>,
-    ends: DriverEnds,
-    end: RunEnd,
-}
 
 // Opens a scope for the workers, and hands back what it was lent.
 fn within_scope<
@@ -49,26 +35,18 @@ fn within_scope<
     ends: DriverEnds,
     take: &'a mut G,
 ) -> FrameResult<'a, D, S, G>
-    requires ready { IsReady work }
-    requires few { vec_len work.todo ≤ vec_len crew.status.now.workers }
-    requires unused { AreUnused (G.instances take.old) ends }
-    ensures drives { Drives G.MarkTake take.old result.take.now result.end ends result.ends }
+    requires { CanRun (vec_len crew.status.now.workers) (G.instances take.old) work ends }
+    ensures runs { FramesRan G.MarkTake D.Turns S.Turns take.old reader work ends result }
     ensures same { result.take.ghost_name ≡ take.entry.ghost_name }
-    ensures reader { Ends D.goes_on D.over reader result.reader }
-    ensures stages { Each (Ends S.goes_on S.over) work.todo.items result.done.items }
 {
     thread::scope(
         thread::scope_env(),
         crew.runtime,
         move |scope| -> FrameResult<D, S, G>
-            requires ready { IsReady work }
-            requires few { vec_len work.todo ≤ vec_len crew.status.now.workers }
-            requires unused { AreUnused (G.instances take.now) ends }
-            ensures drives { Drives G.MarkTake take.entry.now result.take.now result.end ends
-                result.ends }
+            requires { CanRun (vec_len crew.status.now.workers) (G.instances take.now) work ends }
+            ensures runs { FramesRan G.MarkTake D.Turns S.Turns take.entry.now reader work ends
+                result }
             ensures same { result.take.ghost_name ≡ take.entry.ghost_name }
-            ensures reader { Ends D.goes_on D.over reader result.reader }
-            ensures stages { Each (Ends S.goes_on S.over) work.todo.items result.done.items }
         {
             let mut work = work;
             let mut ends = ends;
@@ -111,20 +89,13 @@ fn read_within<
 ) -> CrewResult<'a, 'b, S, F, G>
     requires ready { IsReady work }
     requires few { vec_len work.todo ≤ vec_len crew.status.now.workers }
-    requires marks { (vec_len ends.marks ≡ G.instances take.old) × (vec_len ends.marks ≤ 24) }
+    requires marks { AreMarksOf (G.instances take.old) ends.marks }
     requires fresh { Fresh ends.feeds.items ends.marks.items }
     requires stop { IsLink stop.0 stop.1 × (sent stop.0 ≡ []) }
-    ensures drove { Drove (F.gave feed.old) (F.gave result.feed.now) (G.took take.old)
-        (G.took result.take.now) (F.at_end result.feed.now) result.ran.end
-        (map sent result.ran.ends.feeds.items) (map received result.ran.ends.marks.items) }
-    ensures origin { F.origin result.feed.now ≡ F.origin feed.old }
-    ensures at_end { result.ran.end ≡ Ended → F.at_end result.feed.now ≡ true }
-    ensures takes { TakesOn G.MarkTake result.ran.end take.old result.take.now }
-    ensures links { SameLinks ends result.ran.ends }
+    ensures runs { CrewRuns F.RunFeed G.MarkTake S.Turns feed.old result.feed.now take.old
+        result.take.now work.entry.todo.items ends result.ran }
     ensures same { (result.feed.ghost_name ≡ feed.entry.ghost_name)
         × (result.take.ghost_name ≡ take.entry.ghost_name) }
-    ensures stages { Each (Ends S.goes_on S.over) work.entry.todo.items
-        result.ran.stages.items }
 {
     let (stop, stopped) = stop;
     let reader = Reader::new(feed, ends.feeds, stopped, crew.status);
@@ -275,14 +246,6 @@ fn work_of<D, S: Drop>(alloc: Global, stages: Vec<S>) -> Result<Work<D, S>, NoMe
     })
 }
 
-/// The stages, each over, and the ends of the links that were handed in, in their order.
-#[derive(Drop)]
-pub struct Ran<S> {
-    pub stages: Vec<S>,
-    pub ends: CrewEnds,
-    pub end: RunEnd,
-}
-
 /// Runs each stage in a thread of its own, one worker each, and in one more the reader, which sends
 /// all runs of the feed to each root, and then the end. The driver, in this thread, gathers the marks
 /// of each instance up to its end. Before a call of the feed that has to wait, or while it waits, what
@@ -310,22 +273,10 @@ pub fn run_crew<
     take: &mut G,
 ) -> Result<Ran<S>, NoMemory>
     requires few { vec_len stages ≤ 24 }
-    requires marks { (vec_len ends.marks ≡ G.instances take.old) × (vec_len ends.marks ≤ 24) }
+    requires marks { AreMarksOf (G.instances take.old) ends.marks }
     requires fresh { Fresh ends.feeds.items ends.marks.items }
-    ensures drove { IfOk result (λ ran. Drove (F.gave feed.old) (F.gave feed.new) (G.took take.old)
-        (G.took take.new) (F.at_end feed.new) ran.end (map sent ran.ends.feeds.items)
-        (map received ran.ends.marks.items)) }
-    ensures feed { F.origin feed.new ≡ F.origin feed.old }
-    ensures at_end { IfOk result (λ ran. ran.end ≡ Ended → F.at_end feed.new ≡ true) }
-    ensures take { (G.origin take.new ≡ G.origin take.old)
-        × (G.instances take.new ≡ G.instances take.old) }
-    ensures stops { IfOk result (λ ran. (ran.end ≡ Ended → G.stops take.new ≡ G.stops take.old)
-        × (ran.end ≡ RunStopped → Rose (G.stops take.old) (G.stops take.new))) }
-    ensures going { IfOk result (λ ran. G.going take.old true
-        → G.going take.new (is_ended ran.end)) }
-    ensures links { IfOk result (λ ran. SameLinks ends ran.ends) }
-    ensures stages { IfOk result (λ ran. Each (Ends S.goes_on S.over) stages.items
-        ran.stages.items) }
+    ensures runs { IfOk result (λ ran. CrewRuns F.RunFeed G.MarkTake S.Turns feed.old feed.new
+        take.old take.new stages.items ends ran) }
     ensures none { OnErr result ((feed.new ≡ feed.old) × (take.new ≡ take.old)) }
 {
     let Supplies {

@@ -1,7 +1,7 @@
 use Rattle.std.proofs.Common.{◌≡◌, ◌∙◌, sym, refl, map, length, arith}
 use Rattle.std.proofs.lemmas.List.{length-map}
 use Rattle.stage_ring.specs.Link.{received, sent}
-use Rattle.stage_crew.proofs.Each.{each_same, each_then}
+use Rattle.stage_crew.proofs.Each.{all_further, all_still}
 use Rattle.stage_crew.proofs.Driving.{collects, kept_next, kept_none}
 use Rattle.stage_crew.proofs.Gathering.{gathers_then}
 use Rattle.stage_crew.proofs.driver.drive.Goals as goal
@@ -16,10 +16,8 @@ loop-init g c =
         marks_same = refl;
         stop_same = refl;
         len = refl;
-        readers_on = each_same g.D.Turns.goes_on c.turns_go_on.ensures.still c.args.readers.now.items;
-        readers_len = refl;
-        own_on = each_same g.S.Turns.goes_on c.turns_go_on-2.ensures.still c.args.own.now.items;
-        own_len = refl;
+        readers_on = all_still g.D.Turns.goes_on c.turns_go_on.ensures.still c.args.readers.now;
+        own_on = all_still g.S.Turns.goes_on c.turns_go_on-2.ensures.still c.args.own.now;
       },
     )
 
@@ -34,11 +32,9 @@ loop-preserved g c =
         kept = kept_next g.G.MarkTake i.kept (gathers_then g.G.MarkTake q.gathers (c.let_read.ensures (map received c.gather_all-gathered.new.marks.items))) t.untold;
         marks_same = q.links ∙ i.marks_same;
         stop_same = t.link ∙ i.stop_same;
-        len = q.len ∙ i.len;
-        readers_on = each_then g.D.Turns.goes_on c.turns_go_on.ensures.on c.args.readers.now.items c.loop.readers.items c.turn_own-read.new.own.items i.readers_on c.turn_own-read.ensures.own;
-        readers_len = c.turn_own-read.ensures.len ∙ i.readers_len;
-        own_on = each_then g.S.Turns.goes_on c.turns_go_on-2.ensures.on c.args.own.now.items c.loop.own.items c.turn_own-turned.new.own.items i.own_on c.turn_own-turned.ensures.own;
-        own_len = c.turn_own-turned.ensures.len ∙ i.own_len;
+        len = q.count ∙ i.len;
+        readers_on = all_further g.D.Turns.goes_on c.turns_go_on.ensures.on i.readers_on c.turn_own-read.ensures;
+        own_on = all_further g.S.Turns.goes_on c.turns_go_on-2.ensures.on i.own_on c.turn_own-turned.ensures;
       },
     )
 
@@ -49,13 +45,13 @@ finish-requires g c =
     let kept = kept_next g.G.MarkTake i.kept (gathers_then g.G.MarkTake q.gathers (c.let_read.ensures (map received c.gather_all-gathered.new.marks.items))) c.tell_stop.ensures.untold in
     let same = kept.takes.instances in
     let count = c.len-then-all_over.ensures in
-    omega (arith, same, count, q.len, i.len, c.requires.unused.count)
+    omega (arith, same, count, q.count, i.len, c.requires.unused.of.0)
 
 pub returns-then-all_over-clause-readers : goal.returns-then-all_over-clause-readers
-returns-then-all_over-clause-readers g c = each_then g.D.Turns.goes_on c.turns_go_on.ensures.on c.args.readers.now.items c.loop.readers.items c.turn_own-read.new.own.items c.loop.invariant.2.readers_on c.turn_own-read.ensures.own
+returns-then-all_over-clause-readers g c = all_further g.D.Turns.goes_on c.turns_go_on.ensures.on c.loop.invariant.2.readers_on c.turn_own-read.ensures
 
 pub returns-then-all_over-clause-own : goal.returns-then-all_over-clause-own
-returns-then-all_over-clause-own g c = each_then g.S.Turns.goes_on c.turns_go_on-2.ensures.on c.args.own.now.items c.loop.own.items c.turn_own-turned.new.own.items c.loop.invariant.2.own_on c.turn_own-turned.ensures.own
+returns-then-all_over-clause-own g c = all_further g.S.Turns.goes_on c.turns_go_on-2.ensures.on c.loop.invariant.2.own_on c.turn_own-turned.ensures
 
 pub returns-then-all_over-clause-drives : goal.returns-then-all_over-clause-drives
 returns-then-all_over-clause-drives g c =

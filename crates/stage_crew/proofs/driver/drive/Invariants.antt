@@ -1,6 +1,6 @@
 use Rattle.std.proofs.Common.{◌≡◌, map, vec_len}
 use Rattle.stage_ring.specs.Link.{received, rx_link, sent, tx_link}
-use Rattle.stage_crew.specs.Crew.{Each}
+use Rattle.stage_crew.specs.Crew.{AllGoOn}
 use Rattle.stage_crew.specs.Keeping.{Kept}
 use Rattle.stage_crew.proofs.driver.drive.Given as goal
 
@@ -12,8 +12,6 @@ invariant-loop g l =
       marks_same : map rx_link l.ends.marks.items ≡ map rx_link l.fn.ends.marks.items;
       stop_same : tx_link l.ends.stop ≡ tx_link l.fn.ends.stop;
       len : vec_len l.ends.marks ≡ vec_len l.fn.ends.marks;
-      readers_on : Each g.D.Turns.goes_on l.fn.readers.items l.readers.items;
-      readers_len : vec_len l.readers ≡ vec_len l.fn.readers;
-      own_on : Each g.S.Turns.goes_on l.fn.own.items l.own.items;
-      own_len : vec_len l.own ≡ vec_len l.fn.own;
+      readers_on : AllGoOn g.D.Turns.goes_on l.fn.readers l.readers;
+      own_on : AllGoOn g.S.Turns.goes_on l.fn.own l.own;
     }

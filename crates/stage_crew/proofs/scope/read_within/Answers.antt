@@ -1,22 +1,25 @@
-use Rattle.std.proofs.Common.{◌∙◌, sym}
-use Rattle.stage_ring.specs.Link.{known, received}
+use Rattle.std.proofs.Common.{◌∙◌, ap, map, sym}
+use Rattle.stage_ring.specs.Link.{known, received, tx_link}
 use Rattle.stage_crew.proofs.Common.{front_none}
 use Rattle.stage_crew.proofs.Driving.{drove, read_all}
 use Rattle.stage_crew.proofs.scope.read_within.Goals as goal
 
-pub returns-clause-drove : goal.returns-clause-drove
-returns-clause-drove g c =
-    let w = c.within_scope-take.ensures in
+pub returns-clause-runs : goal.returns-clause-runs
+returns-clause-runs g c =
+    let f = g.F.RunFeed in
+    let t = g.G.MarkTake in
+    let w = c.within_scope-take.ensures.runs in
     let s = c.settle.ensures in
     let rx = c.settle.new.rx in
-    drove g.F.RunFeed g.G.MarkTake (w.reader.goes.keeps c.args.feed.now c.new-reader.ensures.fed) w.reader.is_over w.drives.collects (λ none. sym s.rx.1 ∙ front_none (received rx) (known rx) (s.tied ∙ s.tx.2 ∙ none))
-
-pub returns-clause-origin : goal.returns-clause-origin
-returns-clause-origin g c = (c.within_scope-take.ensures.reader.goes.keeps c.args.feed.now c.new-reader.ensures.fed).origin
-
-pub returns-clause-at_end : goal.returns-clause-at_end
-returns-clause-at_end g c is =
-    let w = c.within_scope-take.ensures in
-    let s = c.settle.ensures in
-    let rx = c.settle.new.rx in
-    read_all g.F.RunFeed g.G.MarkTake (w.reader.goes.keeps c.args.feed.now c.new-reader.ensures.fed) w.reader.is_over w.drives.collects (λ none. sym s.rx.1 ∙ front_none (received rx) (known rx) (s.tied ∙ s.tx.2 ∙ none)) (w.drives.collects.closes is).0
+    let fed = w.reads.goes.keeps c.args.feed.now c.new-reader.ensures.fed in
+    let collects = w.drives.collects in
+    record {
+      drove = drove f t fed w.reads.is_over collects (λ none. sym s.rx.1 ∙ front_none (received rx) (known rx) (s.tied ∙ s.tx.2 ∙ none));
+      reads = record {
+        at_end = λ is. read_all f t fed w.reads.is_over collects (λ none. sym s.rx.1 ∙ front_none (received rx) (known rx) (s.tied ∙ s.tx.2 ∙ none)) (collects.closes is).0;
+        origin = fed.origin;
+      };
+      takes = collects.takes;
+      links = record { feeds = w.reads.goes.feeds ∙ ap (λ v. map tx_link v.items) c.new-reader.ensures.ends.0; marks = w.drives.marks };
+      stages = w.stages;
+    }

@@ -1,5 +1,5 @@
-use Rattle.stage_crew.proofs.Gathering.{gathers_then}
+use Rattle.stage_crew.proofs.Gathering.{from_then}
 use Rattle.stage_crew.proofs.gatherer.Gatherer.gather_all.Goals as goal
 
-pub returns-clause-gathers : goal.returns-clause-gathers
-returns-clause-gathers g c = gathers_then g.G.MarkTake c.gather_hindmost.ensures.gathers c.gather_each.ensures.gathers
+pub returns : goal.returns
+returns g c = from_then g.G.MarkTake c.gather_hindmost.ensures c.gather_each.ensures
