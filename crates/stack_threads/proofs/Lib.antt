@@ -6,3 +6,4 @@ pub mod Counting
 pub mod Sending
 pub mod Settling
 pub mod Running
+pub mod Origins

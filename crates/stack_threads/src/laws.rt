@@ -1,10 +1,9 @@
 // Laws of runs. Nothing is done.
 ghost use Rattle.std.specs.Prelude.{◌≡◌, length, map};
 ghost use Rattle.decoder_core.specs.declared.end.RunEnd.{RunEnd as RunEndIs};
-ghost use Rattle.tree_runs.specs.Machines.{Stand};
 ghost use Rattle.tree_runs.specs.Passing.{IsForest};
-ghost use Rattle.tree_runs.specs.Runs.{RunsOn};
-ghost use Rattle.stack_threads.specs.Runs.{InputsGrow, RunsBy};
+ghost use Rattle.tree_runs.specs.Trees.{RunsExactly, TreeRunsOn};
+ghost use Rattle.stack_threads.specs.Runs.{InputsGrow, RunsTree, TreeRunsBy};
 
 use decoder_core::Machine;
 use std::snapshot::Snapshot;
@@ -32,13 +31,14 @@ pub fn exact_runs_are_runs<M: Machine, F: RunFeed, G: MarkTake>(
 )
     requires forest { IsForest parents.now }
     requires each { length before.value.items ≡ length parents.now }
-    ensures { (result : RunEndIs)
-        → RunsOn M.outputs M.near (map M.setup before.value.items) parents.now
-        (Stand M.consumed before.value.items) (Stand M.consumed after.now)
-        (F.gave feed_before.value) (F.gave feed_after.now)
-        (G.took take_before.value) (G.took take_after.now) (F.at_end feed_after.now) result
-        → RunsBy M.outputs M.near (map M.setup before.value.items) parents.now
-        (Stand M.consumed before.value.items)
-        (F.gave feed_before.value) (F.gave feed_after.now)
-        (G.took take_before.value) (G.took take_after.now) (F.at_end feed_after.now) result }
+    ensures tree { (result : RunEndIs)
+        → TreeRunsOn M.Machine F.RunFeed G.MarkTake parents.now before.value.items after.now
+        feed_before.value feed_after.now take_before.value take_after.now result
+        → TreeRunsBy M.Machine F.RunFeed G.MarkTake parents.now before.value.items
+        feed_before.value feed_after.now take_before.value take_after.now result }
+    ensures whole { (result : RunEndIs)
+        → RunsExactly M.Machine F.RunFeed G.MarkTake parents.now before.value.items after.now
+        feed_before.value feed_after.now take_before.value take_after.now result
+        → RunsTree M.Machine F.RunFeed G.MarkTake parents.now before.value.items
+        feed_before.value feed_after.now take_before.value take_after.now result }
 {}

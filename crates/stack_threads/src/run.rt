@@ -1,12 +1,8 @@
 // A run of a tree, with a thread for each decoder.
-ghost use Rattle.std.specs.Prelude.{◌≡◌, IfOk, OnErr, map, true, vec_len};
+ghost use Rattle.std.specs.Prelude.{◌≡◌, IfOk, OnErr, vec_len};
 ghost use Rattle.decoder_core.specs.Promises.{KeepsFront};
-ghost use Rattle.decoder_core.specs.declared.end.RunEnd.TheVariants.{Ended, Stopped as RunStopped};
-ghost use Rattle.la_io.specs.Causes.{Rose};
-ghost use Rattle.tree_runs.specs.Machines.{Stand};
-ghost use Rattle.tree_runs.specs.Runs.{is_ended};
 ghost use Rattle.tree_runs.specs.Taking.{IsTree};
-ghost use Rattle.stack_threads.specs.Runs.{RunsBy};
+ghost use Rattle.stack_threads.specs.Runs.{RunsTree};
 
 use crate::in_threads::InThreads;
 use crate::rooms::rooms_of;
@@ -54,16 +50,8 @@ pub fn run_stages<
     take: &mut G,
 ) -> Result<RunEnd, NoMemory>
     requires tree { IsTree parents.now (vec_len machines) (G.instances take.old) }
-    ensures runs { IfOk result (λ end. RunsBy M.outputs M.near (map M.setup machines.items)
-        parents.now (Stand M.consumed machines.items) (F.gave feed.old) (F.gave feed.new)
-        (G.took take.old) (G.took take.new) (F.at_end feed.new) end) }
-    ensures at_end { IfOk result (λ end. end ≡ Ended → F.at_end feed.new ≡ true) }
-    ensures feed_origin { F.origin feed.new ≡ F.origin feed.old }
-    ensures take_origin { G.origin take.new ≡ G.origin take.old }
-    ensures instances { G.instances take.new ≡ G.instances take.old }
-    ensures stops { IfOk result (λ end. (end ≡ Ended → G.stops take.new ≡ G.stops take.old)
-        × (end ≡ RunStopped → Rose (G.stops take.old) (G.stops take.new))) }
-    ensures going { IfOk result (λ end. G.going take.old true → G.going take.new (is_ended end)) }
+    ensures runs { IfOk result (λ end. RunsTree M.Machine F.RunFeed G.MarkTake parents.now
+        machines.items feed.old feed.new take.old take.new end) }
     ensures none { OnErr result ((feed.new ≡ feed.old) × (take.new ≡ take.old)) }
 {
     keeps_front::<M>();
