@@ -21,6 +21,11 @@ use Rattle.decode_job.specs.Feeding.{GaveRuns}
 use Rattle.decode_job.specs.Running.{RanTo, Rested}
 use Rattle.decode_job.specs.declared.capture_feed.CaptureFeed.{CaptureFeed}
 
+-- what follows from a run follows where it is Ok
+pub ok_follows : (P Q : RunEnd → Type 0) (ran : Result RunEnd NoMemory) → IfOk ran P → ((end : RunEnd) → P end → Q end) → IfOk ran Q
+ok_follows P Q (Ok end) holds follows = follows end holds
+ok_follows P Q (Err why) holds follows = tt
+
 module _ {M Q S K W : Type 0} (m : MachineGhosts M Q) (s : SourceGhosts S) (k : SinkGhosts K) (saw : W → List Entry → Type 0) (machines machines_to : List M) (same : machines ≡ machines_to) (parents : List (Option ℕ)) (feed feed_now : CaptureFeed S) (lister lister_now : Lister K W) (rested : Rested s k saw feed lister) (going : Goes true lister) where
   abbrev Gave : CaptureFeed S → List (List Run) → Type 0
   Gave one lists = GaveRuns s.left s.faults one (together lists)

@@ -1,11 +1,7 @@
 // How a tree of decoders is run.
-ghost use Rattle.std.specs.Prelude.{◌≡◌, OnErr, IfOk, length, map, true};
-ghost use Rattle.decoder_core.specs.declared.end.RunEnd.TheVariants.{Ended, Stopped};
-ghost use Rattle.la_io.specs.Causes.{Rose};
-ghost use Rattle.tree_runs.specs.Machines.{Stand};
-ghost use Rattle.tree_runs.specs.Runs.{is_ended};
+ghost use Rattle.std.specs.Prelude.{◌≡◌, OnErr, IfOk, length};
 ghost use Rattle.tree_runs.specs.Taking.{IsTree};
-ghost use Rattle.stack_threads.specs.Runs.{RunsBy};
+ghost use Rattle.stack_threads.specs.Runs.{RunsTree};
 
 use decoder_core::{Machine, RunEnd};
 use la_base::NoMemory;
@@ -23,15 +19,8 @@ pub(crate) fn run_alone<M: Machine + Drop, F: RunFeed, G: MarkTake>(
     take: &mut G,
 ) -> Result<RunEnd, NoMemory>
     requires tree { IsTree parents.now (length machines.items) (G.instances take.old) }
-    ensures runs { IfOk result (λ end. RunsBy M.outputs M.near (map M.setup machines.items)
-        parents.now (Stand M.consumed machines.items) (F.gave feed.old) (F.gave feed.new)
-        (G.took take.old) (G.took take.new) (F.at_end feed.new) end) }
-    ensures at_end { IfOk result (λ end. end ≡ Ended → F.at_end feed.new ≡ true) }
-    ensures feed_origin { F.origin feed.new ≡ F.origin feed.old }
-    ensures take_origin { G.origin take.new ≡ G.origin take.old }
-    ensures instances { G.instances take.new ≡ G.instances take.old }
-    ensures going { IfOk result (λ end. G.going take.old true
-        → G.going take.new (is_ended end)) }
+    ensures runs { IfOk result (λ end. RunsTree M.Machine F.RunFeed G.MarkTake parents.now
+        machines.items feed.old feed.new take.old take.new end) }
     ensures none { OnErr result ((feed.new ≡ feed.old) × (take.new ≡ take.old)) }
 {
     let mut machines = machines;

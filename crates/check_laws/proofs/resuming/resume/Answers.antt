@@ -19,7 +19,7 @@ returns-in-Ok g c = record {
       let stands = loaded_stand m.setup m.outputs m.consumed saves c.args.kinds.now c.args.parents.now old mid c.requires.count c.requires.tree.each read.0 read.2 b.on.machines
       (subst (λ (l : List (List ℕ)). AllSave saves b.on.machines l) (sym one.1) b.on.check.save) b.on.setups_are earlier b.on.stand in
       let runs = subst (λ (s : List g.row.M-Setup.Denot). RunsOn m.outputs m.near s c.args.parents.now (Stand m.consumed mid) (Stand m.consumed c.run_direct.new.machines) (g.F.RunFeed.gave c.args.feed.now) (g.F.RunFeed.gave c.run_direct.new.feed)
-      (g.G.MarkTake.took c.args.take.now) (g.G.MarkTake.took c.run_direct.new.take) (g.F.RunFeed.at_end c.run_direct.new.feed) c.run_direct.result) setups c.run_direct.ensures.runs in
+      (g.G.MarkTake.took c.args.take.now) (g.G.MarkTake.took c.run_direct.new.take) (g.F.RunFeed.at_end c.run_direct.new.feed) c.run_direct.result) setups c.run_direct.ensures.runs.tree in
       record {
         number = one.0;
         lists = runs.lists;

@@ -19,17 +19,17 @@ returns c =
     let tree = c.requires.tree in
     let setups_are = ap (map setup_of) c.deref_mut.ensures.value ∙ tree.setups in
     let parents_are = c.deref.ensures.value ∙ tree.parents in
-    let run = c.in-Ended.ensures in
-    let lists = run.runs.lists in
-    let marks = run.runs.marks in
+    let run = c.in-Ended.ensures.runs in
+    let lists = run.tree.lists in
+    let marks = run.tree.marks in
     let feed = c.run_direct.new.feed in
-    let gave = run.runs.gave [] c.new-feed.ensures.gave in
+    let gave = run.tree.gave [] c.new-feed.ensures.gave in
     let samples : samples_in lists ≡ made c.args.seed c.args.count =
-    sym (append-nil (samples_in lists)) ∙ ap (λ (l : List ℕ). samples_in lists ++ l) (sym (gave.ended (run.at_end refl)))
-    ∙ sym gave.split ∙ ap (λ f. left_in f.value) run.feed_origin ∙ c.new-feed.ensures.made in
-    let counted = run.runs.took (λ _. []) marks c.new-taker.ensures (λ j. refl) in
+    sym (append-nil (samples_in lists)) ∙ ap (λ (l : List ℕ). samples_in lists ++ l) (sym (gave.ended (run.reads.at_end refl)))
+    ∙ sym gave.split ∙ ap (λ f. left_in f.value) run.reads.origin ∙ c.new-feed.ensures.made in
+    let counted = run.tree.took (λ _. []) marks c.new-taker.ensures (λ j. refl) in
     let new = subst (λ (l : List AnyDecoder). All (λ (machine : AnyDecoder). HasConsumed machine []) l) (sym c.deref_mut.ensures.value) tree.consumed in
     let many = as_many setups parents setups_are parents_are in
     let stand = fresh outs_of setups parents (forest setups parents setups_are parents_are) many (nothing setups parents setups_are parents_are) (at.Stand HasConsumed machines)
     (λ j within. machines_stand machines new j (omega (arith, within, many, length-map machines setup_of))) in
-    counted_is setups parents setups_are parents_are (at.near_of near_of setups) (feeds_on outs_of setups parents [] lists) _ (samples_in lists) marks (run.runs.told [] stand) c.args.seed c.args.count c.requires.count samples c.run_direct.new.take counted
+    counted_is setups parents setups_are parents_are (at.near_of near_of setups) (feeds_on outs_of setups parents [] lists) _ (samples_in lists) marks (run.tree.told [] stand) c.args.seed c.args.count c.requires.count samples c.run_direct.new.take counted
