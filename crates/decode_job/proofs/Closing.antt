@@ -17,10 +17,11 @@ use Rattle.decoder_core.specs.declared.end.RunEnd.TheVariants.{Ended}
 use Rattle.decoder_core.specs.declared.machine.Machine.{Ghosts as MachineGhosts}
 use Rattle.decoder_core.specs.Promises.{GivesNothing, KeepsFront}
 use Rattle.tree_runs.specs.Machines.{Stand, defined, near_of, whole_of}
-use Rattle.tree_runs.specs.Runs.{StandOn, ToldOn as ToldOf, input_at, nodes_of, samples_in}
+use Rattle.tree_runs.specs.Runs.{StandOn, ToldOn as ToldOf, input_at, is_ended, nodes_of, samples_in}
 use Rattle.tree_runs.specs.Taking.{IsTree}
 use Rattle.tree_runs.proofs.Fresh.{fresh}
 use Rattle.stack_laws.specs.Laws.{IsLawful}
+use Rattle.stack_threads.specs.Runs.{RunsBy}
 use Rattle.annot_merge.specs.Held.{count_of}
 use Rattle.stack_words.specs.Accepting.{Accepted}
 use Rattle.stack_words.specs.Stacks.{stack_meaning}
@@ -35,7 +36,6 @@ use Rattle.decode_job.specs.Decoding.{Decodes}
 use Rattle.decode_job.specs.Ending.{end_behind, end_of_stop}
 use Rattle.decode_job.specs.Feeding.{GaveRuns}
 use Rattle.decode_job.specs.Listing.{notes_to_list, output_of, tree_notes, tree_output}
-use Rattle.decode_job.specs.Running.{Came, RanTo, Rested}
 use Rattle.decode_job.specs.Seen.{WritesFrontSeen, WritesSeen}
 use Rattle.decode_job.specs.declared.capture_feed.CaptureFeed.{CaptureFeed}
 use Rattle.decode_job.proofs.Ends.{StoppedBy, kept_cause, lists_moved, not_stopped, read_of_stop, stopped_by}
@@ -44,7 +44,29 @@ use Rattle.decode_job.proofs.Handing.{nothing_done}
 use Rattle.decode_job.proofs.Listed.{all_of_tree, behind_nothing, front_of_tree}
 use Rattle.decode_job.proofs.Seen.{front_seen}
 
+-- nothing was read, taken or seen
+pub record Rested {S K W : Type 0} (s : SourceGhosts S) (k : SinkGhosts K) (saw : W → List Entry → Type 0) (feed : CaptureFeed S) (lister : Lister K W) : Type 0 where
+  pub gave : GaveRuns s.left s.faults feed []
+  pub took : Took k.written k.faults k.goes_on saw lister (λ _. [])
+  pub source : feed.source.now ≡ feed.first_source.value.now
+  pub sink : sink_of lister ≡ first_sink lister
+  pub unseen : saw (watch_of lister) []
+  pub goes : Goes true lister
+
 module _ {M Q S K W : Type 0} (m : MachineGhosts M Q) (s : SourceGhosts S) (k : SinkGhosts K) (saw : W → List Entry → Type 0) (machines : List M) (parents : List (Option ℕ)) (feed : CaptureFeed S) (lister : Lister K W) where
+  -- the machines ran over a feed that had given nothing, to a lister that had taken nothing, and
+  -- came to this end
+  pub record Came (end : RunEnd) : Type 0 where
+    pub runs : RunsBy m.outputs m.near (map m.setup machines) parents (Stand m.consumed machines) (λ lists. lists ≡ []) (λ lists. GaveRuns s.left s.faults feed (together lists))
+        (λ marks. (j : ℕ) → marks j ≡ []) (Took k.written k.faults k.goes_on saw lister) (not (is_open_of feed.capture.now)) end
+    pub at_end : end ≡ Ended → not (is_open_of feed.capture.now) ≡ true
+    pub going : Goes (is_ended end) lister
+
+  -- the machines ran; or for want of memory nothing was done
+  abbrev pub RanTo : Result RunEnd Wanted → Type 0
+  RanTo (Ok end) = Came end
+  RanTo (Err why) = Rested s k saw feed lister
+
   abbrev capture : Capture
   capture = feed.first_capture.value.now
 
@@ -68,7 +90,7 @@ module _ {M Q S K W : Type 0} (m : MachineGhosts M Q) (s : SourceGhosts S) (k : 
         write = ap k.faults rested.sink;
       }
 
-  module _ (end : RunEnd) (came : Came m s k saw machines parents feed lister end) where
+  module _ (end : RunEnd) (came : Came end) where
     abbrev gave : GaveRuns s.left s.faults feed (together came.runs.lists)
     gave = came.runs.gave [] refl
 
@@ -172,7 +194,7 @@ module _ {M Q S K W : Type 0} (m : MachineGhosts M Q) (s : SourceGhosts S) (k : 
 
   -- however it ran
   module _ (lawful : IsLawful parents (defined m.outputs m.near (map m.setup machines))) (tree : IsTree parents (length machines) (instances_of lister)) (wanted : WantsOf (stack_of lister) (length parents)) where
-    pub closed_decodes : (ran : Result RunEnd Wanted) → RanTo m s k saw machines parents feed lister ran
+    pub closed_decodes : (ran : Result RunEnd Wanted) → RanTo ran
         → Decodes m s k (stack_of lister) machines parents capture source feed.source.now sink (sink_of lister) (saw (watch_of lister)) (end_behind ran lister.cause feed.end)
     closed_decodes (Err why) rested = rested_decodes rested
     closed_decodes (Ok end) came = by lister.cause refl
@@ -181,14 +203,14 @@ module _ {M Q S K W : Type 0} (m : MachineGhosts M Q) (s : SourceGhosts S) (k : 
         by None is = ended_decodes end came lawful tree wanted is
         by (Some why) is = stopped_decodes end came lawful tree wanted why is
 
-  pub same_source : (ran : Result RunEnd Wanted) → RanTo m s k saw machines parents feed lister ran → feed.source.ghost_name ≡ feed.first_source.value.ghost_name
+  pub same_source : (ran : Result RunEnd Wanted) → RanTo ran → feed.source.ghost_name ≡ feed.first_source.value.ghost_name
   same_source (Ok end) came = (gave end came).same_source
   same_source (Err why) rested = rested.gave.same_source
 
-  pub same_sink : (ran : Result RunEnd Wanted) → RanTo m s k saw machines parents feed lister ran → lister.sink.ghost_name ≡ lister.first.value.ghost_name
+  pub same_sink : (ran : Result RunEnd Wanted) → RanTo ran → lister.sink.ghost_name ≡ lister.first.value.ghost_name
   same_sink (Ok end) came = (took end came).same_sink
   same_sink (Err why) rested = rested.took.same_sink
 
-  pub sink_goes_on : (ran : Result RunEnd Wanted) → RanTo m s k saw machines parents feed lister ran → k.goes_on sink (sink_of lister)
+  pub sink_goes_on : (ran : Result RunEnd Wanted) → RanTo ran → k.goes_on sink (sink_of lister)
   sink_goes_on (Ok end) came = (took end came).goes_on_is
   sink_goes_on (Err why) rested = rested.took.goes_on_is

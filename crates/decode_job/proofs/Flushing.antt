@@ -72,12 +72,5 @@ module _ {M Q S K : Type 0} (m : MachineGhosts M Q) (s : SourceGhosts S) (k : Si
             (kept_cause end (k.faults old) (k.faults new) went.was (ap k.faults (sym to) ∙ (went.kept ∙ (write_kept (k.faults (behind first)) (k.faults (behind mid)) end went.was write ∙ ap k.faults from))));
       }
 
--- the same values by other names
-pub decodes_moved : {M Q S K : Type 0} (m : MachineGhosts M Q) (s : SourceGhosts S) (k : SinkGhosts K) (parents : List (Option ℕ)) (end : ListingEnd)
-    {stack stack_to : Stack} {machines machines_to : List M} {capture capture_to : Capture} {old old_to new new_to : S} {first first_to last last_to : K} (saw : List Entry → Type 0)
-    → stack ≡ stack_to → machines ≡ machines_to → capture ≡ capture_to → old ≡ old_to → new ≡ new_to → first ≡ first_to → last ≡ last_to
-    → Decodes m s k stack machines parents capture old new first last saw end → Decodes m s k stack_to machines_to parents capture_to old_to new_to first_to last_to saw end
-decodes_moved m s k parents end saw a b c d e f g decodes = transport (λ i. Decodes m s k (a i) (b i) parents (c i) (d i) (e i) (f i) (g i) saw end) decodes
-
 pub relation_moved : {K : Type 0} (R : K → K → Type 0) {first first_to last last_to : K} → first ≡ first_to → last ≡ last_to → R first last → R first_to last_to
 relation_moved R a b r = transport (λ i. R (a i) (b i)) r

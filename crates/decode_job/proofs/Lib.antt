@@ -9,6 +9,7 @@ mod Closing
 mod Flushing
 mod Coming
 mod Limits
+mod Relisting
 mod Parted
 mod Parting
 mod Sending

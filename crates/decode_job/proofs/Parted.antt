@@ -53,26 +53,13 @@ use Rattle.decode_job.specs.declared.up_to.UpTo.{UpTo}
 use Rattle.decode_job.proofs.Ends.{StoppedBy, kept_cause, not_stopped, read_of_stop, stopped_by}
 use Rattle.decode_job.proofs.FeedLemmas.{feed_cause, feed_failed, feed_stopped, feed_whole}
 use Rattle.decode_job.proofs.Listed.{all_of_tree, front_of_tree}
+use Rattle.decode_job.proofs.Relisting.{as_part}
 
 -- a front, as the end of a part that was stopped
 stopped_says : (Checked Whole Front Cut Beyond All : List ℕ → Type 0) (form : Form) (pins before : List ℕ) (then : Told) (left_old left_new : Option (List ℕ)) (why : ListStop)
     → Lists form pins All Front before then left_old left_new (end_of_stop why) → PartLists Checked Whole Front Cut Beyond form pins before then left_old left_new (Ended (end_of_stop why))
-stopped_says Checked Whole Front Cut Beyond All form pins before then left_old left_new WriteStop lists = record {
-  bytes = lists.bytes;
-  told = lists.told;
-  taken = lists.taken;
-  later = lists.later;
-  at_end = lists.at_end;
-  says = inl lists.says;
-}
-stopped_says Checked Whole Front Cut Beyond All form pins before then left_old left_new MemoryStop lists = record {
-  bytes = lists.bytes;
-  told = lists.told;
-  taken = lists.taken;
-  later = lists.later;
-  at_end = lists.at_end;
-  says = lists.says;
-}
+stopped_says Checked Whole Front Cut Beyond All form pins before then left_old left_new WriteStop lists = as_part lists (λ bytes told says. inl says)
+stopped_says Checked Whole Front Cut Beyond All form pins before then left_old left_new MemoryStop lists = as_part lists (λ bytes told says. says)
 
 -- samples that are all that is settled
 module _ (Checked Whole Front Cut Beyond : List ℕ → Type 0) (form : Form) (pins all : List ℕ) (checked : Checked all) (whole : Whole all) (front : Front all) where
@@ -202,15 +189,8 @@ module _ {M Q S K W : Type 0} (m : MachineGhosts M Q) (s : SourceGhosts S) (k : 
       pub ended_part : Came (Ended inner.end)
       ended_part = record {
         lists = λ before told at stands.
-            let lists = feed_whole s.left s.faults inner gave.all gave.gave capture refl source refl inner.source.now refl closed before told at stands in
-            record {
-              bytes = lists.bytes;
-              told = lists.told;
-              taken = lists.taken;
-              later = lists.later;
-              at_end = lists.at_end;
-              says = ended_says Checked Whole Front Uncut Beyond (form_of capture) (pins_of capture) all (subst Checked same checked) (subst Whole same whole) (subst Front same front) (before ++ lists.bytes) lists.told inner.end cause.1 lists.says;
-            };
+            as_part (feed_whole s.left s.faults inner gave.all gave.gave capture refl source refl inner.source.now refl closed before told at stands) (λ bytes at_last says.
+            ended_says Checked Whole Front Uncut Beyond (form_of capture) (pins_of capture) all (subst Checked same checked) (subst Whole same whole) (subst Front same front) bytes at_last inner.end cause.1 says);
         read = cause.0;
         write = kept_cause inner.end (k.faults sink) (k.faults (sink_of lister)) cause.1 written.1;
       }

@@ -31,6 +31,7 @@ use Rattle.decode_job.specs.declared.part_end.PartEnd.TheVariants.{Ended, Past}
 use Rattle.decode_job.proofs.Ends.{kept_cause}
 use Rattle.decode_job.proofs.FeedLemmas.{cause_rises}
 use Rattle.decode_job.proofs.Handing.{fails_through, nothing_done, write_kept}
+use Rattle.decode_job.proofs.Relisting.{as_part, part_on}
 
 -- causes
 pub part_rises : (end : PartEnd) (before now : ℕ) → PartReadCause before now end → before ≤ now
@@ -92,14 +93,7 @@ module _ {M Q : Type 0} (m : MachineGhosts M Q) (machines : List M) (parents : L
       says_to form pins bytes told Past s = record { past = s.past; written = λ earlier stands. wholes _ (s.written earlier stands) }
 
       pub part_to : (form : Form) (pins before : List ℕ) (then : Told) (left_old left_new : Option (List ℕ)) (end : PartEnd) → Lists old new form pins before then left_old left_new end → Lists old_to new_to form pins before then left_old left_new end
-      part_to form pins before then left_old left_new end lists = record {
-        bytes = lists.bytes;
-        told = lists.told;
-        taken = lists.taken;
-        later = lists.later;
-        at_end = lists.at_end;
-        says = says_to form pins (before ++ lists.bytes) lists.told end lists.says;
-      }
+      part_to form pins before then left_old left_new end lists = part_on lists (λ bytes told. says_to form pins bytes told end)
 
     -- a front of it, as behind a write that failed
     module _ (cuts : (out : List ℕ) → Appends old new out → AppendsFront old_to new_to out) where
@@ -125,14 +119,7 @@ module _ {M Q : Type 0} (m : MachineGhosts M Q) (machines : List M) (parents : L
       says_cut form pins bytes told Past s = inl (OfAll (λ earlier stands. cuts _ (s.written earlier stands)))
 
       pub part_cut : (form : Form) (pins before : List ℕ) (then : Told) (left_old left_new : Option (List ℕ)) (end : PartEnd) → Lists old new form pins before then left_old left_new end → Lists old_to new_to form pins before then left_old left_new (Ended Write)
-      part_cut form pins before then left_old left_new end lists = record {
-        bytes = lists.bytes;
-        told = lists.told;
-        taken = lists.taken;
-        later = lists.later;
-        at_end = lists.at_end;
-        says = says_cut form pins (before ++ lists.bytes) lists.told end lists.says;
-      }
+      part_cut form pins before then left_old left_new end lists = part_on lists (λ bytes told. says_cut form pins bytes told end)
 
 module _ {M Q S : Type 0} (m : MachineGhosts M Q) (saves : M → List ℕ → Type 0) (s : SourceGhosts S) (stack : Stack) (machines : List M) (kinds : List ℕ) (parents : List (Option ℕ)) (count : ℕ) (capture : Capture) (source_old source_new : S) where
   -- with the checkpoint behind the listing
@@ -151,16 +138,7 @@ module _ {M Q S : Type 0} (m : MachineGhosts M Q) (saves : M → List ℕ → Ty
     -- with other words
     part_of : (at : K) (e : PartEnd) → ((bytes : List ℕ) (told : Told) → Says_mid bytes told end → Says_to at bytes told e) → PartReadCause (s.faults source_old) (s.faults source_new) e → PartWriteCause (k.faults old) (k.faults at) e → Done_of at e
     part_of at e says read write = record {
-      lists = λ before told at_told stands.
-          let lists = listed.lists before told at_told stands in
-          record {
-            bytes = lists.bytes;
-            told = lists.told;
-            taken = lists.taken;
-            later = lists.later;
-            at_end = lists.at_end;
-            says = says (before ++ lists.bytes) lists.told lists.says;
-          };
+      lists = λ before told at_told stands. part_on (listed.lists before told at_told stands) says;
       read = read;
       write = write;
     }
@@ -266,16 +244,9 @@ module _ {M Q S : Type 0} (m : MachineGhosts M Q) (saves : M → List ℕ → Ty
       subst (λ (now : S). DecodesPart m saves s k stack machines kinds parents count capture source_old now sink sink (Ended NoMemory)) (sym same)
       (record {
         lists = λ before told at stands.
-            let lists = nothing_done capture before told left written (λ l. []) (λ l. []) (λ notes. Unit {0}) tt at stands in
-            record {
-              bytes = lists.bytes;
-              told = lists.told;
-              taken = lists.taken;
-              later = lists.later;
-              at_end = lists.at_end;
-              says = settled_on (form_of capture) (pins_of capture) (λ l. WritesFrontSeen (λ notes. Unit {0}) written written [] []) (WritesFront m machines parents stack count written written)
-                  (λ l front earlier behind_these. front_longer written written [] (output_behind m machines parents stack earlier (take (room_behind count) l)) front.front) (before ++ lists.bytes) lists.told lists.says;
-            };
+            as_part (nothing_done capture before told left written (λ l. []) (λ l. []) (λ notes. Unit {0}) tt at stands)
+            (settled_on (form_of capture) (pins_of capture) (λ l. WritesFrontSeen (λ notes. Unit {0}) written written [] []) (WritesFront m machines parents stack count written written)
+            (λ l front earlier behind_these. front_longer written written [] (output_behind m machines parents stack earlier (take (room_behind count) l)) front.front));
         read = omega arith;
         write = refl;
       })

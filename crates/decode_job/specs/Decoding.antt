@@ -1,5 +1,5 @@
 -- What a decoding gives, whatever the capture.
-use Rattle.std.specs.Prelude.{ℕ, All, List, [], Option, map}
+use Rattle.std.specs.Prelude.{ℕ, ◌≡◌, All, List, [], Option, map}
 use Rattle.la_io.specs.Capture.{Told}
 use Rattle.la_io.specs.declared.outside.Sink.{Ghosts as SinkGhosts}
 use Rattle.la_io.specs.declared.outside.Source.{Ghosts as SourceGhosts}
@@ -43,3 +43,11 @@ module _ {M Q S K : Type 0} (m : MachineGhosts M Q) (s : SourceGhosts S) (k : Si
         before told (s.left source_old) (s.left source_new) end
     pub read : ReadCause (s.faults source_old) (s.faults source_new) end
     pub write : WriteCause (k.faults sink_old) (k.faults sink_new) end
+
+  -- and the sink that it was given went on as it may, and what looked on is over the same
+  pub record DecodesOn {W O : Type 0} (saw : W → List Entry → Type 0) (origin : W → O)
+      (capture : Capture) (source_old source_new : S) (sink_old sink_new : K) (watch watch_now : W)
+      (end : ListingEnd) : Type 0 where
+    pub decodes : Decodes capture source_old source_new sink_old sink_new (saw watch_now) end
+    pub goes_on : k.goes_on sink_old sink_new
+    pub origin_is : origin watch_now ≡ origin watch

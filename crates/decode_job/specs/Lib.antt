@@ -4,7 +4,6 @@ pub mod Listing
 pub mod Together
 pub mod Ending
 pub mod Decoding
-pub mod Running
 pub mod Seen
 pub mod Flushing
 pub mod Parting

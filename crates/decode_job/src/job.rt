@@ -2,11 +2,11 @@
 ghost use Rattle.std.specs.Prelude.{◌≡◌, [], length, true};
 ghost use Rattle.capture_any.specs.Reading.{is_open_of};
 ghost use Rattle.decode_job.specs.Asking.{CanDecode, CanList};
-ghost use Rattle.decode_job.specs.Decoding.{Decodes};
+ghost use Rattle.decode_job.specs.Decoding.{Decodes, DecodesOn};
 
 use crate::DecodeEnd;
 use crate::capture_feed::CaptureFeed;
-use crate::ending::{Ran, close, goes_back, hand_on};
+use crate::ending::{Lent, apart, end_behind, go_back, hand_on};
 use crate::running::run_alone;
 use crate::tree::Tree;
 use annot_merge::Merge;
@@ -19,7 +19,6 @@ use stack_laws::laws::machines_are_a_tree;
 use stack_threads::{InThreads, run_stages};
 use stage_crew::Pacer;
 use std::alloc::Global;
-use std::snapshot::Snapshot;
 use std::sync::Wait;
 use std::thread::Threads;
 
@@ -35,11 +34,9 @@ fn list_here<S: Source, K: Sink, W: Watch, M: Machine + Drop>(
     requires unseen { W.saw watch [] }
     requires is_open { is_open_of capture.old ≡ true }
     requires lists { CanList tree.stack.now (length tree.machines.items) tree.parents.now merge }
-    ensures decodes { Decodes M.Machine S.Source K.Sink tree.entry.stack.now
-        tree.entry.machines.items tree.entry.parents.now capture.old source.old source.new
-        sink.old sink.new (W.saw result.1) result.0 }
-    ensures origin { W.origin result.1 ≡ W.origin watch }
-    ensures goes_on { K.goes_on sink.old sink.new }
+    ensures { DecodesOn M.Machine S.Source K.Sink tree.entry.stack.now tree.entry.machines.items
+        tree.entry.parents.now W.saw W.origin capture.old source.old source.new sink.old sink.new
+        watch result.1 result.0 }
 {
     let Tree {
         stack,
@@ -48,19 +45,17 @@ fn list_here<S: Source, K: Sink, W: Watch, M: Machine + Drop>(
     } = tree;
     let mut feed = CaptureFeed::new(capture, source);
     let mut lister = Lister::over(stack, merge, sink, watch);
-    let before = Snapshot::of(&machines);
     machines_are_a_tree(&machines, parents);
     let ran = run_alone(machines, parents, &mut feed, &mut lister);
-    let Ran {
+    let end = end_behind(ran, lister.cause, feed.end);
+    let Lent {
         capture: read,
         source: read_from,
         sink: written_to,
-        came_to,
-    } = close(before, parents, feed, lister, ran);
-    goes_back(read);
-    goes_back(read_from);
-    goes_back(written_to);
-    came_to
+        watch,
+    } = apart(feed, lister);
+    go_back(read, read_from, written_to);
+    (end, watch)
 }
 
 // The same with a thread for each machine.
@@ -83,11 +78,9 @@ fn list_in_threads<
     requires unseen { W.saw watch [] }
     requires is_open { is_open_of capture.old ≡ true }
     requires lists { CanList tree.stack.now (length tree.machines.items) tree.parents.now merge }
-    ensures decodes { Decodes M.Machine S.Source K.Sink tree.entry.stack.now
-        tree.entry.machines.items tree.entry.parents.now capture.old source.old source.new
-        sink.old sink.new (W.saw result.1) result.0 }
-    ensures origin { W.origin result.1 ≡ W.origin watch }
-    ensures goes_on { K.goes_on sink.old sink.new }
+    ensures { DecodesOn M.Machine S.Source K.Sink tree.entry.stack.now tree.entry.machines.items
+        tree.entry.parents.now W.saw W.origin capture.old source.old source.new sink.old sink.new
+        watch result.1 result.0 }
 {
     let Tree {
         stack,
@@ -96,19 +89,17 @@ fn list_in_threads<
     } = tree;
     let mut feed = CaptureFeed::new(capture, source);
     let mut lister = Lister::over(stack, merge, sink, watch);
-    let before = Snapshot::of(&machines);
     machines_are_a_tree(&machines, parents);
     let ran = run_stages(way, machines, parents, &mut feed, &mut lister);
-    let Ran {
+    let end = end_behind(ran, lister.cause, feed.end);
+    let Lent {
         capture: read,
         source: read_from,
         sink: written_to,
-        came_to,
-    } = close(before, parents, feed, lister, ran);
-    goes_back(read);
-    goes_back(read_from);
-    goes_back(written_to);
-    came_to
+        watch,
+    } = apart(feed, lister);
+    go_back(read, read_from, written_to);
+    (end, watch)
 }
 
 /// Reads the capture to its end, and writes the notes that the machines give, those of the

@@ -1,19 +1,17 @@
 // The decoding of a part of a capture.
 ghost use Rattle.std.specs.Prelude.{◌≡◌, ◌≤◌, ◌-◌, ◌^◌, [], length, map, true};
 ghost use Rattle.capture_any.specs.Reading.{is_open_of};
-ghost use Rattle.note_lister.specs.Taking.{cause_of, sink_of, sink_ref};
 ghost use Rattle.stack_words.specs.Stacks.{instances_in};
 ghost use Rattle.tree_runs.specs.Passing.{IsForest};
 ghost use Rattle.decode_job.specs.Asking.{CanList, WantsOf};
 ghost use Rattle.decode_job.specs.Flushing.{Flushes};
 ghost use Rattle.decode_job.specs.PartRunning.{Checks, ListsPart, end_of_part};
 ghost use Rattle.decode_job.specs.Parting.{DecodesPart, room_behind};
-ghost use Rattle.decode_job.specs.UpTo.{count_of, inner_of, is_past};
 ghost use Rattle.decode_job.specs.declared.part_end.PartEnd.TheVariants.{Ended as EndedAs};
 ghost use Rattle.capture_any.specs.declared.end.ListingEnd.TheVariants.{Write as WriteEnd};
 
 use crate::capture_feed::CaptureFeed;
-use crate::ending::{Ran, end_of_stop, goes_back};
+use crate::ending::{Lent, apart, end_of_stop, go_back};
 use crate::part_end::PartEnd;
 use crate::tree::PartStart;
 use crate::up_to::UpTo;
@@ -50,43 +48,6 @@ fn end_of_part(cause: Option<ListStop>, past: bool, end: ListingEnd) -> PartEnd
     }
 }
 
-// Takes feed and lister apart, behind a run.
-fn close_part<'a, 'b, 'c, S: Source, K: Sink, W: Watch + Drop>(
-    feed: UpTo<'a, 'b, S>,
-    lister: Lister<'_, 'c, K, W>,
-) -> Ran<'a, 'b, 'c, S, K, Listed>
-    ensures source { result.source.now ≡ (inner_of feed.entry).source.now }
-    ensures same_source { result.source.ghost_name ≡ (inner_of feed.entry).source.ghost_name }
-    ensures sink { result.sink.now ≡ sink_of lister.entry }
-    ensures same_sink { result.sink.ghost_name ≡ (sink_ref lister.entry).ghost_name }
-    ensures end { result.came_to.end
-        ≡ end_of_part (cause_of lister.entry) (is_past feed.entry) (inner_of feed.entry).end }
-    ensures given { result.came_to.given ≡ count_of feed.entry }
-{
-    let UpTo {
-        feed,
-        given,
-        past,
-        ..
-    } = feed;
-    let CaptureFeed {
-        capture,
-        source,
-        end,
-        ..
-    } = feed;
-    let Lister { sink, cause, .. } = lister;
-    Ran {
-        capture,
-        source,
-        sink,
-        came_to: Listed {
-            end: end_of_part(cause, past, end),
-            given,
-        },
-    }
-}
-
 // Runs the machines over the capture, behind so many earlier samples, and writes what they add as
 // it comes.
 fn list_part<S: Source, K: Sink, W: Watch + Drop, M: Machine>(
@@ -114,16 +75,21 @@ fn list_part<S: Source, K: Sink, W: Watch + Drop, M: Machine>(
     let mut lister = Lister::over(start.stack, merge, sink, watch);
     machines_are_a_tree(machines, start.parents);
     run_direct(machines, start.parents, &mut feed, &mut lister);
-    let Ran {
+    let UpTo {
+        feed,
+        given,
+        past,
+        ..
+    } = feed;
+    let end = end_of_part(lister.cause, past, feed.end);
+    let Lent {
         capture: read,
         source: read_from,
         sink: written_to,
-        came_to,
-    } = close_part(feed, lister);
-    goes_back(read);
-    goes_back(read_from);
-    goes_back(written_to);
-    came_to
+        watch: _watch,
+    } = apart(feed, lister);
+    go_back(read, read_from, written_to);
+    Listed { end, given }
 }
 
 // Writes the checkpoint where the capture ended well, and answers how the part ended then.

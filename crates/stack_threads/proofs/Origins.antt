@@ -10,6 +10,6 @@ use Rattle.stack_threads.specs.Runs.{RunsTree}
 
 module _ {M S F O G Q : Type 0} (m : MachineGhosts M S) (f : FeedGhosts F O) (g : TakeGhosts G Q) (parents : List (Option ℕ)) (machines : List M) (feed_old feed_new : F) (take_old take_new : G) where
   pub same_origins : (ran : Result RunEnd NoMemory) → IfOk ran (λ end. RunsTree m f g parents machines feed_old feed_new take_old take_new end) → OnErr ran ((feed_new ≡ feed_old) × (take_new ≡ take_old))
-      → (f.origin feed_new ≡ f.origin feed_old) × (g.origin take_new ≡ g.origin take_old)
-  same_origins (Ok end) runs none = (runs.reads.origin, runs.takes.origin)
-  same_origins (Err why) runs none = (ap f.origin none.0, ap g.origin none.1)
+      → (f.origin feed_new ≡ f.origin feed_old) × (g.origin take_new ≡ g.origin take_old) × (g.instances take_new ≡ g.instances take_old)
+  same_origins (Ok end) runs none = (runs.reads.origin, runs.takes.origin, runs.takes.instances)
+  same_origins (Err why) runs none = (ap f.origin none.0, ap g.origin none.1, ap g.instances none.1)

@@ -22,3 +22,6 @@ returns-clause-decodes g c =
     let decodes = listed.ensures.decodes in
     through g.M.Machine g.S.Source g.K.Sink c.args.tree.stack.now c.args.tree.machines.items c.args.tree.parents.now c.args.capture.now c.args.source.now listed.new.source (g.W.Watch.saw listed.result.1) c.args.sink.now _ c.new-buffered.result listed.new.sink c.hand_on.new.buffered c.new-buffered.ensures.sink c.new-buffered.ensures.empty
     listed.ensures.goes_on (λ same. search rules) listed.result.0 c.hand_on.result decodes.lists decodes.read decodes.write c.hand_on.ensures
+
+pub returns-clause-origin : goal.returns-clause-origin
+returns-clause-origin g c = c.list_here-end.ensures.origin_is

@@ -1,48 +1,44 @@
 use denote.Exit.{no}
 use denote.Param.Send.{arg_send, param_send}
-use Rattle.std.proofs.Common.{[], rules, ap, subst, sym, ◌∙◌}
+use Rattle.std.proofs.Common.{◌≡◌, [], length, map, rules, sym, subst, ◌∙◌}
+use Rattle.tree_runs.specs.Machines.{defined}
+use Rattle.tree_runs.specs.Taking.{IsTree}
+use Rattle.stack_laws.specs.Laws.{IsLawful}
+use Rattle.stack_words.specs.declared.stack.Stack.{Stack}
+use Rattle.decode_job.specs.Asking.{WantsOf}
+use Rattle.decode_job.specs.Decoding.{DecodesOn}
+use Rattle.decode_job.specs.Ending.{end_behind}
+use Rattle.decode_job.proofs.Closing.{Rested}
 use Rattle.stack_threads.proofs.Origins.{same_origins}
-use Rattle.decode_job.proofs.Coming.{ok_follows, ran_to}
-use Rattle.decode_job.proofs.Flushing.{decodes_moved, relation_moved}
+use Rattle.decode_job.proofs.Coming.{decodes_moved, ok_follows, ran_decodes}
 use Rattle.decode_job.proofs.Sending.{feed_sent}
 use Rattle.decode_job.proofs.job.list_in_threads.Goals as goal
 
 pub run_stages-ran-requires-send-F : goal.run_stages-ran-requires-send-F
 run_stages-ran-requires-send-F g c κs within = param_send _ _ (arg_send _ no _ (feed_sent _ _ _ _ _ c.type_bounds.send-S))
 
-pub close-read-requires-clause-ran : goal.close-read-requires-clause-ran
-close-read-requires-clause-ran g c =
+pub returns : goal.returns
+returns g c =
+    let m = g.M.Machine in
+    let s = g.S.Source in
+    let k = g.K.Sink in
+    let w = g.W.Watch in
+    let tree = c.args.tree in
     let feed = c.new-feed in
     let lister = c.over-lister in
+    let gave = feed.ensures in
+    let took = lister.ensures in
     let run = c.run_stages-ran in
-    ran_to g.M.Machine g.S.Source g.K.Sink g.W.Watch.saw c.args.tree.machines.items c.of-before.result.value.items (sym (ap (λ v. v.items) c.of-before.ensures)) c.args.tree.parents.now feed.result run.new.feed lister.result run.new.take
-    (record { gave = feed.ensures.gave; took = lister.ensures.took; source = feed.ensures.source_now ∙ sym feed.ensures.source; sink = lister.ensures.now ∙ sym lister.ensures.first; unseen = subst (λ w. g.W.Watch.saw w []) (sym lister.ensures.watch) c.requires.unseen })
-    lister.ensures.goes run.result
-    (ok_follows _ _ run.result run.ensures.runs (λ end one. one.tree)) (ok_follows _ _ run.result run.ensures.runs (λ end one. one.reads.at_end)) (ok_follows _ _ run.result run.ensures.runs (λ end one. one.takes.going)) run.ensures.none
-
-pub returns-clause-decodes : goal.returns-clause-decodes
-returns-clause-decodes g c =
-    let run = c.run_stages-ran in
-    let same = same_origins _ _ _ _ _ _ _ _ _ run.result run.ensures.runs run.ensures.none in
-    let feed = c.new-feed.ensures in
-    let lister = c.over-lister.ensures in
-    let close = c.close-read in
-    let same_source = close.ensures.same_source ∙ (ap (λ o. o.1.value.ghost_name) same.0 ∙ feed.first_source) in
-    let same_sink = close.ensures.same_sink ∙ (ap (λ o. o.1.value.ghost_name) same.1 ∙ lister.same) in
-    decodes_moved g.M.Machine g.S.Source g.K.Sink c.args.tree.parents.now close.result.came_to.0 _ (ap (λ o. o.0.now) same.1 ∙ lister.stack) (ap (λ v. v.items) c.of-before.ensures)
-    (ap (λ o. o.0.value.now) same.0 ∙ feed.capture) (ap (λ o. o.1.value.now) same.0 ∙ feed.source) (search rules) (ap (λ o. o.1.value.now) same.1 ∙ lister.first) (search rules) close.ensures.decodes
-
-pub returns-clause-origin : goal.returns-clause-origin
-returns-clause-origin g c =
-    let run = c.run_stages-ran in
-    let same = same_origins _ _ _ _ _ _ _ _ _ run.result run.ensures.runs run.ensures.none in
-    ap g.W.Watch.origin c.close-read.ensures.watch ∙ (ap (λ o. o.2) same.1 ∙ ap g.W.Watch.origin c.over-lister.ensures.watch)
-
-pub returns-clause-goes_on : goal.returns-clause-goes_on
-returns-clause-goes_on g c =
-    let run = c.run_stages-ran in
-    let same = same_origins _ _ _ _ _ _ _ _ _ run.result run.ensures.runs run.ensures.none in
-    let lister = c.over-lister.ensures in
-    let close = c.close-read in
-    let same_sink = close.ensures.same_sink ∙ (ap (λ o. o.1.value.ghost_name) same.1 ∙ lister.same) in
-    relation_moved g.K.Sink.goes_on (ap (λ o. o.1.value.now) same.1 ∙ lister.first) (search rules) close.ensures.goes_on
+    let to = run.ensures in
+    let apart = c.apart-read in
+    let same : c.deref.result.now ≡ tree.machines.items = search rules in
+    let lawful = subst (λ machines. IsLawful tree.parents.now (defined m.outputs m.near (map m.setup machines))) same c.machines_are_a_tree.ensures in
+    let rested : Rested s k w.saw feed.result lister.result = record { gave = gave.gave; took = took.took; source = gave.source_now ∙ sym gave.source; sink = took.now ∙ sym took.first; unseen = subst (λ watch. w.saw watch []) (sym took.watch) c.requires.unseen; goes = took.goes } in
+    let stays = same_origins _ _ _ _ _ _ _ _ _ run.result to.runs to.none in
+    let over = ran_decodes m s k w.saw w.origin tree.machines.items tree.parents.now feed.result run.new.feed lister.result run.new.take rested run.result
+    (ok_follows _ _ run.result to.runs (λ end one. one.tree)) (ok_follows _ _ run.result to.runs (λ end one. one.reads.at_end)) (ok_follows _ _ run.result to.runs (λ end one. one.takes.going)) to.none stays.0 stays.1 stays.2
+    lawful (subst (IsTree tree.parents.now (length tree.machines.items)) (sym took.instances) c.requires.lists.tree) (subst (λ (stack : Stack). WantsOf stack (length tree.parents.now)) (sym took.stack) c.requires.lists.wanted) in
+    let same_source = apart.ensures.same_source ∙ (over.same_source ∙ gave.first_source) in
+    let same_sink = apart.ensures.same_sink ∙ (over.same_sink ∙ took.same) in
+    subst (DecodesOn m s k tree.stack.now tree.machines.items tree.parents.now w.saw w.origin c.args.capture.now c.args.source.now _ c.args.sink.now _ c.args.watch _) (sym c.end_behind-end.ensures)
+    (decodes_moved m s k tree.machines.items tree.parents.now w.saw w.origin (end_behind run.result run.new.take.cause run.new.feed.end) took.stack gave.capture gave.source (sym apart.ensures.source ∙ search rules) took.first (sym apart.ensures.sink ∙ search rules) took.watch (sym apart.ensures.watch) over.decodes)
