@@ -38,10 +38,15 @@ use Rattle.std.proofs.lemmas.List.{length-map}
 -- a part of what was opened
 module _ (saves : Saves) (values : Values) (left_old left_now : Option (List ℕ)) (opened : Opened) (is : IsOpened values left_old left_now opened) (job : values.job ≡ Part) where
   -- its checkpoint is refused
-  pub refuses_on : (written : Option (List ℕ)) (fault : CheckFault) → CantBegin saves (map setup_of opened.machines.items) values.from fault → WorksOn saves values left_old left_now written written (Check fault)
+  refuses_on : (written : Option (List ℕ)) (fault : CheckFault) → CantBegin saves (map setup_of opened.machines.items) values.from fault → WorksOn saves values left_old left_now written written (Check fault)
   refuses_on written fault cant =
       checking_fails saves values (form_of opened.capture) is.form_is left_old left_now written is.bytes is.told is.taken is.at is.names is.rate is.head fault
       (record { job = job; stack = is.asks.stack; refused = subst (λ (l : List Setup). CantBegin saves l values.from fault) is.setups cant })
+
+  -- the same by other names of the decoders and of the checkpoint's text
+  pub refuses_by : (written : Option (List ℕ)) (fault : CheckFault) (decoders : List AnyDecoder) → decoders ≡ opened.machines.items → (asked : Option (List ℕ)) → asked ≡ values.from → CantBegin saves (map setup_of decoders) asked fault → WorksOn saves values left_old left_now written written (Check fault)
+  refuses_by written fault decoders decoders_are asked asked_is cant =
+      refuses_on written fault (subst (λ (l : List AnyDecoder). CantBegin saves (map setup_of l) values.from fault) decoders_are (subst (λ (from : Option (List ℕ)). CantBegin saves (map setup_of decoders) from fault) asked_is cant))
 
   -- it came to its end
   parts_on : (count : ℕ) → CanBegin saves (map setup_of opened.machines.items) values.from count → (left_new old new : Option (List ℕ)) (end : ListingEnd)

@@ -1,12 +1,12 @@
-use Rattle.std.proofs.Common.{◌≡◌, ℕ, List, map, Option, sym, ap, subst, ◌∙◌, rules, refl}
+use Rattle.std.proofs.Common.{◌≡◌, List, map, sym, ap, subst, ◌∙◌, rules, refl}
 use Rattle.decoder_set.specs.Opening.{setup_of}
 use Rattle.decoder_set.specs.declared.any.AnyDecoder.{AnyDecoder}
 use Rattle.stack_words.specs.Stacks.{instances_in}
 use Rattle.words.specs.Settings.{meaning_of}
-use Rattle.run_asks.specs.Parting.{CantBegin, places_of}
+use Rattle.run_asks.specs.Parting.{places_of}
 use Rattle.ldecode.specs.Headline.{WorksOn}
 use Rattle.ldecode.proofs.Begun.{places_same}
-use Rattle.ldecode.proofs.Opened.{part_comes_by, refuses_on, seen_text}
+use Rattle.ldecode.proofs.Opened.{part_comes_by, refuses_by, seen_text}
 use Rattle.ldecode.proofs.Working.{works_refused}
 use Rattle.ldecode.proofs.part.part_stack.Goals as goal
 
@@ -24,12 +24,10 @@ pub returns-in-Err-begin-clause-works : goal.returns-in-Err-begin-clause-works
 returns-in-Err-begin-clause-works g c =
     let settings = c.args.settings.now in
     let opened = c.in-Ok.opened in
-    let fault = c.in-Err-begin.fault in
     let decoders : List AnyDecoder = c.as_mut_slice-machines.result.now in
     let same : decoders ≡ opened.machines.items = search rules in
-    let from = subst (λ (f : Option (List ℕ)). CantBegin _ (map setup_of decoders) f fault) (seen_text c.as_ref.result settings.from c.as_ref.ensures.value) c.in-Err-begin.ensures.refused in
-    refuses_on _ (meaning_of settings) (g.S.Source.left c.args.source.now) (g.S.Source.left c.open_stack.new.source) opened c.in-Ok.ensures.opened c.requires.job (g.K.Sink.written c.args.sink.now) fault
-    (subst (λ (l : List AnyDecoder). CantBegin _ (map setup_of l) (meaning_of settings).from fault) same from)
+    refuses_by _ (meaning_of settings) (g.S.Source.left c.args.source.now) (g.S.Source.left c.open_stack.new.source) opened c.in-Ok.ensures.opened c.requires.job (g.K.Sink.written c.args.sink.now) c.in-Err-begin.fault
+    decoders same _ (seen_text c.as_ref.result settings.from c.as_ref.ensures.value) c.in-Err-begin.ensures.refused
 
 pub returns-clause-works : goal.returns-clause-works
 returns-clause-works g c =
