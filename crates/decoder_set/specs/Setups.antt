@@ -1,38 +1,26 @@
 -- What a decoder of each kind gives, by its setup.
 use Rattle.std.specs.Prelude.{ℕ, List, Option, max}
 use Rattle.la_base.specs.declared.samples.Rate.{Rate}
-use Rattle.la_base.specs.declared.wires.Note.{Note}
 use Rattle.la_base.specs.declared.wires.Out.{Out}
 use Rattle.la_base.specs.declared.wires.Packet.{Packet}
 use Rattle.la_base.specs.declared.wires.Wire.{Wire}
 use Rattle.decoder_core.specs.Inputs.{Item, counted_samples}
 use Rattle.dec_i2c.specs.Bus.{i2c_outs, i2c_near}
-use Rattle.dec_i2c.specs.Texts as i2c
 use Rattle.dec_midi.specs.Midi.{midi_near, midi_outs}
-use Rattle.dec_midi.specs.Texts as midi
 use Rattle.dec_modbus.specs.Modbus.{gap_of, modbus_near, modbus_outs}
-use Rattle.dec_modbus.specs.Texts as modbus
 use Rattle.dec_spi.specs.Bus.{spi_outs, spi_near}
-use Rattle.dec_spi.specs.Texts as spi
 use Rattle.dec_uart.specs.Frames.{uart_outs, uart_near}
-use Rattle.dec_uart.specs.Texts as uart
 use Rattle.dec_onewire.specs.Link.{link_outs, link_near}
 use Rattle.dec_onewire.specs.Net.{net_outs, net_near}
-use Rattle.dec_onewire.specs.Texts as onewire
 use Rattle.decoder_core.specs.Packets.{counted_packets, last_start}
 use Rattle.dev_ds18b20.specs.Probe.{probe_near, probe_outs}
-use Rattle.dev_ds18b20.specs.Texts as probe
 use Rattle.dev_ds1307.specs.Clock.{clock_outs}
 use Rattle.dev_ds1307.specs.Opening as clock
-use Rattle.dev_ds1307.specs.Texts as clock_texts
 use Rattle.dev_eeprom24.specs.Eeprom.{eeprom_outs}
 use Rattle.dev_eeprom24.specs.Opening.{chip_by}
-use Rattle.dev_eeprom24.specs.Texts as eeprom
 use Rattle.dev_flash25.specs.Flash.{flash_near, flash_outs}
-use Rattle.dev_flash25.specs.Texts as flash
 use Rattle.dev_lm75.specs.Thermometer.{lm75_outs}
 use Rattle.dev_lm75.specs.Opening as lm75
-use Rattle.dev_lm75.specs.Texts as lm75_texts
 use Rattle.i2c_phases.specs.Phases.{phase_near}
 use Rattle.la_base.specs.declared.wires.Wire.TheVariants as wire
 use Rattle.kind_table.specs.declared.kinds.Kind.{Kind}
@@ -40,7 +28,6 @@ use Rattle.kind_table.specs.declared.kinds.Kind.TheVariants.{I2c, Spi, Uart, OwL
 use Rattle.kind_table.specs.declared.kinds.Kind.TheVariants.{Eeprom24, Ds1307, Lm75, Ds18b20}
 use Rattle.kind_table.specs.declared.kinds.Kind.TheVariants.{Flash25, Modbus, Midi}
 use Rattle.decoder_set.specs.declared.setup.Setup.{Setup}
-use Rattle.kind_table.specs.Kinds.{Text}
 use Rattle.decoder_set.specs.Options.{clock_options, eeprom_options, i2c_options, link_options}
 use Rattle.decoder_set.specs.Options.{lm75_options, modbus_options, spi_options, uart_options}
 
@@ -95,18 +82,3 @@ near_by Midi values rate input above = near_behind midi_near wire.Uart input abo
 -- starts at `above` or later
 abbrev pub near_of : Setup → List Item → ℕ → ℕ
 near_of setup input above = near_by setup.kind setup.values.given setup.rate input above
-
--- the text of a note
-abbrev pub note_text : Kind → Note → Text
-note_text I2c note = i2c.note_text note.class note.a
-note_text Spi note = spi.note_text note.class note.a note.b
-note_text Uart note = uart.note_text note.class note.a
-note_text OwLink note = onewire.link_text note.class note.a
-note_text OwNet note = onewire.net_text note.class note.a note.b
-note_text Eeprom24 note = eeprom.note_text note.class note.a note.b
-note_text Ds1307 note = clock_texts.note_text note.class note.a note.b
-note_text Lm75 note = lm75_texts.note_text note.class note.a
-note_text Ds18b20 note = probe.note_text note.class note.a note.b
-note_text Flash25 note = flash.note_text note.class note.a note.b
-note_text Modbus note = modbus.note_text note.class note.a note.b
-note_text Midi note = midi.note_text note.class note.a

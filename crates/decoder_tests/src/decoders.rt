@@ -10,11 +10,11 @@ mod traffic;
 mod trees;
 mod uart;
 
-use decoder_set::note_text;
 use feeds::{floors_hold, holds};
 use kind_table::kind_of;
 use la_base::Note;
 use line_text::LineBuf;
+use listing_out::note_text;
 use std::test::Fail;
 
 // A kind, a class, two values, and the text of such a note, whatever its span is.

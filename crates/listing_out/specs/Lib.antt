@@ -1,3 +1,4 @@
+pub mod NoteTexts
 pub mod NoteLines
 pub mod StopLines
 pub mod Summaries

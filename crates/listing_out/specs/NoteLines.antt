@@ -4,7 +4,7 @@ use Rattle.std.specs.Fmt.{decimal}
 use Rattle.la_base.specs.declared.wires.Note.{Note}
 use Rattle.kind_table.specs.Kinds.{kind_row}
 use Rattle.kind_table.specs.declared.kinds.Kind.{Kind}
-use Rattle.decoder_set.specs.Setups.{note_text}
+use Rattle.listing_out.specs.NoteTexts.{note_text}
 
 -- the name of an instance within a line: the kind, and the number of the instance within its kind
 abbrev pub name_as : Kind → ℕ → List ℕ

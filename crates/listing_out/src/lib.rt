@@ -6,12 +6,14 @@
 mod data;
 mod kept;
 mod name;
+mod note_texts;
 mod notes;
 mod stops;
 mod summaries;
 mod text;
 
 pub use data::{write_data, write_piece};
+pub use note_texts::note_text;
 pub use notes::{NoteLine, write_note};
 pub use stops::StopLine;
 pub use summaries::{Tally, write_summary};

@@ -5,8 +5,8 @@ ghost use Rattle.la_io.specs.Causes.{AppendsFront, HasCause};
 ghost use Rattle.listing_out.specs.NoteLines.{line_as};
 
 use crate::name::Names;
+use crate::note_texts::note_text;
 use crate::text::push_text;
-use decoder_set::note_text;
 use kind_table::Kind;
 use la_base::Note;
 use la_io::{Failed, Sink, write_whole};

@@ -1,9 +1,10 @@
 // Decoders of any kind by texts: their options, what they are fed with, and what they give of it.
 use decoder_core::{Machine, Outs};
-use decoder_set::{AnyDecoder, note_text};
+use decoder_set::AnyDecoder;
 use kind_table::{Kind, MOST_OPTIONS, OptValues, kind_of};
 use la_base::{Feed, Out, Packet, PacketKind, Rate, Run, Word};
 use line_text::LineBuf;
+use listing_out::note_text;
 use std::alloc::{AllocError, Global};
 use std::test::Fail;
 

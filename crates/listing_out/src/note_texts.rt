@@ -1,6 +1,6 @@
-// Notes as text.
+// The texts of notes.
 ghost use Rattle.std.specs.Prelude.{◌≡◌, ◌+◌, ◌≤◌, ◌++◌, length};
-ghost use Rattle.decoder_set.specs.Setups.{note_text};
+ghost use Rattle.listing_out.specs.NoteTexts.{note_text};
 
 use kind_table::Kind;
 use la_base::Note;
