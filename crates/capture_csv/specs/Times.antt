@@ -5,7 +5,8 @@ use Rattle.std.specs.Prelude.{if◌then◌else◌, List, [], ◌∷◌, ◌++◌
 use Rattle.std.specs.Prelude.{Some, None}
 use Rattle.std.specs.List.{prefix_len}
 use Rattle.std.specs.Char.{is_ascii_digit}
-use Rattle.text_parts.specs.Numbers.{is_number, number_after}
+use Rattle.la_base.specs.Naming.{number_after}
+use Rattle.text_parts.specs.Numbers.{is_number}
 
 -- the least time, and 0
 abbrev pub zero_time : ℕ

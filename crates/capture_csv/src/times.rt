@@ -4,7 +4,7 @@ ghost use Rattle.std.specs.Prelude.{true};
 ghost use Rattle.std.specs.Char.{is_ascii_digit};
 ghost use Rattle.std.specs.List.{prefix_len};
 ghost use Rattle.std.specs.Str.{all_ascii_digits};
-ghost use Rattle.text_parts.specs.Numbers.{number_after};
+ghost use Rattle.la_base.specs.Naming.{number_after};
 ghost use Rattle.capture_csv.specs.Times.{amount_of, part_of, picos_of, sample_at, time_in, twelve};
 
 use la_base::Rate;

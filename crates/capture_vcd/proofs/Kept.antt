@@ -6,7 +6,8 @@ use Rattle.std.proofs.lemmas.Slice.Eq.{bytes_eq-Decides}
 use Rattle.la_base.specs.Naming.{same_name}
 use Rattle.la_io.specs.declared.fault.CaptureFault.{CaptureFault}
 use Rattle.la_io.specs.declared.fault.CaptureFault.TheVariants.{Token}
-use Rattle.text_parts.specs.Numbers.{is_number, number_after}
+use Rattle.la_base.specs.Naming.{number_after}
+use Rattle.text_parts.specs.Numbers.{is_number}
 use Rattle.text_parts.specs.Places.{Placed}
 use Rattle.capture_vcd.specs.Header.{Declared, Nothing, a_second, bit_names, declare, first_at, has_no_channel, is_code, joined, scale_by, scale_of, variable_of}
 use Rattle.capture_vcd.specs.Gathered.{placed}

@@ -1,7 +1,8 @@
 -- What the reader is told of a token that belongs to nothing before it.
 use Rattle.std.specs.Prelude.{ℕ, ◌≡◌, ◌^◌, ◌≤◌, ◌<◌, true, false, List, [], ◌∷◌, min, Option, Some}
 use Rattle.std.specs.Prelude.{None}
-use Rattle.text_parts.specs.Numbers.{is_number, number_after}
+use Rattle.la_base.specs.Naming.{number_after}
+use Rattle.text_parts.specs.Numbers.{is_number}
 use Rattle.capture_vcd.specs.Body.{Time, Change, Wrong}
 use Rattle.capture_vcd.specs.Within.{Free, Value, Skip, Comment, begins}
 use Rattle.capture_vcd.specs.declared.tokens.Begun.{Begun}

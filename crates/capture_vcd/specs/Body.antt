@@ -7,7 +7,8 @@ use Rattle.std.specs.List.{list_all, range_with_len}
 use Rattle.la_base.specs.Naming.{same_name}
 use Rattle.la_io.specs.declared.fault.CaptureFault.{CaptureFault}
 use Rattle.la_io.specs.declared.fault.CaptureFault.TheVariants.{Token, TimeBack, TimeLarge}
-use Rattle.text_parts.specs.Numbers.{is_number, number_after}
+use Rattle.la_base.specs.Naming.{number_after}
+use Rattle.text_parts.specs.Numbers.{is_number}
 use Rattle.text_parts.specs.Places.{Placed}
 use Rattle.capture_vcd.specs.Header.{says}
 

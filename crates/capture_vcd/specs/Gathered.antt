@@ -7,7 +7,8 @@ use Rattle.rate_math.specs.Scale.{in_second}
 use Rattle.rate_math.specs.declared.scale.TimeUnit.{TimeUnit}
 use Rattle.la_io.specs.declared.fault.CaptureFault.{CaptureFault}
 use Rattle.la_io.specs.declared.fault.CaptureFault.TheVariants.{Token, TooMany}
-use Rattle.text_parts.specs.Numbers.{is_number, number_after}
+use Rattle.la_base.specs.Naming.{number_after}
+use Rattle.text_parts.specs.Numbers.{is_number}
 use Rattle.text_parts.specs.Places.{Placed}
 use Rattle.capture_vcd.specs.Header.{Declared, Scale, Declares, Nothing, Variable, bit_names}
 use Rattle.capture_vcd.specs.Header.{is_keyword, joined, says, variable_of}

@@ -2,7 +2,8 @@
 ghost use Rattle.std.specs.Prelude.{◌≡◌, ◌+◌, ◌*◌, ◌-◌, ◌^◌, ◌≤◌, ◌<◌, ◌&&◌, ◌||◌, ◌==◌, not};
 ghost use Rattle.std.specs.Prelude.{length, min};
 ghost use Rattle.std.specs.List.{list_all};
-ghost use Rattle.text_parts.specs.Numbers.{is_number, number_after};
+ghost use Rattle.la_base.specs.Naming.{number_after};
+ghost use Rattle.text_parts.specs.Numbers.{is_number};
 ghost use Rattle.capture_vcd.specs.Body.{first_is, is_digit};
 ghost use Rattle.capture_vcd.specs.Begun.{Begins, IfNumber};
 

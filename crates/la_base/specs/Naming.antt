@@ -1,14 +1,17 @@
 -- How a channel is found by a reference.
-use Rattle.std.specs.Prelude.{ℕ, Bool, List, length, Option, Some, None, nat_le, nat_lt, ◌&&◌}
+use Rattle.std.specs.Prelude.{ℕ, Bool, ◌+◌, ◌*◌, ◌-◌, List, length, Option, Some, None, nat_le, nat_lt, ◌&&◌}
 use Rattle.std.specs.Prelude.{if◌then◌else◌, nat_eq}
-use Rattle.std.specs.List.{position, list_all}
+use Rattle.std.specs.List.{fold, position, list_all}
 use Rattle.std.specs.Cmp.Lexicographic.{pointwise}
 use Rattle.std.specs.Char.{is_ascii_digit}
-use Rattle.text_parts.specs.Numbers.{number_after}
 
 -- two names have the same bytes
 abbrev pub same_name : List ℕ → List ℕ → Bool
 same_name a b = pointwise nat_eq a b
+
+-- the number that digits write after those of n
+abbrev pub number_after : ℕ → List ℕ → ℕ
+number_after n digits = fold (λ n digit. 10 * n + (digit - 48)) n digits
 
 -- 1 to 4 decimal digits
 abbrev pub is_number : List ℕ → Bool

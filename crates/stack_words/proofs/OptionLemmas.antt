@@ -5,7 +5,8 @@ use Rattle.std.specs.List.{find, list_all, enumerate_from, position, position_or
 use Rattle.std.specs.Str.{bytes_eq}
 use Rattle.std.proofs.lemmas.Bool.Decides.{Decides-eqb, nat_tests}
 use Rattle.std.proofs.lemmas.List.Quantifiers.{position-Some}
-use Rattle.text_parts.specs.Numbers.{number_in, number_after, is_number}
+use Rattle.la_base.specs.Naming.{number_after}
+use Rattle.text_parts.specs.Numbers.{number_in, is_number}
 use Rattle.text_parts.specs.Places.{Placed, placed_from}
 use Rattle.text_parts.specs.Reading.{read_parts, then_read}
 use Rattle.text_parts.specs.declared.numbers.NumberWhy.TheVariants as number

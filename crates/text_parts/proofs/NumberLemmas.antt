@@ -5,7 +5,8 @@ use Rattle.std.specs.Str.{all_ascii_digits}
 use Rattle.std.specs.Str.Parse.{ParsesUnsigned}
 use Rattle.std.proofs.lemmas.Str.Parse.{IsNumeralModel, numerals_by_fold, tells_all_ascii_digits, parse_gives, digits_value_short}
 use Rattle.std.proofs.lemmas.Bool.Decides.{nat_tests}
-use Rattle.text_parts.specs.Numbers.{is_number, number_after, number_in}
+use Rattle.la_base.specs.Naming.{number_after}
+use Rattle.text_parts.specs.Numbers.{is_number, number_in}
 use Rattle.text_parts.specs.declared.numbers.NumberWhy.TheVariants.{Range}
 
 own : IsNumeralModel (λ ds. all_ascii_digits ds ≡ true) (number_after 0)

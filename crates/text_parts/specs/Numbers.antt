@@ -1,18 +1,14 @@
 -- Decimal numbers in a range.
-use Rattle.std.specs.Prelude.{ℕ, Bool, ◌+◌, ◌*◌, ◌-◌, ◌==◌, ◌&&◌, nat_le, nat_lt, not, List, length}
+use Rattle.std.specs.Prelude.{ℕ, Bool, ◌==◌, ◌&&◌, nat_le, nat_lt, not, List, length}
 use Rattle.std.specs.Prelude.{Result, Ok, Err, if◌then◌else◌}
-use Rattle.std.specs.List.{fold}
 use Rattle.std.specs.Str.{all_ascii_digits}
+use Rattle.la_base.specs.Naming.{number_after}
 use Rattle.text_parts.specs.declared.numbers.NumberWhy.{NumberWhy}
 use Rattle.text_parts.specs.declared.numbers.NumberWhy.TheVariants.{Value, Range}
 
 -- decimal digits alone, at least one
 abbrev pub is_number : List ℕ → Bool
 is_number text = not (length text == 0) && all_ascii_digits text
-
--- the number that digits write behind those of n
-abbrev pub number_after : ℕ → List ℕ → ℕ
-number_after n digits = fold (λ n digit. 10 * n + (digit - 48)) n digits
 
 -- the number that a text writes: Value where it isn't digits alone, Range where it has more than 19
 -- or is outside

@@ -2,7 +2,8 @@
 use Rattle.std.specs.Prelude.{ℕ, Option, Some, None, Result, Ok}
 use Rattle.la_base.specs.declared.samples.Rate.{Rate}
 use Rattle.text_parts.specs.Reading.{then_read}
-use Rattle.text_parts.specs.Numbers.{number_after, number_in}
+use Rattle.la_base.specs.Naming.{number_after}
+use Rattle.text_parts.specs.Numbers.{number_in}
 use Rattle.text_parts.specs.declared.numbers.NumberWhy.{NumberWhy}
 use Rattle.words.specs.Lexer.{Text, cut_at}
 

@@ -6,7 +6,7 @@ use Rattle.std.specs.Option.{option_or}
 use Rattle.std.specs.Str.{bytes_eq}
 use Rattle.std.specs.String.{string_bytes}
 use Rattle.text_parts.specs.Chains.{WordText, chain_of}
-use Rattle.text_parts.specs.Numbers.{number_after}
+use Rattle.la_base.specs.Naming.{number_after}
 use Rattle.text_parts.specs.Reading.{then_read}
 use Rattle.cond_words.specs.Words.{Meaning}
 use Rattle.cond_words.specs.Grammar.{terms_of}

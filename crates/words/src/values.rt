@@ -3,7 +3,7 @@ ghost use Rattle.std.specs.Prelude.{◌≡◌, ◌≤◌, map, None, Some, IfOk,
 ghost use Rattle.std.specs.List.{list_any};
 ghost use Rattle.std.specs.Str.{bytes_eq};
 ghost use Rattle.text_parts.specs.Reading.{Gives};
-ghost use Rattle.text_parts.specs.Numbers.{number_after};
+ghost use Rattle.la_base.specs.Naming.{number_after};
 ghost use Rattle.words.specs.Options.{IsNumber, IsWithin, Ratio, row};
 ghost use Rattle.words.specs.Rates.{den_in, most_den, most_num, numbers_of, rate_in, rate_written};
 ghost use Rattle.words.specs.Rows.{value_kind_of};

@@ -1,6 +1,6 @@
 use Rattle.std.proofs.Common.{◌≡◌, ◌^◌, ◌<◌, drop, true}
 use Rattle.std.specs.Str.{all_ascii_digits}
-use Rattle.text_parts.specs.Numbers.{number_after}
+use Rattle.la_base.specs.Naming.{number_after}
 use Rattle.capture_csv.proofs.times.number_of.Given as goal
 
 abbrev pub invariant-loop-digit : goal.invariant-loop-digit

@@ -1,5 +1,5 @@
 use Rattle.std.proofs.Common.{◌≡◌, ◌^◌, ◌<◌, take}
-use Rattle.text_parts.specs.Numbers.{number_after}
+use Rattle.la_base.specs.Naming.{number_after}
 use Rattle.capture_csv.specs.Times.{twelve}
 use Rattle.capture_csv.proofs.times.picos_of.Given as goal
 

@@ -1,7 +1,8 @@
 use Rattle.std.proofs.Common.{◌≡◌, ◌∙◌, ◌==◌, ℕ, List, [], ◌∷◌, arith, eq-eqb, sym, ap, codes, false}
 use Rattle.std.proofs.lemmas.Bool.{cond-true, cond-false}
 use Rattle.la_base.specs.Naming.{same_name}
-use Rattle.text_parts.specs.Numbers.{is_number, number_after}
+use Rattle.la_base.specs.Naming.{number_after}
+use Rattle.text_parts.specs.Numbers.{is_number}
 use Rattle.capture_vcd.specs.Within.{begins, Free}
 use Rattle.capture_vcd.proofs.tokens.begin.Goals as goal
 

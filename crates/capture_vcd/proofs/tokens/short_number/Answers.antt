@@ -4,7 +4,8 @@ use Rattle.std.proofs.lemmas.List.{at_drop_more, drop_all}
 use Rattle.std.proofs.Math.Nat.{pow-le-pow_right}
 use Rattle.std.specs.Char.{is_ascii_digit}
 use Rattle.std.specs.Str.{all_ascii_digits}
-use Rattle.text_parts.specs.Numbers.{is_number, number_after}
+use Rattle.la_base.specs.Naming.{number_after}
+use Rattle.text_parts.specs.Numbers.{is_number}
 use Rattle.capture_vcd.proofs.tokens.short_number.Goals as goal
 
 power : (n most : ℕ) → n ≤ most → 10 ^ n ≤ 10 ^ most

@@ -1,6 +1,6 @@
 use Rattle.std.proofs.Common.{◌≡◌, ◌^◌, ◌<◌, drop}
 use Rattle.std.specs.Str.{all_ascii_digits}
-use Rattle.text_parts.specs.Numbers.{number_after}
+use Rattle.la_base.specs.Naming.{number_after}
 use Rattle.capture_vcd.proofs.tokens.short_number.Given as goal
 
 abbrev pub invariant-loop-byte : goal.invariant-loop-byte

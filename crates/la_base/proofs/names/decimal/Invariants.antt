@@ -1,7 +1,7 @@
 use Rattle.std.proofs.Common.{◌≡◌, ◌<◌, ◌^◌, take, true}
 use Rattle.std.specs.List.{list_all}
 use Rattle.std.specs.Char.{is_ascii_digit}
-use Rattle.text_parts.specs.Numbers.{number_after}
+use Rattle.la_base.specs.Naming.{number_after}
 use Rattle.la_base.proofs.names.decimal.Given as goal
 
 abbrev pub invariant-loop-digit : goal.invariant-loop-digit

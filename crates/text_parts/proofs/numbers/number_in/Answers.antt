@@ -1,5 +1,6 @@
 use Rattle.std.proofs.Common.{◌≡◌, true, Ok, sym, ◌∙◌, ap, rules}
-use Rattle.text_parts.specs.Numbers.{is_number, number_after}
+use Rattle.la_base.specs.Naming.{number_after}
+use Rattle.text_parts.specs.Numbers.{is_number}
 use Rattle.text_parts.proofs.NumberLemmas.{parsed, accepted, outside}
 use Rattle.text_parts.proofs.numbers.number_in.Goals as goal
 
