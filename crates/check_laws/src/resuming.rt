@@ -31,9 +31,8 @@ pub fn resume<M: Keep, F: RunFeed, G: MarkTake>(
     ensures resumes { (earlier : List ℕ)
         → IsCheckBehind M.setup M.outputs M.consumed M.saves kinds.now parents.now
         (map M.setup machines.old) word.now earlier
-        → ResumesAs M.outputs M.near M.consumed parents.now (map M.setup machines.old) machines.new
-        earlier (F.gave feed.old) (F.gave feed.new) (G.took take.old) (G.took take.new)
-        (F.at_end feed.new) result }
+        → ResumesAs M.Machine F.RunFeed G.MarkTake parents.now machines.old machines.new
+        feed.old feed.new take.old take.new earlier result }
 {
     match read_check(word, machines, kinds) {
         Ok(samples) => Ok((samples, run_direct(machines, parents, feed, take))),
