@@ -6,6 +6,7 @@ use Rattle.note_order.specs.declared.entry.Entry.{Entry}
 use Rattle.words.specs.Readable.{IsReadable, IsShort}
 use Rattle.words.specs.Settings.{Values}
 use Rattle.words.specs.declared.settings.Settings.{Settings}
+use Rattle.run_status.specs.Causes.{HasCauses}
 use Rattle.run_status.specs.declared.status.Status.{Status}
 use Rattle.run_asks.specs.Refusing.{RefusesOn}
 use Rattle.ldecode.specs.Headline.{DecodesOn}
@@ -28,3 +29,10 @@ pub record DecodesAs {K W : Type 0} (values : Values) (saw : W → List Entry �
       (IsSeenFront (saw watch_new) (written sink_old) (written sink_new)) left_old left_new)
   pub refuses : IfErr ended (RefusesOn values left_old left_new)
   pub untouched : IfErr ended (λ _. (sink_new ≡ sink_old) × (watch_new ≡ watch_old))
+
+-- a status has its cause in what became of the source and of the sink, over words that may have named
+-- a capture without a head
+abbrev pub CausedOn : {S K : Type 0} → Type 0 → (S → ℕ) → (K → ℕ) → S → S → K → K → Status → Type 0
+CausedOn headless source_faults sink_faults source_old source_new sink_old sink_new status =
+    HasCauses headless (source_new ≡ source_old) (source_faults source_old)
+    (source_faults source_new) (sink_faults sink_old) (sink_faults sink_new) status

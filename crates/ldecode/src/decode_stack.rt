@@ -2,10 +2,9 @@
 ghost use Rattle.std.specs.Prelude.{◌≡◌, []};
 ghost use Rattle.words.specs.Settings.{meaning_of};
 ghost use Rattle.words.specs.declared.kinds.Job.TheVariants.{Decode};
-ghost use Rattle.run_status.specs.Causes.{HasCauses};
 ghost use Rattle.run_status.specs.Notices.{status_by};
 ghost use Rattle.run_asks.specs.Asking.{NamesNoHead};
-ghost use Rattle.ldecode.specs.Calls.{AreRead, DecodesAs};
+ghost use Rattle.ldecode.specs.Calls.{AreRead, CausedOn, DecodesAs};
 
 use decode_job::{DecodeEnd, InThreads, Tree, decode, decode_in_threads};
 use la_io::{Sink, Source};
@@ -34,9 +33,8 @@ pub(crate) fn decode_stack<S: Source, K: Sink, W: Watch>(
     ensures decodes { DecodesAs (meaning_of settings.now) W.saw K.written (S.left source.old)
         (S.left source.new) sink.old sink.new watch result.1 result.0 }
     ensures origin { W.origin result.1 ≡ W.origin watch }
-    ensures causes { HasCauses (NamesNoHead (meaning_of settings.now)) (source.new ≡ source.old)
-        (S.faults source.old) (S.faults source.new) (K.faults sink.old) (K.faults sink.new)
-        (status_by result.0) }
+    ensures causes { CausedOn (NamesNoHead (meaning_of settings.now)) S.faults K.faults
+        source.old source.new sink.old sink.new (status_by result.0) }
 {
     let Opened {
         stack,
@@ -77,9 +75,8 @@ pub(crate) fn decode_stack_in_threads<
     ensures decodes { DecodesAs (meaning_of settings.now) W.saw K.written (S.left source.old)
         (S.left source.new) sink.old sink.new watch result.1 result.0 }
     ensures origin { W.origin result.1 ≡ W.origin watch }
-    ensures causes { HasCauses (NamesNoHead (meaning_of settings.now)) (source.new ≡ source.old)
-        (S.faults source.old) (S.faults source.new) (K.faults sink.old) (K.faults sink.new)
-        (status_by result.0) }
+    ensures causes { CausedOn (NamesNoHead (meaning_of settings.now)) S.faults K.faults
+        source.old source.new sink.old sink.new (status_by result.0) }
 {
     let Opened {
         stack,
@@ -98,20 +95,4 @@ pub(crate) fn decode_stack_in_threads<
     };
     let (end, watch) = decode_in_threads(way, tree, &mut capture, source, sink, watch);
     (Ok(end), watch)
-}
-
-/// With a thread for each decoder, and rings of as many slots as the settings say. The pacer says
-/// how much a decoder does in a turn.
-pub(crate) fn in_threads<'a, R, P>(
-    rt: &'a R,
-    alloc: Global,
-    settings: &Settings,
-    pacer: &'a P,
-) -> InThreads<'a, R, P> {
-    InThreads {
-        runtime: rt,
-        alloc,
-        slots: settings.ring.clamp(1, 16384),
-        pacer,
-    }
 }

@@ -2,6 +2,7 @@
 #![tactic(auto)]
 
 mod decode_stack;
+mod host;
 mod laws;
 mod note_count;
 mod part;
@@ -14,6 +15,7 @@ mod work;
 pub use annot_merge::Merge;
 pub use check_point::{CheckFault, CheckWhy};
 pub use cond_words::{BindFault, BindWhy};
+pub use host::Host;
 pub use la_io::CaptureFault;
 pub use laws::parts_write_the_whole;
 pub use make_job::made_captures_are_read_back;

@@ -7,10 +7,9 @@ ghost use Rattle.decoder_set.specs.Opening.{setup_of};
 ghost use Rattle.stack_words.specs.Stacks.{instances_in};
 ghost use Rattle.words.specs.Settings.{meaning_of};
 ghost use Rattle.words.specs.declared.kinds.Job.TheVariants.{Part};
-ghost use Rattle.run_status.specs.Causes.{HasCauses};
 ghost use Rattle.run_asks.specs.Asking.{NamesNoHead};
 ghost use Rattle.run_asks.specs.Parting.{Begun, CanBegin, CantBegin};
-ghost use Rattle.ldecode.specs.Calls.{AreRead};
+ghost use Rattle.ldecode.specs.Calls.{AreRead, CausedOn};
 ghost use Rattle.ldecode.specs.Headline.{WorksOn};
 
 use crate::part_status::status_of_part;
@@ -86,9 +85,8 @@ pub fn part_stack<S: Source, K: Sink>(
     requires read { AreRead settings.now }
     ensures works { WorksOn ⟦<AnyDecoder as Keep>⟧.saves (meaning_of settings.now)
         (S.left source.old) (S.left source.new) (K.written sink.old) (K.written sink.new) result }
-    ensures causes { HasCauses (NamesNoHead (meaning_of settings.now)) (source.new ≡ source.old)
-        (S.faults source.old) (S.faults source.new) (K.faults sink.old) (K.faults sink.new)
-        result }
+    ensures causes { CausedOn (NamesNoHead (meaning_of settings.now)) S.faults K.faults
+        source.old source.new sink.old sink.new result }
 {
     let Opened {
         stack,

@@ -5,12 +5,12 @@ ghost use Rattle.view_store.specs.Views.{pending, published, shelf_of};
 ghost use Rattle.words.specs.Settings.{meaning_of};
 ghost use Rattle.words.specs.declared.kinds.Job.TheVariants.{Decode};
 ghost use Rattle.shelf_watch.specs.Watches.{shelf_ref};
-ghost use Rattle.run_status.specs.Causes.{HasCauses};
 ghost use Rattle.run_asks.specs.Asking.{NamesNoHead, lists_notes};
-ghost use Rattle.ldecode.specs.Calls.{AreRead};
+ghost use Rattle.ldecode.specs.Calls.{AreRead, CausedOn};
 ghost use Rattle.ldecode.specs.Watching.{EndsShelf, ShelvesOn};
 
-use crate::decode_stack::{decode_stack, decode_stack_in_threads, in_threads};
+use crate::decode_stack::{decode_stack, decode_stack_in_threads};
+use crate::host::Host;
 use crossbeam_utils::sync::EventCount;
 use decode_job::InThreads;
 use la_base::NoMemory;
@@ -87,9 +87,8 @@ pub(crate) fn shelve_in_threads<
     ensures shelved { ShelvesOn (meaning_of settings.now) (S.left source.old) (S.left source.new)
         (K.written sink.old) (K.written sink.new) (published shelf.new) result }
     ensures shelf { shelf_of shelf.new ≡ shelf_of shelf.old }
-    ensures causes { HasCauses (NamesNoHead (meaning_of settings.now)) (source.new ≡ source.old)
-        (S.faults source.old) (S.faults source.new) (K.faults sink.old) (K.faults sink.new)
-        result }
+    ensures causes { CausedOn (NamesNoHead (meaning_of settings.now)) S.faults K.faults
+        source.old source.new sink.old sink.new result }
 {
     let watch = ShelfWatch::new(way.runtime, shelf, shown);
     let (ended, watch) = decode_stack_in_threads(way, settings, source, sink, watch);
@@ -115,9 +114,8 @@ fn shelve_here<R: Wait, S: Source, K: Sink>(
     ensures shelved { ShelvesOn (meaning_of settings.now) (S.left source.old) (S.left source.new)
         (K.written sink.old) (K.written sink.new) (published shelf.new) result }
     ensures shelf { shelf_of shelf.new ≡ shelf_of shelf.old }
-    ensures causes { HasCauses (NamesNoHead (meaning_of settings.now)) (source.new ≡ source.old)
-        (S.faults source.old) (S.faults source.new) (K.faults sink.old) (K.faults sink.new)
-        result }
+    ensures causes { CausedOn (NamesNoHead (meaning_of settings.now)) S.faults K.faults
+        source.old source.new sink.old sink.new result }
 {
     let watch = ShelfWatch::new(rt, shelf, shown);
     let (ended, watch) = decode_stack(alloc, settings, source, sink, watch);
@@ -128,12 +126,10 @@ fn shelve_here<R: Wait, S: Source, K: Sink>(
 
 /// Decodes onto a new shelf, with a thread for each decoder where the settings ask for threads.
 pub(crate) fn shelve_as_asked<R: Threads + Wait + Sync, P: Pacer + Sync, S: Source + Send, K: Sink>(
-    rt: &R,
-    alloc: Global,
+    host: &Host<R, P>,
     settings: &Settings,
     source: &mut S,
     sink: &mut K,
-    pacer: &P,
     shelf: &mut ViewWriter,
 ) -> Status
     requires job { settings.now.job ≡ Decode }
@@ -143,14 +139,21 @@ pub(crate) fn shelve_as_asked<R: Threads + Wait + Sync, P: Pacer + Sync, S: Sour
     ensures shelved { ShelvesOn (meaning_of settings.now) (S.left source.old) (S.left source.new)
         (K.written sink.old) (K.written sink.new) (published shelf.new) result }
     ensures shelf { shelf_of shelf.new ≡ shelf_of shelf.old }
-    ensures causes { HasCauses (NamesNoHead (meaning_of settings.now)) (source.new ≡ source.old)
-        (S.faults source.old) (S.faults source.new) (K.faults sink.old) (K.faults sink.new)
-        result }
+    ensures causes { CausedOn (NamesNoHead (meaning_of settings.now)) S.faults K.faults
+        source.old source.new sink.old sink.new result }
 {
     let shown = EventCount::new();
     if settings.threads {
-        let way = in_threads(rt, alloc, settings, pacer);
+        let way = host.in_threads(settings);
         return shelve_in_threads(&way, settings, source, sink, shelf, &shown);
     }
-    shelve_here(rt, alloc, settings, source, sink, shelf, &shown)
+    shelve_here(
+        host.runtime,
+        host.alloc,
+        settings,
+        source,
+        sink,
+        shelf,
+        &shown,
+    )
 }

@@ -5,9 +5,8 @@ ghost use Rattle.view_store.specs.Listings.{nothing};
 ghost use Rattle.view_store.specs.Views.{pending, published, reader_shelf, shelf_of};
 ghost use Rattle.words.specs.Settings.{meaning_of};
 ghost use Rattle.words.specs.declared.kinds.Job.TheVariants.{Decode};
-ghost use Rattle.run_status.specs.Causes.{HasCauses};
 ghost use Rattle.run_asks.specs.Asking.{NamesNoHead};
-ghost use Rattle.ldecode.specs.Calls.{AreRead};
+ghost use Rattle.ldecode.specs.Calls.{AreRead, CausedOn};
 ghost use Rattle.ldecode.specs.Headline.{IsWatched};
 ghost use Rattle.ldecode.specs.Watching.{ShelvesOn, ViewsOn};
 
@@ -51,9 +50,8 @@ pub(crate) fn count_stack<S: Source, K: Sink>(
     requires watched { IsWatched (meaning_of settings.now) }
     ensures views { ViewsOn ⟦<AnyDecoder as Keep>⟧.saves (meaning_of settings.now)
         (S.left source.old) (S.left source.new) (K.written sink.old) (K.written sink.new) result }
-    ensures causes { HasCauses (NamesNoHead (meaning_of settings.now)) (source.new ≡ source.old)
-        (S.faults source.old) (S.faults source.new) (K.faults sink.old) (K.faults sink.new)
-        result.status }
+    ensures causes { CausedOn (NamesNoHead (meaning_of settings.now)) S.faults K.faults
+        source.old source.new sink.old sink.new result.status }
 {
     let (ended, counted) = decode_stack(alloc, settings, source, sink, NoteCount::new());
     let status = status_by(ended);
@@ -106,9 +104,8 @@ fn shelve_beside<R: Threads + Wait + Sync, P: Pacer + Sync, S: Source + Send, K:
         (K.written sink.old) (K.written sink.new) (published writer.new) result }
     ensures writer { shelf_of writer.new ≡ shelf_of writer.old }
     ensures reader { reader_shelf reader.new ≡ reader_shelf reader.old }
-    ensures causes { HasCauses (NamesNoHead (meaning_of settings.now)) (source.new ≡ source.old)
-        (S.faults source.old) (S.faults source.new) (K.faults sink.old) (K.faults sink.new)
-        result }
+    ensures causes { CausedOn (NamesNoHead (meaning_of settings.now)) S.faults K.faults
+        source.old source.new sink.old sink.new result }
 {
     let over = AtomicBool::new(false);
     let flag = &over;
@@ -128,10 +125,8 @@ fn shelve_beside<R: Threads + Wait + Sync, P: Pacer + Sync, S: Source + Send, K:
                 (S.left source.exit.now) (K.written sink.entry.now) (K.written sink.exit.now)
                 (published writer.exit.now) result
                 × (shelf_of writer.exit.now ≡ shelf_of writer.entry.now)
-                × HasCauses (NamesNoHead (meaning_of settings.entry.now))
-                (source.exit.now ≡ source.entry.now) (S.faults source.entry.now)
-                (S.faults source.exit.now) (K.faults sink.entry.now) (K.faults sink.exit.now)
-                result }
+                × CausedOn (NamesNoHead (meaning_of settings.entry.now)) S.faults K.faults
+                source.entry.now source.exit.now sink.entry.now sink.exit.now result }
         {
             let status = shelve_in_threads(way, settings, source, sink, writer, shown);
             flag.store(true, Ordering::SeqCst);
@@ -159,9 +154,8 @@ fn view_beside<R: Threads + Wait + Sync, P: Pacer + Sync, S: Source + Send, K: S
     requires own { reader_shelf reader.old ≡ shelf_of writer.old }
     ensures views { ViewsOn ⟦<AnyDecoder as Keep>⟧.saves (meaning_of settings.now)
         (S.left source.old) (S.left source.new) (K.written sink.old) (K.written sink.new) result }
-    ensures causes { HasCauses (NamesNoHead (meaning_of settings.now)) (source.new ≡ source.old)
-        (S.faults source.old) (S.faults source.new) (K.faults sink.old) (K.faults sink.new)
-        result.status }
+    ensures causes { CausedOn (NamesNoHead (meaning_of settings.now)) S.faults K.faults
+        source.old source.new sink.old sink.new result.status }
 {
     let status = shelve_beside(way, settings, source, sink, writer, reader);
     if !status.is_done() {
@@ -197,9 +191,8 @@ fn view_shelf<R: Threads + Wait + Sync, P: Pacer + Sync, S: Source + Send, K: Si
     requires own { All (λ reader. reader_shelf reader ≡ shelf_of writer.old) readers.items }
     ensures views { ViewsOn ⟦<AnyDecoder as Keep>⟧.saves (meaning_of settings.now)
         (S.left source.old) (S.left source.new) (K.written sink.old) (K.written sink.new) result }
-    ensures causes { HasCauses (NamesNoHead (meaning_of settings.now)) (source.new ≡ source.old)
-        (S.faults source.old) (S.faults source.new) (K.faults sink.old) (K.faults sink.new)
-        result.status }
+    ensures causes { CausedOn (NamesNoHead (meaning_of settings.now)) S.faults K.faults
+        source.old source.new sink.old sink.new result.status }
 {
     let Some(mut reader) = readers.pop() else {
         return Outcome {
@@ -223,9 +216,8 @@ pub(crate) fn view_stack<R: Threads + Wait + Sync, P: Pacer + Sync, S: Source + 
     requires watched { IsWatched (meaning_of settings.now) }
     ensures views { ViewsOn ⟦<AnyDecoder as Keep>⟧.saves (meaning_of settings.now)
         (S.left source.old) (S.left source.new) (K.written sink.old) (K.written sink.new) result }
-    ensures causes { HasCauses (NamesNoHead (meaning_of settings.now)) (source.new ≡ source.old)
-        (S.faults source.old) (S.faults source.new) (K.faults sink.old) (K.faults sink.new)
-        result.status }
+    ensures causes { CausedOn (NamesNoHead (meaning_of settings.now)) S.faults K.faults
+        source.old source.new sink.old sink.new result.status }
 {
     let Ok((mut writer, readers)) = shelf(way.runtime, way.alloc, 1) else {
         return Outcome {

@@ -3,12 +3,13 @@ ghost use Rattle.std.specs.Prelude.{◌≡◌, None as NoneSeen, map};
 ghost use Rattle.std.specs.String.{string_bytes};
 ghost use Rattle.view_store.specs.Listings.{nothing};
 ghost use Rattle.view_store.specs.Views.{pending, published, shelf_of};
-ghost use Rattle.run_status.specs.Causes.{HasCauses};
 ghost use Rattle.run_status.specs.Notices.{line_of, status_at_words};
 ghost use Rattle.run_asks.specs.Asking.{ListsNotes, NamesNoHead};
+ghost use Rattle.ldecode.specs.Calls.{CausedOn};
 ghost use Rattle.ldecode.specs.Headline.{Good, Headline, IsMade, Notified, stream};
 ghost use Rattle.ldecode.specs.Watching.{RunsShelved, RunsViewed, WatchedHeadline};
 
+use crate::host::Host;
 use crate::shelve_stack::{lists_notes, shelve_as_asked};
 use crate::work::{work_as_asked, work_here};
 use decoder_core::Keep;
@@ -43,9 +44,8 @@ fn run_words<S: Source, K: Sink>(
     ensures runs { RunsViewed ⟦<AnyDecoder as Keep>⟧.saves (map string_bytes words.now)
         (S.left source.old) (S.left source.new) (K.written sink.old) (K.written sink.new) result }
     ensures made { Good (map string_bytes words.now) IsMade → source.new ≡ source.old }
-    ensures causes { HasCauses (Good (map string_bytes words.now) NamesNoHead)
-        (source.new ≡ source.old) (S.faults source.old) (S.faults source.new)
-        (K.faults sink.old) (K.faults sink.new) result.status }
+    ensures causes { CausedOn (Good (map string_bytes words.now) NamesNoHead) S.faults K.faults
+        source.old source.new sink.old sink.new result.status }
 {
     match read_words(alloc, words) {
         Ok(settings) => work_here(alloc, &settings, source, sink),
@@ -55,34 +55,29 @@ fn run_words<S: Source, K: Sink>(
 
 // The same with threads, where the words ask for them.
 fn run_words_in_threads<R: Threads + Wait + Sync, S: Source + Send, K: Sink, P: Pacer + Sync>(
-    rt: &R,
-    alloc: Global,
+    host: &Host<R, P>,
     words: &[String],
     source: &mut S,
     sink: &mut K,
-    pacer: &P,
 ) -> Outcome
     ensures runs { RunsViewed ⟦<AnyDecoder as Keep>⟧.saves (map string_bytes words.now)
         (S.left source.old) (S.left source.new) (K.written sink.old) (K.written sink.new) result }
     ensures made { Good (map string_bytes words.now) IsMade → source.new ≡ source.old }
-    ensures causes { HasCauses (Good (map string_bytes words.now) NamesNoHead)
-        (source.new ≡ source.old) (S.faults source.old) (S.faults source.new)
-        (K.faults sink.old) (K.faults sink.new) result.status }
+    ensures causes { CausedOn (Good (map string_bytes words.now) NamesNoHead) S.faults K.faults
+        source.old source.new sink.old sink.new result.status }
 {
-    match read_words(alloc, words) {
-        Ok(settings) => work_as_asked(rt, alloc, &settings, source, sink, pacer),
+    match read_words(host.alloc, words) {
+        Ok(settings) => work_as_asked(host, &settings, source, sink),
         Err(error) => refused(error),
     }
 }
 
 // The same onto a new shelf, where the words ask for a listing of notes.
 fn shelve_words<R: Threads + Wait + Sync, S: Source + Send, K: Sink, P: Pacer + Sync>(
-    rt: &R,
-    alloc: Global,
+    host: &Host<R, P>,
     words: &[String],
     source: &mut S,
     sink: &mut K,
-    pacer: &P,
     shelf: &mut ViewWriter,
 ) -> Status
     requires pending { pending shelf.old ≡ nothing }
@@ -93,18 +88,17 @@ fn shelve_words<R: Threads + Wait + Sync, S: Source + Send, K: Sink, P: Pacer + 
     ensures shelf { shelf_of shelf.new ≡ shelf_of shelf.old }
     ensures left { (Good (map string_bytes words.now) ListsNotes → ⊥) → shelf.new ≡ shelf.old }
     ensures made { Good (map string_bytes words.now) IsMade → source.new ≡ source.old }
-    ensures causes { HasCauses (Good (map string_bytes words.now) NamesNoHead)
-        (source.new ≡ source.old) (S.faults source.old) (S.faults source.new)
-        (K.faults sink.old) (K.faults sink.new) result }
+    ensures causes { CausedOn (Good (map string_bytes words.now) NamesNoHead) S.faults K.faults
+        source.old source.new sink.old sink.new result }
 {
-    let settings = match read_words(alloc, words) {
+    let settings = match read_words(host.alloc, words) {
         Ok(settings) => settings,
         Err(error) => return refused(error).status,
     };
     if lists_notes(&settings) {
-        return shelve_as_asked(rt, alloc, &settings, source, sink, pacer, shelf);
+        return shelve_as_asked(host, &settings, source, sink, shelf);
     }
-    work_as_asked(rt, alloc, &settings, source, sink, pacer).status
+    work_as_asked(host, &settings, source, sink).status
 }
 
 // Writes the line that tells of a run. Where the notices fail, a front of it is written.
@@ -150,26 +144,24 @@ pub fn run_here<S: Source, K: Sink, E: Sink>(
 
 /// As `run_here`, but with a thread for each decoder where the words ask for threads: the same is
 /// written, in whatever order the threads run. It waits for the threads that it starts; where one
-/// can't be started, the work is done without it. The pacer says how much a decoder does in a turn.
+/// can't be started, the work is done without it.
 ///
 /// Where the words ask for threads and for a viewer of a listing, that viewer looks at the notes
 /// from a thread of its own while the listing grows, and once more when the run is done: so the
 /// notices get how many notes it saw. Where it has no memory for that, the status is `NoMemory`.
 pub fn run<R: Threads + Wait + Sync, S: Source + Send, K: Sink, E: Sink, P: Pacer + Sync>(
-    rt: &R,
-    alloc: Global,
+    host: &Host<R, P>,
     words: &[String],
     source: &mut S,
     sink: &mut K,
     notices: &mut E,
-    pacer: &P,
 ) -> Status
     ensures { Headline ⟦<AnyDecoder as Keep>⟧.saves (map string_bytes words.now)
         (stream S.left S.faults source.old source.new)
         (stream K.written K.faults sink.old sink.new)
         (stream E.written E.faults notices.old notices.new) (source.new ≡ source.old) result }
 {
-    let outcome = run_words_in_threads(rt, alloc, words, source, sink, pacer);
+    let outcome = run_words_in_threads(host, words, source, sink);
     tell(&outcome, notices);
     outcome.status
 }
@@ -185,13 +177,11 @@ pub fn run<R: Threads + Wait + Sync, S: Source + Send, K: Sink, E: Sink, P: Pace
 /// data), it is left as it was. A shelf that finds no memory makes the status `NoMemory`. The run
 /// may wait for a reader that is inside an `ask`.
 pub fn run_watched<R: Threads + Wait + Sync, S: Source + Send, K: Sink, E: Sink, P: Pacer + Sync>(
-    rt: &R,
-    alloc: Global,
+    host: &Host<R, P>,
     words: &[String],
     source: &mut S,
     sink: &mut K,
     notices: &mut E,
-    pacer: &P,
     shelf: &mut ViewWriter,
 ) -> Status
     requires pending { pending shelf.old ≡ nothing }
@@ -204,7 +194,7 @@ pub fn run_watched<R: Threads + Wait + Sync, S: Source + Send, K: Sink, E: Sink,
     ensures shelf { shelf_of shelf.new ≡ shelf_of shelf.old }
     ensures left { (Good (map string_bytes words.now) ListsNotes → ⊥) → shelf.new ≡ shelf.old }
 {
-    let status = shelve_words(rt, alloc, words, source, sink, pacer, shelf);
+    let status = shelve_words(host, words, source, sink, shelf);
     let outcome = Outcome { status, seen: None };
     tell(&outcome, notices);
     status

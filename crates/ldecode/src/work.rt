@@ -1,14 +1,14 @@
 // The work that settings ask for: their job, threads or none, and who looks on.
-ghost use Rattle.std.specs.Prelude.{◌≡◌, None as NoneSeen};
+ghost use Rattle.std.specs.Prelude.{◌≡◌, true, None as NoneSeen};
 ghost use Rattle.words.specs.Settings.{meaning_of};
 ghost use Rattle.words.specs.declared.kinds.Job.TheVariants.{Decode};
-ghost use Rattle.run_status.specs.Causes.{HasCauses};
 ghost use Rattle.run_asks.specs.Asking.{NamesNoHead};
-ghost use Rattle.ldecode.specs.Calls.{AreRead};
+ghost use Rattle.ldecode.specs.Calls.{AreRead, CausedOn};
 ghost use Rattle.ldecode.specs.Headline.{IsMade};
 ghost use Rattle.ldecode.specs.Watching.{ViewsOn};
 
-use crate::decode_stack::{decode_stack, decode_stack_in_threads, in_threads};
+use crate::decode_stack::{decode_stack, decode_stack_in_threads};
+use crate::host::Host;
 use crate::part::part_stack;
 use crate::view_stack::{count_stack, is_watched, view_stack};
 use decode_job::InThreads;
@@ -43,9 +43,8 @@ fn decode_here<S: Source, K: Sink>(
     requires read { AreRead settings.now }
     ensures views { ViewsOn ⟦<AnyDecoder as Keep>⟧.saves (meaning_of settings.now)
         (S.left source.old) (S.left source.new) (K.written sink.old) (K.written sink.new) result }
-    ensures causes { HasCauses (NamesNoHead (meaning_of settings.now)) (source.new ≡ source.old)
-        (S.faults source.old) (S.faults source.new) (K.faults sink.old) (K.faults sink.new)
-        result.status }
+    ensures causes { CausedOn (NamesNoHead (meaning_of settings.now)) S.faults K.faults
+        source.old source.new sink.old sink.new result.status }
 {
     if is_watched(settings) {
         return count_stack(alloc, settings, source, sink);
@@ -65,39 +64,14 @@ fn decode_beside<R: Threads + Wait + Sync, P: Pacer + Sync, S: Source + Send, K:
     requires read { AreRead settings.now }
     ensures views { ViewsOn ⟦<AnyDecoder as Keep>⟧.saves (meaning_of settings.now)
         (S.left source.old) (S.left source.new) (K.written sink.old) (K.written sink.new) result }
-    ensures causes { HasCauses (NamesNoHead (meaning_of settings.now)) (source.new ≡ source.old)
-        (S.faults source.old) (S.faults source.new) (K.faults sink.old) (K.faults sink.new)
-        result.status }
+    ensures causes { CausedOn (NamesNoHead (meaning_of settings.now)) S.faults K.faults
+        source.old source.new sink.old sink.new result.status }
 {
     if is_watched(settings) {
         return view_stack(way, settings, source, sink);
     }
     let (ended, _) = decode_stack_in_threads(way, settings, source, sink, Unwatched);
     unseen(status_by(ended))
-}
-
-// Decodes with a thread for each decoder where the settings ask for threads, and else on this one.
-fn decode_as_asked<R: Threads + Wait + Sync, P: Pacer + Sync, S: Source + Send, K: Sink>(
-    rt: &R,
-    alloc: Global,
-    settings: &Settings,
-    source: &mut S,
-    sink: &mut K,
-    pacer: &P,
-) -> Outcome
-    requires job { settings.now.job ≡ Decode }
-    requires read { AreRead settings.now }
-    ensures views { ViewsOn ⟦<AnyDecoder as Keep>⟧.saves (meaning_of settings.now)
-        (S.left source.old) (S.left source.new) (K.written sink.old) (K.written sink.new) result }
-    ensures causes { HasCauses (NamesNoHead (meaning_of settings.now)) (source.new ≡ source.old)
-        (S.faults source.old) (S.faults source.new) (K.faults sink.old) (K.faults sink.new)
-        result.status }
-{
-    if settings.threads {
-        let way = in_threads(rt, alloc, settings, pacer);
-        return decode_beside(&way, settings, source, sink);
-    }
-    decode_here(alloc, settings, source, sink)
 }
 
 /// Does the work that the settings ask for, on this one thread.
@@ -111,9 +85,8 @@ pub(crate) fn work_here<S: Source, K: Sink>(
     ensures views { ViewsOn ⟦<AnyDecoder as Keep>⟧.saves (meaning_of settings.now)
         (S.left source.old) (S.left source.new) (K.written sink.old) (K.written sink.new) result }
     ensures made { IsMade (meaning_of settings.now) → source.new ≡ source.old }
-    ensures causes { HasCauses (NamesNoHead (meaning_of settings.now)) (source.new ≡ source.old)
-        (S.faults source.old) (S.faults source.new) (K.faults sink.old) (K.faults sink.new)
-        result.status }
+    ensures causes { CausedOn (NamesNoHead (meaning_of settings.now)) S.faults K.faults
+        source.old source.new sink.old sink.new result.status }
 {
     match settings.job {
         Job::Decode => decode_here(alloc, settings, source, sink),
@@ -123,28 +96,32 @@ pub(crate) fn work_here<S: Source, K: Sink>(
     }
 }
 
-/// The same with threads, where the settings ask for them: a decoding of a whole capture alone has
-/// some. The pacer says how much a decoder does in a turn.
+// Whether a decoding has a thread for each decoder: one of a whole capture alone may ask for them.
+fn decodes_in_threads(settings: &Settings) -> bool
+    ensures job { result ≡ true → settings.now.job ≡ Decode }
+{
+    match settings.job {
+        Job::Decode => settings.threads,
+        Job::Find | Job::Part | Job::Make => false,
+    }
+}
+
+/// The same with threads, where the settings ask for them.
 pub(crate) fn work_as_asked<R: Threads + Wait + Sync, P: Pacer + Sync, S: Source + Send, K: Sink>(
-    rt: &R,
-    alloc: Global,
+    host: &Host<R, P>,
     settings: &Settings,
     source: &mut S,
     sink: &mut K,
-    pacer: &P,
 ) -> Outcome
     requires read { AreRead settings.now }
     ensures views { ViewsOn ⟦<AnyDecoder as Keep>⟧.saves (meaning_of settings.now)
         (S.left source.old) (S.left source.new) (K.written sink.old) (K.written sink.new) result }
     ensures made { IsMade (meaning_of settings.now) → source.new ≡ source.old }
-    ensures causes { HasCauses (NamesNoHead (meaning_of settings.now)) (source.new ≡ source.old)
-        (S.faults source.old) (S.faults source.new) (K.faults sink.old) (K.faults sink.new)
-        result.status }
+    ensures causes { CausedOn (NamesNoHead (meaning_of settings.now)) S.faults K.faults
+        source.old source.new sink.old sink.new result.status }
 {
-    match settings.job {
-        Job::Decode => decode_as_asked(rt, alloc, settings, source, sink, pacer),
-        Job::Find => unseen(search(alloc, settings, source, sink)),
-        Job::Part => unseen(part_stack(alloc, settings, source, sink)),
-        Job::Make => unseen(make(alloc, settings.seed, settings.count, sink)),
+    if decodes_in_threads(settings) {
+        return decode_beside(&host.in_threads(settings), settings, source, sink);
     }
+    work_here(host.alloc, settings, source, sink)
 }

@@ -15,7 +15,7 @@ use decoder_core::Keep;
 use decoder_set::AnyDecoder;
 use help_text::{VERSION, help_text};
 use la_io::{Failed, Sink, Source, write_whole};
-use ldecode::{Pacer, Status, exit_code, run};
+use ldecode::{Host, Pacer, Status, exit_code, run};
 use std::alloc::{AllocError, Global};
 use std::sync::Wait;
 use std::thread::Threads;
@@ -63,6 +63,13 @@ pub fn program<R: Threads + Wait + Sync, S: Source + Send, K: Sink, E: Sink, P: 
     match request_of(words) {
         Request::Help => tell_help(alloc, sink),
         Request::Version => tell(VERSION, sink),
-        Request::Run => exit_code(&run(rt, alloc, words, source, sink, notices, pacer)),
+        Request::Run => {
+            let host = Host {
+                runtime: rt,
+                alloc,
+                pacer,
+            };
+            exit_code(&run(&host, words, source, sink, notices))
+        }
     }
 }

@@ -3,7 +3,7 @@ ghost use Rattle.std.specs.Prelude.{◌≤◌};
 
 use crate::rows::{barred, bytes_of, is_front, numbers_of, source_of, words_of};
 use la_io::{CaptureFault, MemSink, MemSource};
-use ldecode::{PlainPacer, Status, exit_code, run, run_here};
+use ldecode::{Host, PlainPacer, Status, exit_code, run, run_here};
 use std::alloc::Global;
 use std::process::Abort;
 use std::sync::Wait;
@@ -67,15 +67,12 @@ fn told_by<R: Threads + Wait + Sync>(
     let mut sink = sink;
     let mut notices = MemSink::new(alloc, AMPLE, Vec::new(alloc), AMPLE)?;
     let status = if threads {
-        run(
-            rt,
+        let host = Host {
+            runtime: rt,
             alloc,
-            words,
-            &mut source,
-            &mut sink,
-            &mut notices,
-            &PlainPacer,
-        )
+            pacer: &PlainPacer,
+        };
+        run(&host, words, &mut source, &mut sink, &mut notices)
     } else {
         run_here(alloc, words, &mut source, &mut sink, &mut notices)
     };
@@ -267,16 +264,12 @@ fn failed_notices_change_nothing(rt: HostRuntime) -> Result<(), Fail> {
         let mut sink = MemSink::new(alloc, AMPLE, Vec::new(alloc), AMPLE)?;
         let mut notices = MemSink::new(alloc, AMPLE, [0_u64].to_vec(alloc)?, AMPLE)?;
         let status = if threads {
-            let pacer = PlainPacer;
-            run(
-                &rt,
+            let host = Host {
+                runtime: &rt,
                 alloc,
-                &words,
-                &mut source,
-                &mut sink,
-                &mut notices,
-                &pacer,
-            )
+                pacer: &PlainPacer,
+            };
+            run(&host, &words, &mut source, &mut sink, &mut notices)
         } else {
             run_here(alloc, &words, &mut source, &mut sink, &mut notices)
         };

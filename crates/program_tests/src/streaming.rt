@@ -3,7 +3,7 @@ ghost use Rattle.std.specs.Prelude.{None};
 
 use crate::forms::{Form, made_in};
 use la_io::{Failed, Sink, Source, SureSink};
-use ldecode::{PlainPacer, Status, run, run_here};
+use ldecode::{Host, PlainPacer, Status, run, run_here};
 use std::alloc::{AllocError, Global};
 use std::sync::Wait;
 use std::sync::atomic::{AtomicBool, Ordering};
@@ -197,15 +197,12 @@ fn seen_of<R: Threads + Wait + Sync>(
     };
     let mut notices = SureSink::new();
     let status = if threads {
-        run(
-            rt,
+        let host = Host {
+            runtime: rt,
             alloc,
-            &words,
-            &mut source,
-            &mut sink,
-            &mut notices,
-            &PlainPacer,
-        )
+            pacer: &PlainPacer,
+        };
+        run(&host, &words, &mut source, &mut sink, &mut notices)
     } else {
         run_here(alloc, &words, &mut source, &mut sink, &mut notices)
     };

@@ -4,7 +4,7 @@ ghost use Rattle.std.specs.Prelude.{◌≤◌};
 use crate::rows::{barred, bytes_of, source_of, words_of};
 use crate::runs::{LISTING, WRITE_OF_50};
 use la_io::MemSink;
-use ldecode::{Pacer, exit_code, run};
+use ldecode::{Host, Pacer, exit_code, run};
 use std::alloc::Global;
 use std::sync::Wait;
 use std::test::Fail;
@@ -35,15 +35,12 @@ pub fn run_threaded<R: Threads + Wait + Sync, P: Pacer + Sync>(
     let mut source = source_of(alloc, bytes, length, &[])?;
     let mut sink = MemSink::new(alloc, AMPLE, Vec::new(alloc), AMPLE)?;
     let mut notices = MemSink::new(alloc, AMPLE, Vec::new(alloc), AMPLE)?;
-    let status = run(
-        rt,
+    let host = Host {
+        runtime: rt,
         alloc,
-        &texts,
-        &mut source,
-        &mut sink,
-        &mut notices,
         pacer,
-    );
+    };
+    let status = run(&host, &texts, &mut source, &mut sink, &mut notices);
     told(alloc, exit_code(&status), &notices, &sink)
 }
 

@@ -6,7 +6,7 @@ ghost use Rattle.view_store.specs.Views.{pending, published, reader_shelf, shelf
 use super::shelves::starts_of;
 use la_base::NoMemory;
 use la_io::{MemSink, MemSource};
-use ldecode::{PlainPacer, exit_code, run_watched};
+use ldecode::{Host, PlainPacer, exit_code, run_watched};
 use std::alloc::Global;
 use std::sync::Wait;
 use std::test::Fail;
@@ -65,16 +65,12 @@ fn run_onto<R: Threads + Wait + Sync>(
     let mut source = MemSource::new(pieces, read_fails);
     let mut sink = MemSink::new(alloc, AMPLE, write_fails, AMPLE)?;
     let mut notices = MemSink::new(alloc, AMPLE, Vec::new(alloc), AMPLE)?;
-    let status = run_watched(
-        rt,
+    let host = Host {
+        runtime: rt,
         alloc,
-        &texts,
-        &mut source,
-        &mut sink,
-        &mut notices,
-        &PlainPacer,
-        writer,
-    );
+        pacer: &PlainPacer,
+    };
+    let status = run_watched(&host, &texts, &mut source, &mut sink, &mut notices, writer);
     Ok(exit_code(&status))
 }
 

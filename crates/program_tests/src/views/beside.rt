@@ -7,7 +7,7 @@ ghost use Rattle.view_store.specs.Views.{pending, published, reader_shelf, shelf
 use capture_make::MadeSource;
 use la_base::NoMemory;
 use la_io::SureSink;
-use ldecode::{PlainPacer, Status, run_watched};
+use ldecode::{Host, PlainPacer, Status, run_watched};
 use std::alloc::Global;
 use std::sync::Wait;
 use std::sync::atomic::{AtomicBool, Ordering};
@@ -71,16 +71,12 @@ fn run_made<R: Threads + Wait + Sync>(
     let mut source = MadeSource::new(7, TRANSACTIONS);
     let mut sink = SureSink::new();
     let mut notices = SureSink::new();
-    let status = run_watched(
-        rt,
+    let host = Host {
+        runtime: rt,
         alloc,
-        words,
-        &mut source,
-        &mut sink,
-        &mut notices,
-        &PlainPacer,
-        writer,
-    );
+        pacer: &PlainPacer,
+    };
+    let status = run_watched(&host, words, &mut source, &mut sink, &mut notices, writer);
     status == Status::Done
 }
 
